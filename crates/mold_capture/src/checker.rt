@@ -85,12 +85,12 @@ impl Checker {
         }
     }
 
-    /// Accepts a datagram, or refuses it for the first reason that applies. After an error the checker is
-    /// unchanged. The session is that of the first accepted datagram. `known` is the largest top of an accepted
-    /// packet, at least 1.
+    /// Accepts a datagram, or refuses it for the first reason that applies. After an error the checker is unchanged.
+    /// The session is that of the first accepted datagram, and `known` is the largest top of an accepted packet, at
+    /// least 1.
     ///
-    /// A message is compared with the accepted message of the same number, from whichever datagram it came.
-    /// `Memory` is returned only if no other reason applies and a message is new.
+    /// A message is compared with the accepted message of the same number, from whichever datagram it came. `Memory` is
+    /// returned only if no other reason applies and a message is new.
     pub fn add(&mut self, bytes: &[u8]) -> Result<(), Refusal>
         ensures refused { IfErr result (λ reason. refusal self.old bytes.now ≡ told reason) }
         ensures taken { OnOk result (refusal self.old bytes.now ≡ None) }

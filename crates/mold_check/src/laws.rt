@@ -10,9 +10,8 @@ ghost use Rattle.mold_check.specs.CheckLines.{datagrams_of, outcome_of};
 use mold_capture::laws::{after_law, reason_law, whole_is_one_law};
 use mold_rule::laws::lacking_law;
 
-/// The computed outcome of datagrams is the outcome that `mold_capture` defines. So `mold check` reports the
-/// same for datagrams in files and in lines. The clause `datagrams` requires that each element of a datagram is a
-/// byte; the clause `lines` requires nothing of the lines.
+/// The computed outcome of datagrams is the one that `mold_capture` defines, so `mold check` reports the same for
+/// datagrams in files and in lines. Only the clause `datagrams` requires that each element of a datagram is a byte.
 pub fn lines_outcome_law()
     ensures datagrams { (list : List (List ℕ)) → All IsBytes list → IsOutcome list (outcome_of list) }
     ensures lines { (lines : List (ℕ × List ℕ)) → IsOutcome (datagrams_of lines) (outcome_of (datagrams_of lines)) }

@@ -28,12 +28,12 @@ fn read_lines<S: Source>(alloc: Global, source: &mut S) -> Result<LineCheck, Rea
     }
 }
 
-/// Checks the datagrams that the lines of the source encode as hexadecimal digits, in their order. It writes
-/// the outcome to the sink and returns the exit status: 0 whole, 1 incomplete, 2 a line is refused.
+/// Checks the datagrams that the lines of the source encode as hexadecimal digits, in their order. It writes the
+/// outcome to the sink and returns the exit status: 0 whole, 1 incomplete, 2 a line is refused.
 ///
-/// It reads all lines and then writes. It keeps no line, only the messages that the checker stores. After a
-/// fault, a prefix of the text was written. `Read` and `Write` are returned only if the source or the sink
-/// failed, `Memory` only if an allocation failed.
+/// It reads all lines before it writes, and keeps only the messages that the checker stores. After a fault, a prefix of
+/// the text was written. `Read` and `Write` are returned only if the source or the sink failed, `Memory` only if an
+/// allocation failed.
 pub fn check_lines<S: Source, K: Sink>(
     alloc: Global,
     source: &mut S,

@@ -39,9 +39,8 @@ fault_of (Err file.Write) = Some command.Write
 fault_of (Err file.Memory) = Some command.Memory
 fault_of (Err error) = None
 
--- The outcome is one that `upgrade` may return. `known` is the source's remaining bytes. The sink of the new file is
--- `old` before the call and `new` after it. The source's count of failures is `read_before` before the call and
--- `read_after` after it.
+-- The outcome is one that `upgrade` may return. `known` is the source's remaining bytes; `old` and `new` are the sink
+-- of the new file before and after the call. `read_before` and `read_after` are the source's counts of failures.
 pub record IsUpgradeOutcome {J : Type 0} (known : Option (List ℕ)) (read_before read_after : ℕ)
     (held : J → Option (List ℕ)) (failed : J → ℕ) (old new : J) (close : Bool)
     (outcome : Result Upgraded FileError) : Type 0 where

@@ -24,8 +24,8 @@ CountsSinkFault old new command.Read = ⊥
 CountsSinkFault old new command.Write = new ≡ one_more old
 CountsSinkFault old new command.Memory = new ≡ old
 
--- The sink's count of failures before and after a command that reads no input, by the command's result. It increases by
--- one with the fault `Write`, and is unchanged otherwise. The fault `Read` does not occur.
+-- How the result of a command that reads no input changes the sink's count of failures. `Write` increases it by one,
+-- `Read` does not occur, and other results leave it unchanged.
 abbrev pub CountsSink : {T : Type 0} → ℕ → ℕ → Result T CommandFault → Type 0
 CountsSink old new (Ok _) = new ≡ old
 CountsSink old new (Err fault) = CountsSinkFault old new fault
@@ -47,7 +47,7 @@ CountsFault source_old source_new sink_old sink_new command.Memory =
     (source_new ≡ source_old) × (sink_new ≡ sink_old)
 
 -- How a result of a command changes the counts of failures of the source and the sink. `Read` increases the source's
--- count by one. `Write` increases the sink's by one, and the source's too if a read failed before. Otherwise both are
+-- count by one; `Write` increases the sink's, and the source's too if a read failed before. Otherwise both are
 -- unchanged.
 abbrev pub CountsCommand : {T : Type 0} → ℕ → ℕ → ℕ → ℕ → Result T CommandFault → Type 0
 CountsCommand source_old source_new sink_old sink_new (Ok _) = (source_new ≡ source_old) × (sink_new ≡ sink_old)

@@ -12,9 +12,8 @@ pub record Moves (old new : Option (List ℕ)) (text left : List ℕ) : Type 0 w
   pub parts : text ≡ front ++ left
   pub appended : Appends old new front
 
--- A command that met the fault `met` ends with the fault `last`. If the text was written, `last` is `met`. If its write
--- failed, a prefix of the text was written, and `last` is `Write`. The two numbers are the sink's counts of failures
--- before and after.
+-- A command that met the fault `met` writes its text. It ends with the fault `last`: `met` if the write succeeds,
+-- `Write` if it fails after a prefix of the text. The two numbers are the sink's counts of failures before and after.
 abbrev pub EndsWith : CommandFault → CommandFault → Option (List ℕ) → Option (List ℕ) → List ℕ → ℕ → ℕ → Type 0
 EndsWith met last old new text failed_old failed_new =
     ((last ≡ met) × (Appends old new text × (failed_new ≡ failed_old)))

@@ -37,10 +37,10 @@ pub trait LineCommand {
         ensures failures { CountsRead (S.failed source.old) (S.failed source.new) result };
 }
 
-/// Runs the command over all lines of the source and returns its status. It holds only the bytes of one read,
-/// the current line and what the command keeps. It writes the text in pieces of at least 65,536 bytes, and the
-/// rest at the end. After a fault of reading or of memory, it still writes the text of the
-/// earlier turns. If that write fails, the fault is `Write`.
+/// Runs the command over all lines of the source and returns its status. It holds only the bytes of one read, the
+/// current line and what the command keeps. It writes the text in pieces of at least 65,536 bytes, and the rest at the
+/// end. After a fault of reading or of memory, it still writes the text of the earlier turns; if that fails, the fault
+/// is `Write`.
 pub fn run_lines<C: LineCommand, S: Source, K: Sink>(
     alloc: Global,
     command: &mut C,

@@ -65,10 +65,9 @@ impl Lines {
         }
     }
 
-    /// Moves to the next line and returns whether there is one. It reads only if the bytes read before
-    /// contain no whole line. It allocates only for a line that spans several reads or has no end of line.
-    /// After a fault, `line` returns the part of the line that was read, and the input after that part is not
-    /// lost.
+    /// Moves to the next line and returns whether there is one. It reads only if no whole line was read already, and
+    /// allocates only for a line that spans several reads or has no end of line. After a fault, `line` returns the part
+    /// of the line that was read, and the input after that part is not lost.
     pub fn advance<S: Source>(&mut self, source: &mut S) -> Result<bool, ReadFault>
         ensures line { IfOk result (λ found. GivesLine
             (prepend_known self.old.rest (S.left source.old))

@@ -30,8 +30,8 @@ pub fn send<K: Sink>(sink: &mut K, text: &mut Vec<u8>) -> Result<(), CommandFaul
     Ok(())
 }
 
-/// If the text has at least 65,536 bytes, this writes and empties it. Otherwise it writes nothing and keeps the text.
-/// After a fault, a prefix of the text is written, and `text` is unchanged.
+/// Writes and empties the text if it has at least 65,536 bytes, and otherwise does nothing. After a fault, a prefix of
+/// the text is written, and `text` is unchanged.
 pub fn send_large<K: Sink>(sink: &mut K, text: &mut Vec<u8>) -> Result<(), CommandFault>
     ensures moved { OnOk result (Moves (K.held sink.old) (K.held sink.new) text.old.items text.new.items) }
     ensures short { OnOk result (length text.new.items < LARGE) }

@@ -57,9 +57,8 @@ impl<const N: usize> Piece<N> {
         self.start += n;
     }
 
-    /// Reads once into the piece, discards the bytes that were not used, and returns the number of bytes
-    /// read. 0 means the end of the source. After a fault, the piece is empty, and the source has lost no
-    /// bytes.
+    /// Reads once into the piece, discards the bytes that were not used, and returns the number of bytes read, which is
+    /// 0 at the end of the source. After a fault, the piece is empty, and the source has lost no bytes.
     pub fn refill<S: Source>(&mut self, source: &mut S) -> Result<usize, DeviceFault>
         ensures len { IfOk result (λ n. length self.new ≡ n) }
         ensures most { IfOk result (λ n. n ≤ N) }

@@ -12,9 +12,9 @@ use crate::table::digit_value;
 use block::decode_blocks;
 use std::alloc::AllocError;
 
-/// Replaces the contents of `out` with the bytes that the hexadecimal digits encode, and returns true. The digits may
-/// be of upper or lower case. It returns false if the number of digits is odd or a byte is not a digit. The contents of
-/// `out` are then unspecified. It allocates only if the bytes do not fit in the capacity of `out`.
+/// Replaces the contents of `out` with the bytes that the hexadecimal digits, of upper or lower case, encode, and
+/// returns true. If the number of digits is odd or a byte is not a digit, it returns false, and the contents of `out`
+/// are unspecified. It allocates only if the bytes do not fit in the capacity of `out`.
 pub fn decode(digits: &[u8], out: &mut Vec<u8>) -> Result<bool, AllocError>
     ensures value { IfOk result (λ spelled. MatchResult (decode_of digits.now)
         (λ bytes. (spelled ≡ true) × (out.new.items ≡ bytes)) (λ _. spelled ≡ false)) }

@@ -11,8 +11,8 @@ fn is_sized(word: &[u8]) -> bool
     !word.is_empty() && word.len() <= MAX_DIGITS
 }
 
-/// Returns the decimal number that `word` encodes, or `None` if it does not encode one. It must have 1 to 20
-/// decimal digits and be at most 18446744073709551615. Leading zeros are allowed and count as digits.
+/// Returns the decimal number that `word` encodes, or `None` if it does not encode one. It must have 1 to 20 digits,
+/// leading zeros included, and be at most 18446744073709551615.
 pub fn read_number(word: &[u8]) -> Option<u64>
     ensures { result ≡ decimal_of word.now }
 {

@@ -37,8 +37,8 @@ IsForeign session bytes = IsBytes bytes × AreForeign session bytes
 abbrev pub IsHarmless : JournalState → List ℕ → Type 0
 IsHarmless journal bytes = IsTrueDatagram journal bytes ⊎ IsForeign journal.session bytes
 
--- A listener to the session of these lines may receive the bytes: they were sent by the session's publisher or by one
--- of its servers, or do not encode a packet of the session.
+-- The bytes were sent by the publisher of these lines or by one of its servers, or do not encode a packet of the
+-- session.
 abbrev pub IsFed : (P : Type 0) → JournalState → ℕ → List (List ℕ) → List ℕ → Type 0
 IsFed P journal limit lines bytes = IsSent P journal limit lines bytes ⊎ IsForeign journal.session bytes
 
@@ -105,10 +105,9 @@ abbrev pub RefusesForeign : (List ℕ → Type 0) → Session → PrintedLine �
 RefusesForeign Came session (Handed number message) = ⊤
 RefusesForeign Came session (Refuses bytes why) = Came bytes × IsForeign session bytes × IsReason session bytes why
 
--- The state of an honest listener that started at message `first` with the text `before`. The lines that it has printed
--- since then follow that text. They have the published messages from `first` up to, but not including, the listener's
--- next number. If one of the lines reports a refusal, the refused bytes satisfy `Came` and do not encode a packet of
--- the session. The listener is still honest.
+-- The state of a listener that started at message `first` with the text `before`, and is still honest. It has since
+-- printed the published messages from `first` to just below its next number, and maybe refusals. Refused bytes satisfy
+-- `Came` and do not encode a packet of the session.
 pub record HasListened (journal : JournalState) (Came : List ℕ → Type 0) (first : ℕ) (before : List ℕ) (e : Progress) :
     Type 0 where
   -- the lines printed since the start
@@ -158,9 +157,9 @@ abbrev pub closing_lines : Bool → LineReports → Bool → ℕ → ℕ → ℕ
 closing_lines reporting reports finished next known failures =
     reports_text reporting reports known ++ closing_line finished next known failures
 
--- What a listener that started at line `first` has written at its end. Its text is the published lines from `first` to
--- `next - 1`, each after its number. The reports, if requested, and its last line follow. With status 0 it has printed
--- all lines. After a fault, a prefix of such a text is written.
+-- What a listener that started at line `first` has written: the published lines from there to `next - 1`, each after
+-- its number, the requested reports, and its last line. With status 0 it has printed all lines. After a fault, a prefix
+-- of such a text is written.
 pub record PrintsLines {E : Type 0} (reporting : Bool) (lines : List (List ℕ)) (first : ℕ) (result : Result ℕ E)
     (old new : Option (List ℕ)) : Type 0 where
   -- the number of the next message to deliver
@@ -187,10 +186,9 @@ pub record PrintsLines {E : Type 0} (reporting : Bool) (lines : List (List ℕ))
   pub front : AppendsPrefix old new
       (lines_text first (between lines first next) ++ closing_lines reporting reports finished next known failures)
 
--- What a listener that started at line `first` has written at its end, if line `refused_at` is refused. Its text is the
--- published lines from `first` to `next - 1`. The reports, if requested, and its last line follow. `next` and `known`
--- are at most `refused_at`. The status is 1, since the session has no end. After a fault, a prefix of such a text is
--- written.
+-- What a listener that started at line `first` has written, if line `refused_at` is refused. Its text is as for
+-- `PrintsLines`, `next` and `known` are at most `refused_at`, and the status is 1, since the session has no end. After
+-- a fault, a prefix of such a text is written.
 pub record PrintsOpen {E : Type 0} (reporting : Bool) (lines : List (List ℕ)) (refused_at first : ℕ)
     (result : Result ℕ E) (old new : Option (List ℕ)) : Type 0 where
   -- the number of the next message to deliver
@@ -213,8 +211,8 @@ pub record PrintsOpen {E : Type 0} (reporting : Bool) (lines : List (List ℕ)) 
       (lines_text first (between lines first next) ++ closing_lines reporting reports false next known failures)
 
 -- What a loop of publisher, server and listener has written, if its listener started at line `first` and line
--- `refused_at` is refused. Its text is published lines from `first` on, all of them before `refused_at`, and then the
--- line of the refusal. The status is 2. After a fault, a prefix of such a text is written.
+-- `refused_at` is refused. Its text is published lines from `first` on and before `refused_at`, and then the line of
+-- the refusal; the status is 2. After a fault, a prefix of such a text is written.
 pub record PrintsRefused {E : Type 0} (lines : List (List ℕ)) (refused_at : ℕ) (why : LineRefusal) (first : ℕ)
     (result : Result ℕ E) (old new : Option (List ℕ)) : Type 0 where
   -- the number of the next message to deliver

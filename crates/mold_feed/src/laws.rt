@@ -31,13 +31,12 @@ use mold_receiver::laws::{honest_stays_law, honest_take_law, taken_law};
 use mold_session::laws::{answered_law, publisher_law, sending_law};
 use mold_wire::laws::reading_law;
 
-/// States that everything a publisher sends is true of the journal that it leaves. This holds for all datagrams that
-/// are offered when the lines are published, even if a line is refused. It holds for the datagrams that were sent, even
-/// after a fault, if everything that the port sent earlier is true of that journal.
+/// States that every datagram offered by a publisher is true of the journal that it leaves, even if a line is refused.
+/// So is every datagram that its port sent, even after a fault, if those that it sent earlier are.
 ///
-/// If no line is refused, that journal is closed and has the messages of the lines. If a line is refused, it is open
-/// and has the messages of the lines before that one. A server may answer from it if the server's datagrams have room
-/// for the journal's longest message.
+/// If no line is refused, the journal is closed and has the messages of the lines. Otherwise it is open and has those
+/// of the lines before the refused one. A server may respond from it if the server's datagrams have room for the
+/// journal's longest message.
 pub fn published_law<D: Datagrams>()
     ensures offered { (beats ends limit : ℕ) (journal : JournalState) (lines : List (List ℕ)) →
         IsOpening journal limit → AllByRecursion (IsTrueDatagram (left_journal (lines_published journal lines)))

@@ -36,9 +36,9 @@ pub fn checked_law()
     whole_is_one_law();
 }
 
-/// `mold_read` writes where the messages are. As far as the array has room, it gets a place for each message. The place
-/// is after the header, the blocks before the message, and the two bytes of its length. The bytes at the place are the
-/// message. The other elements of the array are unchanged.
+/// `mold_read` writes a place for each message, as far as the array has room, and leaves its other elements unchanged.
+/// A place is after the header, the blocks before the message, and the two bytes of its length. The bytes at the place
+/// are the message.
 pub fn places_law()
     ensures placed { (packet : Packet) (bytes : List ℕ) (before behind : List (List ℕ)) (message : List ℕ)
         (old : List MoldPlace) → Spells packet bytes → messages_of packet.body ≡ before ++ message ∷ behind →

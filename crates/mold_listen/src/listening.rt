@@ -70,13 +70,13 @@ pub fn push_last(arbiter: &Arbiter, outgoing: &mut Outgoing) -> Result<u8, Alloc
     Ok(1)
 }
 
-/// Listens on lines `a` and `b`. Prints each message that the arbiter delivers, in order, as its number and its bytes.
-/// Prints each refusal too.
+/// Listens on lines `a` and `b`. Prints each message that the arbiter delivers, in order, as its number and its bytes,
+/// and each refusal.
 ///
 /// In each turn the loop receives once on each line. If messages are missing, it then sends a request from `requests`
 /// to the server and receives at most `burst` responses. The loop ends after the first turn that leaves the receiver
-/// finished, or after `turns` turns. It prints a last line and returns the status: 0 finished, 1 open. If `reporting`
-/// is set, it prints a report of `a` and of `b` before that line.
+/// finished, or after `turns` turns. It prints reports of `a` and `b` if `reporting` is set, then a last line, and
+/// returns the status: 0 finished, 1 open.
 ///
 /// A failed send or receive is counted, and the loop continues. After a fault, a prefix of the text is written.
 pub fn listen_loop<D: Datagrams, K: Sink>(

@@ -12,8 +12,8 @@ use mold_ports::Datagrams;
 use mold_receiver::{Arbiter, Origin};
 use std::alloc::AllocError;
 
-/// Receives once on a port. Gives the arbiter the received datagram with this origin, or counts the failure. Returns
-/// whether a datagram was received. `buffer` has `MAX_LIMIT` bytes. An error means out of memory.
+/// Receives once on a port, and gives the arbiter the datagram with this origin, or counts the failure. Returns whether
+/// a datagram was received. `buffer` has `MAX_LIMIT` bytes. An error means out of memory.
 pub fn receive_on<D: Datagrams>(
     port: &mut D,
     origin: Origin,

@@ -76,24 +76,22 @@ pub(crate) fn print_last<K: Sink>(
     Ok(status)
 }
 
-/// Publishes the lines of the source as messages, and listens to them in the same process. Returns the status.
+/// Publishes the lines of the source as messages, listens to them in the same process, and returns the status.
 ///
-/// - Each datagram is sent on both lines, except where `options.drops` leaves it out. The listener makes one receive
-///   on each line where the send succeeded.
+/// - Each datagram is sent on both lines, except where `options.drops` leaves it out. The listener makes one receive on
+///   each line where the send succeeded.
 /// - After the last line the session is closed, and its end packet is sent on both lines. Then the listener requests
 ///   the missing messages, in at most `options.turns` rounds.
 /// - The text, the last line and the status are those of `mold listen`. If `options.reporting` is set, the reports of
 ///   both lines precede the last line.
-/// - A refused line ends the publication. The delivered messages stay printed, and the refusal follows them. There are
-///   no reports and no last line, and the status is 2.
-/// - A failed send or receive is counted. It does not end the loop.
+/// - A refused line ends the publication. The refusal follows the delivered messages, without reports or a last line,
+///   and the status is 2.
+/// - A failed send or receive is counted and does not end the loop.
 ///
-/// The publisher may already have messages. Those that it has not sent yet must fit one datagram. They are sent before
-/// the messages of the lines or together with them. A refused line is reported with the sequence number that its
-/// message would have.
+/// The publisher may already have messages. The unsent ones must fit one datagram, and are sent before the messages of
+/// the lines or together with them. A refused line is reported with the sequence number that its message would have.
 ///
-/// The publisher's maximum message length must not exceed the server's, so that the server can respond to each
-/// request.
+/// The publisher's maximum message length must not exceed the server's, so that the server can respond to each request.
 ///
 /// After a fault, the text written and the datagrams sent are prefixes of those of a complete run. If reading fails or
 /// memory runs out, the text before that is written first. The ports of the lines send nothing. `Read` is returned only

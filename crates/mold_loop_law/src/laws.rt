@@ -22,14 +22,13 @@ use mold_wire::laws::reading_law;
 
 /// Relates the lines that a loop in one process publishes to the lines that it prints.
 ///
-/// The lines are published into a new session. The listener is new too. Its first number is that of a message that will
-/// be published, or one more than the number of the last of them. The ports may lose, repeat and reorder datagrams, but
-/// give only what the loop itself sent (`OwnPorts`).
+/// The session and the listener are new. The listener starts at a message that will be published, or at the number
+/// after the last one. The ports may lose, repeat and reorder datagrams, but give only what the loop itself sent
+/// (`OwnPorts`).
 ///
-/// - `printed`: if no line is refused, and the server's maximum message length is at least the journal's, the loop
-///   prints published lines in order from the start message on, each after its sequence number. If the status is 0, it
-///   prints all of them.
-/// - `refused`: if a line is refused, no request is made. The loop prints lines before the refused one, and then the
+/// - `printed`: no line is refused, and the server's maximum message length is at least the journal's. The loop prints
+///   published lines in order from the start on, each after its number. With status 0 it has printed all of them.
+/// - `refused`: a line is refused, so no request is made. The loop prints lines before the refused one, and then the
 ///   refusal.
 ///
 /// After a fault, the text written is a prefix of such a text. The reports of the two lines are printed only if

@@ -95,8 +95,8 @@ impl MessageList {
         offset_of(&self.ends, to) - offset_of(&self.ends, from)
     }
 
-    /// Returns the length in bytes of all messages together. It takes constant time. The length is below 2^63
-    /// and there are fewer than 2^60 messages, since all of them are in memory.
+    /// Returns the length in bytes of all messages together, in constant time. The length is below 2^63 and there are
+    /// fewer than 2^60 messages, since all of them are in memory.
     pub fn total_length(&self) -> usize
         ensures value { result ≡ byte_count self.now.messages }
         ensures bound { result < 2 ^ 63 }
@@ -115,8 +115,8 @@ impl MessageList {
         MessageIterator::new(0, &self.ends, &self.bytes)
     }
 
-    /// Returns an iterator over the messages from index `i` on, in order. It is empty if there are at most
-    /// `i` messages. The earlier messages are not visited.
+    /// Returns an iterator over the messages from index `i` on, in order, without visiting the earlier ones. It is
+    /// empty if there are at most `i` messages.
     pub fn iter_from(&self, i: usize) -> MessageIterator<'_>
         ensures { result ≡ drop i self.now.messages }
     {
@@ -137,8 +137,8 @@ impl MessageList {
         self.bytes.reserve(bytes)
     }
 
-    /// Appends a message. It fails if an allocation fails, and never if there is room for the message. The
-    /// messages are unchanged after an error.
+    /// Appends a message. It fails only if there is no room for the message and an allocation fails, and then the
+    /// messages are unchanged.
     pub fn push(&mut self, message: &[u8]) -> Result<(), AllocError>
         ensures added { OnOk result (self.new.messages ≡ self.old.messages ++ message.now ∷ []) }
         ensures same { OnErr result (self.new.messages ≡ self.old.messages) }
@@ -152,8 +152,8 @@ impl MessageList {
         Ok(())
     }
 
-    /// Appends bytes to the last message, so a message can be added in parts. It fails if an allocation
-    /// fails, and never if there is room for the bytes. The messages are unchanged after an error.
+    /// Appends bytes to the last message, so a message can be added in parts. It fails only if there is no room for the
+    /// bytes and an allocation fails, and then the messages are unchanged.
     pub fn extend_last(&mut self, bytes: &[u8]) -> Result<(), AllocError>
         requires { 0 < length self.old.messages }
         ensures added { OnOk result (self.new.messages ≡ extended self.old.messages bytes.now) }
@@ -167,8 +167,7 @@ impl MessageList {
         Ok(())
     }
 
-    /// Keeps the first `keep` messages and discards the others. It keeps all messages if there are at most
-    /// `keep`. The allocated room is kept.
+    /// Keeps the first `keep` messages, or all if there are fewer, and discards the others. The allocated room is kept.
     pub fn truncate(&mut self, keep: usize)
         ensures { self.new ≡ record self.old { messages = take keep self.old.messages } }
     {

@@ -85,8 +85,8 @@ impl PartList {
         PartIterator::new(&self.spans, &self.bytes)
     }
 
-    /// Appends bytes to the buffer and returns the offset at which they start. A call of `mark` makes a
-    /// message of some of them. It fails if an allocation fails, and then nothing changes.
+    /// Appends bytes to the buffer and returns the offset at which they start; `mark` makes a message of some of them.
+    /// It fails if an allocation fails, and then nothing changes.
     // Inlined, like `mark`: both are called for each packet that a receiver delivers. Without inlining, they
     // return their results through memory.
     #[inline(always)]
@@ -140,8 +140,8 @@ impl PartList {
         marked
     }
 
-    /// Keeps the first `keep` messages and discards the others. It keeps all messages if there are at most
-    /// `keep`. The bytes after the last message that is kept are discarded, and the allocated room is kept.
+    /// Keeps the first `keep` messages, or all if there are fewer, and discards the bytes after the last of them. The
+    /// allocated room is kept.
     pub fn truncate(&mut self, keep: usize)
         ensures messages { self.new.messages ≡ take keep self.old.messages }
         ensures bytes { self.new.bytes ≡ take self.new.end self.old.bytes }

@@ -48,8 +48,8 @@ received port = record {
   failures = failures_after port.failures (first port.comes);
 }
 
--- The port after a send of these bytes to this peer. If the Boolean is `true`, the send failed and is counted.
--- Otherwise the datagram is added to those that were sent.
+-- The port after a send of these bytes to this peer. If the Boolean is `true`, the send failed and is counted;
+-- otherwise the datagram is added to those that were sent.
 abbrev pub offered : {P : Type 0} → Bool → P → List ℕ → Port P → Port P
 offered true to bytes port = record {
   comes = port.comes;

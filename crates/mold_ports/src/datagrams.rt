@@ -22,9 +22,9 @@ pub trait Datagrams {
         ensures sent { modeled ≡ true → port self.new ≡ offered (is_err result) to bytes.now (port self.old) }
         ensures failures { Counts (port self.old).failures (port self.new).failures result };
 
-    /// Receives a datagram into a prefix of `buffer`. Returns its length and its sender, or `None` if nothing came
-    /// within the port's timeout. A datagram that is longer than `buffer` is truncated. A fault is counted; the
-    /// contents of `buffer` are then unspecified.
+    /// Receives a datagram into a prefix of `buffer`, truncated to the buffer's length. Returns its length and its
+    /// sender, or `None` if nothing came within the port's timeout. After a fault, which is counted, the contents of
+    /// `buffer` are unspecified.
     fn receive(&mut self, buffer: &mut [u8]) -> Result<Option<(usize, Self::Peer)>, DeviceFault>
         ensures count { IfOk result (λ answer. IfSome answer (λ found. found.0 ≤ length buffer.new)) }
         ensures came { modeled ≡ true →

@@ -59,8 +59,8 @@ impl Model for UdpPort {
 }
 
 impl UdpPort {
-    /// Opens a port at an address of this machine. For port 0, the system chooses a port. It fails if the address is
-    /// not the machine's or is taken, or if no socket is available.
+    /// Opens a port at an address of this machine; for port 0, the system chooses one. It fails if the address is not
+    /// the machine's or is taken, or if no socket is available.
     pub fn bind<R: Net>(rt: &R, address: SocketAddrV4) -> Result<UdpPort, DeviceFault>
         ensures { IfOk result (λ port. port ≡ record { bound = address; failures = 0; outlook = Quiet }) }
     {
@@ -82,20 +82,18 @@ impl UdpPort {
         self.address
     }
 
-    /// Returns the state of this port, which depends on its earlier sends and receives. If the port is beside others
-    /// (see `stand_beside`), the state decides how the next receive begins: with a look that does not wait, with a wait
-    /// for a response at this port only, or with a wait for a datagram at any of these ports.
+    /// Returns the state of this port, which depends on its earlier sends and receives. If the port is beside others,
+    /// the state decides how the next receive waits, as `Outlook` describes.
     pub fn outlook(&self) -> Outlook
         ensures { result ≡ self.now.outlook }
     {
         self.outlook
     }
 
-    /// Puts this port beside another one. A wait on this port then also ends when a datagram is at the other port, so a
-    /// silent port does not delay a busy one. A port can be beside two others; each further call replaces the
-    /// older of the two. The caller must keep both as long as this port. It should also receive from both, since a
-    /// datagram that stays at one of them ends every wait on this port. If the system cannot make the socket
-    /// nonblocking, this call does nothing.
+    /// Puts this port beside another one, so that a datagram at the other port also ends a wait on this one. A port can
+    /// be beside two others; a further call replaces the older of them. The caller must keep the others as long as this
+    /// port. It should also receive from them, since a datagram that stays there ends every wait on this port. If the
+    /// system cannot make the socket nonblocking, this call does nothing.
     pub fn stand_beside(&mut self, other: &UdpPort)
         ensures { self.new ≡ self.old }
     {

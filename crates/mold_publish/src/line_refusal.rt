@@ -20,8 +20,8 @@ pub enum LineRefusal {
     NotTaken(AppendError),
 }
 
-/// Appends the line that reports why line `number` is refused. Lines are numbered from 1. If an allocation fails, a
-/// part of the line may follow the earlier text.
+/// Appends the line that reports why line `number`, counted from 1, is refused. If an allocation fails, a part of the
+/// line may follow the earlier text.
 pub fn push_line_refused(out: &mut Vec<u8>, number: u64, why: LineRefusal) -> Result<(), AllocError>
     ensures text { OnOk result (out.new.items ≡ out.old.items ++ refused_text number why) }
     ensures kept { OnErr result (take (length out.old.items) out.new.items ≡ out.old.items) }

@@ -16,8 +16,8 @@ use Rattle.mold_wire.specs.declared.session.Session.{Session}
 abbrev pub carried : List Packet → ℕ
 carried packets = sum_by (λ packet. length (messages_of packet.body)) packets
 
--- A session with an empty name. `brought` packs messages for this session to count them. The count is the same for
--- every session.
+-- A session with an empty name, for which `brought` packs messages to count them. The count is the same for every
+-- session.
 abbrev pub nameless : Session
 nameless = record { 0 = [] }
 

@@ -14,13 +14,13 @@ use mold_rule::laws::ranges_walk_law;
 use mold_session::{Journal, Server};
 
 /// Brings a receiver up to date with its session's journal and returns the number of rounds. In each round, the
-/// server receives the request that the receiver wants, and the receiver takes all responses in order. The number of
-/// rounds is the least that the gaps, the server's limit and its burst allow. It is at most the number of missing
-/// messages. The delivered messages are appended to the batch. The cost of a round depends on its own messages only.
+/// receiver takes all responses to the request that it wants, in order. The number of rounds is the least that the
+/// gaps, the server's limit and its burst allow, and at most the number of missing messages. The delivered messages are
+/// appended to the batch, and the cost of a round depends on its own messages only.
 ///
-/// The receiver and the journal must be of one session, and the receiver's `known` at most one more than the number
-/// of the journal's messages. The journal's maximum message length must not exceed the server's. The batch must be
-/// empty or end just before the receiver's `next`.
+/// The receiver and the journal must be of one session, and the receiver's `known` at most one more than the number of
+/// the journal's messages. The journal's maximum message length must not exceed the server's. The batch must be empty
+/// or end just before the receiver's `next`.
 ///
 /// The function stops early only if an allocation fails. The rounds before are then complete, and the receiver has
 /// taken a prefix of the last round's responses. A further call continues from there.

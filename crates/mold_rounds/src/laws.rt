@@ -16,10 +16,10 @@ use mold_receiver::laws::missing_law;
 use mold_session::laws::{first_part_law, packing_law};
 use mold_wire::laws::front_law;
 
-/// States how many requests bring missing messages. The number is 0 if there are no messages or the first one fits no
-/// datagram. Otherwise it is 1 plus the number for the messages that remain after the first request, which brings at
-/// least one. It is at most the number of messages. The number of messages in the responses depends neither on the
-/// session nor on the sequence numbers.
+/// The number of requests that bring missing messages is at most the number of these messages. It is 0 if there is no
+/// message, or if the first one fits no datagram. Otherwise the first request brings at least one message, and the rest
+/// are counted in the same way. The number of messages in the responses depends neither on the session nor on the
+/// sequence numbers.
 pub fn asks_law()
     ensures none { (limit burst : ℕ) (messages : List Message) →
         length (front limit messages MAX_COUNT) ≡ 0 → asks limit burst messages ≡ 0 }

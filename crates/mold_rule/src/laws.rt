@@ -37,9 +37,8 @@ pub fn ranges_law()
         i < j → r.last + 1 < s.first }
 {}
 
-/// Iterating over the numbers finds the ranges. Numbers that are present are skipped. The missing numbers up
-/// to the next present number, or up to the end, are the next range. The ranges depend only on which of the
-/// given numbers are missing.
+/// Iterating over the numbers finds the ranges: present numbers are skipped, and the missing ones up to the next
+/// present one, or up to the end, are the next range. The ranges depend only on which of the given numbers are missing.
 pub fn ranges_walk_law()
     ensures none { (lacks : ℕ → Bool) (low : ℕ) → ranges lacks low 0 ≡ [] }
     ensures skip { (lacks : ℕ → Bool) (low count more : ℕ) →

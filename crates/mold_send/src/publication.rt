@@ -41,8 +41,8 @@ fn save_journal<K: Sink>(journal: &Journal, sink: &mut K) -> Result<(), CommandF
     }
 }
 
-/// Appends the line that reports why line `number` is refused. Lines are numbered from 1. If an allocation fails, a
-/// part of the line may follow the earlier text.
+/// Appends the line that reports why line `number`, counted from 1, is refused. If an allocation fails, a part of the
+/// line may follow the earlier text.
 pub fn print_line_refused(
     outgoing: &mut Outgoing,
     number: u64,

@@ -16,16 +16,15 @@ use mold_session::Publisher;
 use mold_turns::Outgoing;
 use std::alloc::Global;
 
-/// Publishes the lines of the source as messages. The publisher must be open and must have no messages. Each datagram
-/// is sent to `a` and then to `b`. A data datagram is sent when the next message does not fit in it, and after the
-/// last line. Then `beats` heartbeats are sent, the session is closed, and `ends` end packets are sent.
+/// Publishes the lines of the source as messages of an open publisher without messages. Each datagram is sent to `a`
+/// and then to `b`. A data datagram is sent when the next message does not fit in it, and after the last line. Then
+/// `beats` heartbeats are sent, the session is closed, and `ends` end packets are sent.
 ///
-/// The journal is then saved in `journal_sink`. The last line of the text has three counts: the messages, the data
-/// datagrams (each counted once), and the failed sends. The last count stops at `u64::MAX`. The status is 0. A failed
-/// send is counted, and the loop continues.
+/// The journal is then saved in `journal_sink`. The last line of the text has the counts of messages, of data datagrams
+/// (each counted once) and of failed sends, which stops at `u64::MAX`. A failed send does not end the loop, and the
+/// status is 0.
 ///
-/// If a line is refused, nothing more is sent and nothing is saved. The text is the line of the refusal, and the
-/// status is 2.
+/// If a line is refused, nothing more is sent or saved. The text is the line of the refusal, and the status is 2.
 pub fn publish_loop<D: Datagrams, S: Source, K: Sink, J: Sink>(
     alloc: Global,
     port: &mut D,

@@ -51,8 +51,7 @@ impl<'a, 'p, D: Datagrams> TwoLines<'a, 'p, D> {
     }
 }
 
-/// States the invariant of every publisher. It does nothing and is called only for its clause. A method that reads a
-/// publisher makes the publisher's invariant known to the prover. A law cannot do that.
+/// Does nothing. A call makes the publisher's invariant known to the prover, which a law cannot do.
 #[inline(always)]
 pub fn publisher_holds(publisher: &Publisher)
     ensures { IsPublisher publisher.now }

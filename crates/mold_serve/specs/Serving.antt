@@ -52,7 +52,7 @@ pub record ResponderState (P : Type 0) : Type 0 where
   -- the number of requests answered so far
   pub requests : ℕ
 
--- The state with this port, this tally and the server's number of answered requests.
+-- The state with this port, this tally (the text and the counts) and the server's number of answered requests.
 abbrev pub responder_of : {P : Type 0} → Port P → Tally → ServerState → ResponderState P
 responder_of port tally server = record {
   port = port;

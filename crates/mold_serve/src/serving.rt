@@ -14,14 +14,14 @@ use mold_session::{Journal, Server};
 use mold_wire::MAX_LIMIT;
 use std::alloc::Global;
 
-/// Serves requests for the messages of a journal, for `turns` turns. Each turn receives once. A request is answered
-/// with datagrams to the requester, or refused. A line is printed for each datagram that was sent and for each refused
-/// request. A last line has the counts.
+/// Serves requests for the messages of a journal, for `turns` turns of one receive each. A request is answered with
+/// datagrams to the requester, or refused. A line is printed for each datagram that was sent and for each refused
+/// request, and a last line has the counts.
 ///
-/// A failed receive or send is counted, and the loop continues. The status is 0. The journal's maximum message length
-/// must not exceed the server's. Text is written when 65,536 bytes have accumulated, and at the end. To a live sink it
-/// is written after each turn. If memory runs out in a turn or for the last line, the text of the turns before is
-/// written first. After a fault of the sink, a prefix of the text is written.
+/// A failed receive or send is counted and does not end the loop. The status is 0. The journal's maximum message length
+/// must not exceed the server's. Text is written when 65,536 bytes have accumulated, or to a live sink after each turn,
+/// and at the end. If memory runs out in a turn or for the last line, the text of the turns before is written first.
+/// After a fault of the sink, a prefix of the text is written.
 pub fn serve_loop<D: Datagrams, K: Sink>(
     alloc: Global,
     port: &mut D,

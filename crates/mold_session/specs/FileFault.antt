@@ -76,8 +76,8 @@ pub record IsMiscounted (most : ℕ) (bytes : List ℕ) (count found : ℕ) : Ty
   pub counted : found ≡ length messages
   pub differs : count ≡ found → ⊥
 
--- The bytes have this fault: they are not the file of a journal whose messages have at most `most` bytes. Errors of
--- devices and memory aren't faults of a file.
+-- The error states why the bytes are not the file of a journal whose messages have at most `most` bytes. It is not
+-- `Read`, `Write` or `Memory`.
 abbrev pub JournalFault : ℕ → List ℕ → FileError → Type 0
 JournalFault most bytes (Short len) =
     (len ≡ length bytes) × ((length bytes < 18) ⊎ (IsVersion2 bytes × (length bytes < 27)))

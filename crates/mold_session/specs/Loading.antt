@@ -12,8 +12,8 @@ use Rattle.mold_session.specs.declared.error.FileError.{FileError}
 use Rattle.mold_session.specs.declared.error.FileError.TheVariants.{Short, BadMagic, BadFlag, Read, Write, Memory}
 use Rattle.mold_session.specs.declared.loading.FileHead.{FileHead}
 
--- An upper bound of the work that remains for a loop over the file. It counts the reads that the source still
--- allows, and the bytes that were read and not used. Each iteration decreases it.
+-- An upper bound of the work that remains for a loop over the file, which each iteration decreases. It counts the reads
+-- that the source still allows, and the bytes that were read and not used.
 abbrev pub work_left : ℕ → List ℕ → ℕ
 work_left bound rest = bound * 4097 + length rest
 
@@ -78,8 +78,8 @@ pub record TakesBlock (most : ℕ) (known left : Option (List ℕ)) (old new : L
   pub added : new ≡ old ++ message ∷ []
   pub consumed : Consumes known left (block message)
 
--- The call may return this error. If it is a fault of the bytes, and the bytes are known, then they have this fault.
--- `Read` and `Memory` are not faults of the bytes, and `Write` is never returned.
+-- The call may return this error: `Read`, `Memory`, or a fault of the bytes, but never `Write`. Bytes that are known
+-- must have the fault.
 abbrev pub Refuses : (List ℕ → FileError → Type 0) → Option (List ℕ) → FileError → Type 0
 Refuses Fault known Read = ⊤
 Refuses Fault known Memory = ⊤

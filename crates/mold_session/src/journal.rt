@@ -54,8 +54,7 @@ impl Model for Journal {
 }
 
 impl Journal {
-    /// Returns an open journal without messages. Each message may have up to `max_message` bytes. This
-    /// allocates nothing.
+    /// Returns an open journal without messages, for messages of up to `max_message` bytes. This allocates nothing.
     pub fn new(alloc: Global, session: Session, max_message: u16) -> Journal
         ensures { result ≡ fresh_journal session max_message }
     {
@@ -128,8 +127,8 @@ impl Journal {
         self.list.joined_length(index as usize, self.list.len())
     }
 
-    /// Appends a message and returns its sequence number. After an error the journal is unchanged. `Memory` is
-    /// returned only if an allocation failed.
+    /// Appends a message and returns its sequence number. After an error the journal is unchanged; `Memory` is returned
+    /// only if an allocation failed.
     pub fn append(&mut self, message: &[u8]) -> Result<u64, AppendError>
         ensures number { IfOk result (λ number. number ≡ length self.old.messages + 1) }
         ensures taken { OnOk result (append_refusal self.old message.now ≡ None) }
@@ -153,14 +152,14 @@ impl Journal {
         }
     }
 
-    /// Loads a journal from its file, of version 1 or 2, whose messages have at most `max_message` bytes. A
-    /// journal from a file of version 1 is open.
+    /// Loads a journal from its file, of version 1 or 2, whose messages have at most `max_message` bytes. A journal
+    /// from a file of version 1 is open.
     ///
-    /// It goes through the file once and reads at most 4,096 bytes at once. It holds no more than the journal
-    /// and the bytes of one read. On success it has read the source to its end.
+    /// It goes through the file once, in reads of at most 4,096 bytes, and holds only the journal and the bytes of one
+    /// read. On success it has read the source to its end.
     ///
-    /// If the bytes have a fault, it is their only one (`laws::one_fault_law`), and it is returned. If a read or
-    /// an allocation fails first, `Read` or `Memory` is returned instead.
+    /// If the bytes have a fault, their only one (`laws::one_fault_law`) is returned, or `Read` or `Memory` if a read
+    /// or an allocation fails first.
     pub fn load<S: Source>(
         alloc: Global,
         max_message: u16,
@@ -195,10 +194,10 @@ impl Journal {
         check_file(max_message, bytes)
     }
 
-    /// Saves the journal as a file of version 2. Blocks are gathered into writes of up to 4,096 bytes, and a
-    /// longer message has a separate write. This allocates nothing.
+    /// Saves the journal as a file of version 2. Blocks are gathered into writes of up to 4,096 bytes, and a longer
+    /// message has a separate write. This allocates nothing.
     ///
-    /// `Write` is the only error. A prefix of the file was then written to the sink.
+    /// `Write` is the only error; a prefix of the file is then written to the sink.
     pub fn save<K: Sink>(&self, sink: &mut K) -> Result<(), FileError>
         ensures whole { OnOk result (AppendsFile (K.held sink.old) (K.held sink.new)
             self.now.session self.now.messages self.now.closed) }
@@ -221,8 +220,8 @@ impl Journal {
         self.list.total_length() + LENGTH_BYTES * self.list.len() + HEAD_LENGTH
     }
 
-    /// Writes the journal's file, in version 2, to the start of the buffer and returns its length. This
-    /// allocates nothing.
+    /// Writes the journal's file, in version 2, to the start of the buffer and returns its length. This allocates
+    /// nothing.
     ///
     /// If the buffer is shorter than the file, it is left unchanged and `None` is returned.
     pub fn save_in(&self, bytes: &mut [u8]) -> Option<usize>

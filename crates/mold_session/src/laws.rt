@@ -40,8 +40,8 @@ pub fn constants_law()
     ensures messages { MAX_MESSAGES ≡ 18446744073709551614 }
 {}
 
-/// How messages are packed. No messages give no packets. If the longest prefix that fits has a message, the
-/// first packet has that prefix. The messages after it are packed from the next sequence number on.
+/// How messages are packed: no messages give no packets. If the longest prefix that fits has a message, the first
+/// packet has that prefix, and the messages after it are packed from the next sequence number on.
 #[tactic(auto, using(crate::proofs::DatagramLemmas::packing_none, crate::proofs::DatagramLemmas::packing_first))]
 pub fn packing_law()
     ensures none { (limit : ℕ) (session : Session) (sequence : ℕ) → packing limit session sequence [] ≡ [] }
@@ -59,9 +59,9 @@ pub fn first_part_law()
     front_law();
 }
 
-/// States what a plan still sends. A spent plan sends nothing. Any other plan first sends its next packet. Then it
-/// moves past the messages of that packet, and the same holds again. It never sends more than `left` packets. Messages
-/// that are published meanwhile change nothing.
+/// States what a plan still sends: nothing if it is spent, otherwise its next packet and then what the plan past that
+/// packet's messages sends. It never sends more than `left` packets, and messages that are published meanwhile change
+/// nothing.
 ///
 /// So the datagrams that `Server::datagram` returns, until it returns `None`, are all packets that the plan had at
 /// first, in order.

@@ -45,8 +45,8 @@ impl Plan {
         }
     }
 
-    /// Returns a plan from values that the caller kept, or `None` if `from` is 0 or greater than `to`. Any
-    /// `left` is accepted. A server makes plans of at most `MAX_BURST` datagrams.
+    /// Returns a plan from values that the caller kept, or `None` if `from` is 0 or greater than `to`. Any `left` is
+    /// accepted, but a server makes plans of at most `MAX_BURST` datagrams.
     pub fn resumed(session: Session, from: u64, to: u64, left: u16) -> Option<Plan>
         ensures some { IsSome result ↔ IsPlan (record { session = session; from = from; to = to; left = left }) }
         ensures made { IfSome result (λ plan.

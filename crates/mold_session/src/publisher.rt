@@ -71,8 +71,8 @@ impl Publisher {
         })
     }
 
-    /// Publishes a message and returns its sequence number. After an error the publisher is unchanged. `Memory`
-    /// is returned only if an allocation failed.
+    /// Publishes a message and returns its sequence number. After an error the publisher is unchanged; `Memory` is
+    /// returned only if an allocation failed.
     pub fn publish(&mut self, message: &[u8]) -> Result<u64, AppendError>
         ensures number { IfOk result (λ number. number ≡ length self.old.journal.messages + 1) }
         ensures taken { OnOk result (append_refusal self.old.journal message.now ≡ None) }

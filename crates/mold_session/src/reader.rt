@@ -48,7 +48,7 @@ impl Model for JournalReader {
 }
 
 impl JournalReader {
-    /// Reads the head of the file. A fault of the head is returned. This allocates nothing.
+    /// Reads the head of the file, or returns its fault. This allocates nothing.
     pub fn new<S: Source>(alloc: Global, source: &mut S) -> Result<JournalReader, FileError>
         ensures begun { IfOk result (λ reader. HasRead (S.left source.old)
             (prepend_known reader.rest (S.left source.new)) reader []) }
@@ -90,10 +90,10 @@ impl JournalReader {
         }
     }
 
-    /// Reads the next message. Returns false if no message remains, and then the whole file is valid.
+    /// Reads the next message, or returns false if none remains, and then the whole file is valid.
     ///
-    /// It allocates only for a message that is longer than all before it. After an error the reader must not be
-    /// used again.
+    /// It allocates only for a message that is longer than all before it. After an error the reader must not be used
+    /// again.
     pub fn advance<S: Source>(&mut self, source: &mut S) -> Result<bool, FileError>
         ensures next { IfOk result (λ more. OnTrue more (ReadsNext
             (prepend_known self.old.rest (S.left source.old))

@@ -103,7 +103,7 @@ impl Server {
         self.packer.limit()
     }
 
-    /// Returns the greatest `max_message` that a journal may have if this server is to respond from it, in bytes.
+    /// Returns the greatest `max_message` of a journal that this server may respond from, in bytes.
     pub fn max_message(&self) -> u16
         ensures value { result ≡ self.now.max_message }
         ensures server { IsServer self.now }
@@ -118,16 +118,15 @@ impl Server {
         self.burst
     }
 
-    /// Returns the number of requests that `answer` and `plan` accepted. The count stops at `MAX_NUMBER`. A
-    /// refused request isn't counted.
+    /// Returns the number of requests that `answer` and `plan` accepted. The count stops at `MAX_NUMBER`.
     pub fn answered(&self) -> u64
         ensures { result ≡ self.now.answered }
     {
         self.answered
     }
 
-    /// Returns the first response to a request, and counts the request. The response has at least one message.
-    /// The journal's messages may have at most `max_message` bytes.
+    /// Returns the first response to a request, which has at least one message, and counts the request. The journal's
+    /// messages may have at most `max_message` bytes.
     ///
     /// A refused request gets the first error of `AnswerError` that applies, and the server is unchanged.
     pub fn answer(&mut self, journal: &Journal, request: &[u8]) -> Result<&[u8], AnswerError>
@@ -148,8 +147,8 @@ impl Server {
         Ok(self.packer.bytes())
     }
 
-    /// Plans the responses to a request. `datagram` then returns them one by one. Requests are refused and counted
-    /// as by `answer`.
+    /// Plans the responses to a request, which `datagram` then returns one by one. Requests are refused and counted as
+    /// by `answer`.
     pub fn plan(&mut self, journal: &Journal, request: &[u8]) -> Result<Plan, AnswerError>
         requires { journal.now.max_message ≤ self.old.max_message }
         ensures planned { result ≡ planning journal.now self.old.burst request.now }
@@ -165,11 +164,11 @@ impl Server {
         Ok(Plan::new(journal, &request, burst))
     }
 
-    /// Returns the next datagram of a plan and advances the plan past its messages. The datagram has the
-    /// longest prefix of the plan's remaining messages that fits.
+    /// Returns the next datagram of a plan, with as many of its remaining messages as fit, and advances the plan past
+    /// them. If the plan is spent, `None` is returned and nothing changes.
     ///
-    /// If the plan is spent, `None` is returned and nothing changes. The journal must be the one that the plan was
-    /// made from, or one of the same session that has at least the messages of the plan.
+    /// The journal must be the one that the plan was made from, or one of the same session that has at least the
+    /// messages of the plan.
     pub fn datagram(&mut self, journal: &Journal, plan: &mut Plan) -> Option<&[u8]>
         requires longest { journal.now.max_message ≤ self.old.max_message }
         requires session { plan.old.session ≡ journal.now.session }

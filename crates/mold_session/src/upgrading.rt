@@ -33,11 +33,10 @@ fn version(stated: Option<u64>) -> u8
     }
 }
 
-/// Reads the file of a journal, of either version, and writes it in version 2. The new file is closed if the
-/// old one was or if `close` is true.
+/// Reads the file of a journal, of either version, and writes it in version 2. The new file is closed if the old one
+/// was or if `close` is true.
 ///
-/// If the old file is refused, nothing is written. `Write` means that the sink failed, and then a prefix of the
-/// new file was written.
+/// If the old file is refused, nothing is written; after `Write`, a prefix of the new file is.
 pub fn upgrade<S: Source, K: Sink>(
     alloc: Global,
     source: &mut S,

@@ -164,17 +164,16 @@ fn end_dump<K: Sink>(
     }
 }
 
-/// Reads the file of a journal, of either version, and writes a line for each message from number `from` on, at
-/// most `count` of them. The line has the message's bytes as lower-case hexadecimal digits. The first message
-/// has number 1. A `from` of 0 counts as 1.
+/// Reads the file of a journal, of either version, and writes at most `count` messages from number `from` on, where 0
+/// counts as 1. Each is a line of lower-case hexadecimal digits.
 ///
-/// If the file isn't valid, the messages before the fault are written, and then a line with the fault. The
-/// status is 0 for a valid file, otherwise 2.
+/// If the file isn't valid, the messages before the fault are written, and then a line with the fault. The status is 0
+/// for a valid file, otherwise 2.
 ///
-/// It keeps at most the longest message, the bytes of one read, and the text that is not written yet. The text is
-/// written in pieces of 65,536 bytes or more, and the rest at the end. If a read or an allocation fails, the lines
-/// gathered so far are written first. After a fault, a prefix of the text was written. `Read` and `Write` are returned
-/// only if the source or the sink failed, `Memory` only if an allocation failed.
+/// It keeps at most the longest message, the bytes of one read, and the unwritten text. The text is written in pieces
+/// of 65,536 bytes or more, and the rest at the end. If a read or an allocation fails, the lines gathered so far are
+/// written first. After a fault, a prefix of the text was written. `Read` and `Write` are returned only if the source
+/// or the sink failed, `Memory` only if an allocation failed.
 pub fn dump_file<S: Source, K: Sink>(
     alloc: Global,
     source: &mut S,

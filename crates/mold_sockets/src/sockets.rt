@@ -41,8 +41,8 @@ fn tell_refused(rt: &HostRuntime, error: FileError) -> Result<u8, CommandFault> 
     flushed(outcome, sink.into_inner().flush())
 }
 
-/// Serves a journal over a port. The journal is loaded before the port is opened. If the file cannot be opened, the
-/// fault is `Read`.
+/// Serves a journal over a port, which is opened after the journal is loaded. If the file cannot be opened, the fault
+/// is `Read`.
 pub fn run_serve(rt: &HostRuntime, order: &ServeOrder) -> Result<u8, ProgramFault> {
     let Ok(file) = File::open(rt, order.journal.as_str()) else {
         return Err(ProgramFault::Command(CommandFault::Read));
@@ -78,9 +78,9 @@ fn serve_on(
     flushed(outcome, sink.into_inner().flush())
 }
 
-/// Listens on two ports, and sends requests from a third one. A wait on a line ends early when the other line has a
-/// datagram. A wait for a response ends early when one of the lines has a datagram. A response does not end a wait on a
-/// line. Otherwise a late response would stay at its port and end every such wait.
+/// Listens on two ports, and sends requests from a third one. A wait on a line also ends when the other line has a
+/// datagram, and a wait for a response when either line has one. A response ends no wait on a line: a late one stays at
+/// its port and would end every such wait.
 pub fn run_listen(rt: &HostRuntime, order: &ListenOrder) -> Result<u8, ProgramFault> {
     let mut a = open_port(rt, order.a)?;
     let mut b = open_port(rt, order.b)?;

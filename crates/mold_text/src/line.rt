@@ -109,9 +109,8 @@ pub fn line_room(words: &[Word<'_>]) -> usize
     words_room(words).saturating_add(1)
 }
 
-/// Writes the words as a line from offset `at` on and returns the offset after it. The words are joined by
-/// single spaces, and the byte 0A ends the line. There must be room for `line_room` bytes, and bytes after
-/// the line may change.
+/// Writes the words, joined by single spaces, and the byte 0A from offset `at` on, and returns the offset after them.
+/// There must be room for `line_room` bytes, and bytes after the line may change.
 #[inline(always)]
 pub fn write_line(out: &mut [u8], at: usize, words: &[Word<'_>]) -> usize
     requires { at + line_room words.now ≤ length out.old }
@@ -121,8 +120,8 @@ pub fn write_line(out: &mut [u8], at: usize, words: &[Word<'_>]) -> usize
     write_words(out, at, words, &[])
 }
 
-/// Appends the words as a line. The words are joined by single spaces, and the byte 0A ends the line. If an
-/// allocation fails, a part of the line may follow the earlier text.
+/// Appends the words as a line: joined by single spaces, with the byte 0A at the end. If an allocation fails, a part of
+/// the line may follow the earlier text.
 #[inline(always)]
 pub fn push_line(out: &mut Vec<u8>, words: &[Word<'_>]) -> Result<(), AllocError>
     ensures line { OnOk result (out.new.items ≡ out.old.items ++ line_of (map word_text words.now)) }

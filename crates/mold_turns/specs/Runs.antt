@@ -53,9 +53,9 @@ pub record TurnRestsOfTwo {C S M T E : Type 0} (loop : Loop C S M) (other : S �
   pub turn : TurnRests loop behind start result old new now
   pub others : Begins (other now) (other (loop.turn turn.choice start))
 
--- A loop that ended with a fault has written the text of all completed turns, except what it may keep unwritten between
--- turns (`IsBounded`). `ends` holds of the state after the last completed turn. In the contracts of loops, `ends`
--- states that the loop stopped in the turn after that state (`IsInNextTurn`).
+-- A loop that ended with a fault has written the text of all completed turns, except what it may keep between turns
+-- (`IsBounded`). `ends` holds of the state after the last completed turn. In the contracts of loops, it states
+-- `IsInNextTurn`.
 pub record WrittenInTime {C S M : Type 0} (loop : Loop C S M) (start : S) (live : Bool) (old new : Option (List ℕ))
     (ends : S → Type 0) : Type 0 where
   -- the choices of the completed turns
@@ -95,9 +95,9 @@ pub record RestsOfTwo {C S M T E : Type 0} (loop : Loop C S M) (other : S → Li
   pub rests : Rests loop behind turns start result old new now
   pub others : Begins (other now) (other (run loop rests.choices start))
 
--- The outcome of a loop that starts at `start` and makes at most `turns` turns. It agrees with `run` for some choice in
--- each turn. After a success, the text and the last line of that run are written, and its status is returned. In every
--- case, what was written and what was sent are prefixes of what the run writes and sends.
+-- The outcome of a loop of at most `turns` turns from `start`, which agrees with `run` for some choice in each turn.
+-- After a success, the text and the last line of that run are written, and its status is returned. In every case, what
+-- was written and what was sent are prefixes of what the run writes and sends.
 pub record Ran {C S M E : Type 0} (loop : Loop C S M) (turns : ℕ) (start : S) (last : S → List ℕ) (status : S → ℕ)
     (agrees : S → Type 0) (result : Result ℕ E) (old new : Option (List ℕ)) (sendings : List M) : Type 0 where
   -- the choice of each turn

@@ -79,8 +79,8 @@ impl Outgoing {
         push_line(&mut self.text, words)
     }
 
-    /// If the text has at least 65,536 bytes or the sink is live, this writes the text. Otherwise it writes nothing and
-    /// keeps the text. After a fault, a prefix of the text is written, and the text is unchanged.
+    /// Writes the text if it has at least 65,536 bytes or the sink is live, and otherwise does nothing. After a fault,
+    /// a prefix of the text is written, and the text is unchanged.
     pub fn send_large<K: Sink>(&mut self, sink: &mut K) -> Result<(), CommandFault>
         ensures moved { OnOk result (Moves (K.held sink.old) (K.held sink.new) self.old.text self.new.text) }
         ensures large { OnOk result (LARGE ≤ length self.old.text → self.new.text ≡ []) }
@@ -99,9 +99,8 @@ impl Outgoing {
         self.send(sink)
     }
 
-    /// Ends a loop that met the fault `met`. The first `len` bytes of the text, which earlier turns printed, are
-    /// written, and the other bytes are dropped. Returns the fault that the loop ends with: `met`, or `Write` if the
-    /// write fails.
+    /// Ends a loop that met the fault `met`: writes the first `len` bytes of the text, which earlier turns printed, and
+    /// drops the others. Returns the fault that the loop ends with: `met`, or `Write` if the write fails.
     pub fn end_with<K: Sink>(&mut self, len: usize, met: CommandFault, sink: &mut K) -> CommandFault
         ensures ends { EndsWith met result (K.held sink.old) (K.held sink.new) (take len self.old.text)
             (K.failed sink.old) (K.failed sink.new) }

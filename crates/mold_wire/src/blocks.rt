@@ -64,8 +64,8 @@ impl<'a> Blocks<'a> {
         Messages::new(self.count, self.bytes)
     }
 
-    /// Returns the message at index `i`, counted from 0, or `None` if there are at most `i` messages. It
-    /// skips the messages before index `i`, so its cost grows with `i`. To visit all messages, use `iter`.
+    /// Returns the message at index `i`, counted from 0, or `None` if there are at most `i` messages. Its cost grows
+    /// with `i`; use `iter` to visit all messages.
     pub fn get(&self, i: u16) -> Option<&'a [u8]>
         ensures { option_copied result ≡ slice_get self.now i }
     {

@@ -70,8 +70,8 @@ pub fn start_in(buffer: &mut [u8], session: Session, sequence: u64) -> usize
     HEADER_LENGTH
 }
 
-/// Appends `message` to the open packet, which has `count` messages and takes `used` bytes. It writes the
-/// message's block and increments the count in the header. Returns the packet's new length in bytes.
+/// Appends `message` to the open packet, which has `count` messages in `used` bytes, and counts it in the header.
+/// Returns the packet's new length in bytes.
 pub fn add_in(buffer: &mut [u8], used: usize, count: u16, message: &[u8]) -> usize
     requires limit { IsLimit (length buffer.old) }
     requires header { HEADER_LENGTH ≤ used }

@@ -53,10 +53,9 @@ pub fn one_spelling_law()
         SpellsRequest one bytes → SpellsRequest other bytes → one ≡ other }
 {}
 
-/// `reading` agrees with `Spells` and `FaultAt`: it returns a packet exactly when the bytes encode that packet, and a
-/// fault exactly when the bytes have that fault. In the same way, `request_reading` agrees with `SpellsRequest` and
-/// `RequestFaultAt`. `decode` and `Request::decode` return what these two functions return. The clauses with
-/// `IsBytes` are for lists of bytes. The other clauses hold for lists of any numbers.
+/// `reading`, which `decode` returns, is a packet exactly when the bytes encode that packet, and a fault exactly when
+/// they have that fault. The same holds of `request_reading`, which `Request::decode` returns. The clauses without
+/// `IsBytes` hold for lists of any numbers.
 pub fn reading_law()
     ensures read { (packet : Packet) (bytes : List ℕ) →
         Spells packet bytes → reading bytes ≡ Ok packet }
@@ -111,11 +110,10 @@ pub fn packet_length_law()
         (length message + MESSAGE_OVERHEAD ≤ limit) ↔ Fits limit (message ∷ []) }
 {}
 
-/// If the limit has room for a header, `front` returns the longest prefix that fits. There is only one longest prefix.
-/// A prefix that fits is the longest one if the next message is one too many or does not fit. The longest prefix is not
-/// empty if at least one message is allowed and the first one fits alone. It is the whole list if all messages are
-/// allowed and fit together. It can be computed step by step: if the first message fits alone, the longest prefix is
-/// that message, followed by the longest prefix of the other messages that fits in the remaining bytes.
+/// If the limit has room for a header, `front` returns the only longest prefix that fits. A prefix that fits is the
+/// longest if the next message does not fit or is one too many. A longest prefix has a message if the first one fits
+/// alone and is allowed, and all messages if they fit together and are allowed. The clause `more` computes it message
+/// by message.
 #[tactic(auto, using(crate::proofs::FrontLemmas::front_is))]
 pub fn front_law()
     ensures front { (limit : ℕ) (messages : List (List ℕ)) (most : ℕ) →
@@ -137,9 +135,8 @@ pub fn front_law()
         ≡ message ∷ front (limit - (2 + length message)) messages most }
 {}
 
-/// A packet that is true of an open session stays true when the session publishes one more message or closes.
-/// The number of the new message must be below `MAX_NUMBER`. A message keeps its sequence number when more
-/// messages are published.
+/// A packet that is true of an open session stays true when the session publishes one more message, with a number below
+/// `MAX_NUMBER`, or closes. A message keeps its sequence number when more messages are published.
 pub fn true_stays_law()
     ensures published { (packet : Packet) (published : List (List ℕ)) (message : List ℕ) →
         length published < MAX_NUMBER - 1 → IsTruePacket packet published false →
@@ -151,9 +148,8 @@ pub fn true_stays_law()
         published_at (published ++ behind) number ≡ Some message }
 {}
 
-/// Properties of a true packet. Its top is at most one more than the number of published messages. Its
-/// messages are the messages published from its sequence number on. Conversely, a data packet with the
-/// messages published from its sequence number on is true.
+/// The top of a true packet is at most one more than the number of published messages. Its messages are those published
+/// from its sequence number on, and every data packet of such messages is true.
 pub fn true_packet_law()
     ensures top { (packet : Packet) (published : List (List ℕ)) (closed : Bool) →
         IsPacket packet → IsTruePacket packet published closed → top_of packet ≤ length published + 1 }

@@ -40,8 +40,8 @@ impl Packer {
     ghost use Rattle.mold_wire.specs.Packer.{with_message};
     ghost use Rattle.mold_wire.specs.declared.error.PackerError.{PackerError};
 
-    /// Makes a packer for datagrams of at most `limit` bytes. No packet is begun yet. The call allocates a
-    /// buffer of `limit` bytes.
+    /// Makes a packer for datagrams of at most `limit` bytes, with no packet begun. It allocates a buffer of `limit`
+    /// bytes.
     pub fn new(alloc: Global, limit: usize) -> Result<Packer, PackerError>
         ensures made { IfOk result (λ packer. packer ≡ record { limit = limit; begun = Nothing }) }
         ensures ok { IsOk result → IsLimit limit }

@@ -33,8 +33,8 @@ pub enum Body<'a> {
 impl Packet<'_> {
     ghost use Rattle.mold_wire.specs.Packet.{top_of};
 
-    /// Returns the packet's top: one more than the sequence number of its last message. For a heartbeat or an
-    /// end packet, it is the sequence number. Returns `None` exactly when the top is above `MAX_NUMBER`.
+    /// Returns the packet's top: one more than the sequence number of its last message, or the sequence number of a
+    /// heartbeat or an end packet. Returns `None` exactly when the top is above `MAX_NUMBER`.
     pub fn top(&self) -> Option<u64>
         ensures { SomeIff result (top_of self.now < 2 ^ 64) (top_of self.now) }
     {

@@ -55,9 +55,8 @@ fn read_packet(bytes: &[u8]) -> Result<Packet<'_>, DecodeError>
     })
 }
 
-/// Decodes the packet that a datagram encodes, in one pass, without a copy or an allocation. The bytes may be
-/// longer than any datagram. Bytes after the last stated block are a fault, and so are bytes after the header
-/// of a heartbeat or an end packet.
+/// Decodes the packet that bytes of any length encode, in one pass, without a copy or an allocation. Bytes after the
+/// last stated block, or after the header of a heartbeat or an end packet, are a fault.
 pub fn decode(bytes: &[u8]) -> Result<Packet<'_>, DecodeError>
     // The bytes encode the packet that is returned, or they have the fault that is returned.
     ensures spelled { IfOk result (λ packet. Spells packet bytes.now) }

@@ -23,9 +23,8 @@ program_fault_word Socket = codes "Socket"
 abbrev pub fault_line : List ℕ → List ℕ
 fault_line word = codes "fault " ++ word ++ codes "\n"
 
--- The text was appended to the bytes that a sink holds, unless the sink failed. `failed` is its count of failures
--- before, and `failures` the count afterwards. At 18,446,744,073,709,551,615 the count stops. If it was that before,
--- nothing is stated.
+-- The text was appended to the bytes that a sink holds, unless the sink failed: `failed` and `failures` are its counts
+-- of failures before and after. Nothing is stated if `failed` is 18,446,744,073,709,551,615, where the count stops.
 abbrev pub AppendsUnlessFailed : ℕ → ℕ → Option (List ℕ) → Option (List ℕ) → List ℕ → Type 0
 AppendsUnlessFailed failed failures old new text =
     failed < 18446744073709551615 → failures ≡ failed → Appends old new text

@@ -37,8 +37,8 @@ fn line(fault: ProgramFault) -> &'static str
     }
 }
 
-/// Prints the line of a fault on the sink, which is standard error, in one write. A sink that fails is ignored. Returns
-/// the status of the program, which is 3. Nothing is allocated, since memory may be short.
+/// Prints the line of a fault on the sink, which is standard error, in one write, and returns the program's status,
+/// which is 3. A sink that fails is ignored. Nothing is allocated, since memory may be short.
 pub fn print_fault<K: Sink>(sink: &mut K, line: &str) -> ExitCode
     ensures status { exit_status result ≡ 3 }
     ensures told { AppendsUnlessFailed (K.failed sink.old) (K.failed sink.new)

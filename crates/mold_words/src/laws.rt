@@ -8,8 +8,8 @@ ghost use Rattle.mold_words.specs.Arguments.{pack_wanted, publish_wanted, serve_
 ghost use Rattle.mold_words.specs.Arguments.{upgrade_wanted};
 ghost use Rattle.mold_words.specs.Words.{is_command, mold_app};
 
-/// `show` is accepted, and asks to show packets. The argument `--` alone names no command, and asks for the same. `show
-/// --request` is accepted, and asks to show requests.
+/// `show` is accepted, and asks to show packets, as `--` alone does. `show --request` is accepted, and asks to show
+/// requests.
 pub fn show_taken_law()
     ensures plain { Say (codes "show" ∷ []) (show_wanted false) }
     ensures request { Say (codes "show" ∷ codes "--request" ∷ []) (show_wanted true) }

@@ -13,8 +13,8 @@ use std::alloc::Global;
 /// Parses the command-line arguments, without the program's name, into an order. Without arguments, the order is to
 /// show packets.
 ///
-/// A request for help or for the version is returned as a fault. So are arguments that are not a valid command, and
-/// invalid values of options. Each of these faults has a text for the user.
+/// Invalid commands and invalid values of options are returned as faults, and so is a request for help or for the
+/// version. Each of these faults has a text for the user.
 pub fn read_words(alloc: Global, words: &[String]) -> Result<Order, UsageFault>
     // An order is returned only for arguments that `clap` accepts, and it is the order that they give.
     ensures taken { IfOk result (λ _. AreTaken (map string_bytes words.now)) }

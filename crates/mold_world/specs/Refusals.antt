@@ -34,8 +34,8 @@ is_burst burst = nat_le 1 burst && nat_le burst MAX_BURST
 abbrev pub is_window : ℕ → Bool
 is_window window = nat_le 1 window && nat_le window MAX_WINDOW
 
--- The first reason why a world can't be created with these settings, if there is one. If windows are invalid, it names
--- the first of them. A failed allocation isn't covered.
+-- The first reason, if any, why a world can't be created with these settings, other than a failed allocation. Of
+-- several invalid windows, it names the first.
 abbrev pub world_refusal : ℕ → ℕ → ℕ → List ℕ → Option WorldError
 world_refusal limit server_limit burst windows =
     if not (is_limit limit && is_limit server_limit && nat_le limit server_limit) then Some BadLimit

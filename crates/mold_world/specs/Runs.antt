@@ -19,7 +19,7 @@ pub record IsStopped (w : WorldState) (happenings : List Happening) (at : ℕ) :
   -- An allocation can fail at the event, after the events before it.
   pub wanting : MayWant (run_events w (take at happenings)) happening
 
--- The headline of a world. Each book is a prefix of the published messages. If a receiver has delivered up to a known
+-- The headline of a world: each book is a prefix of the published messages. If a receiver has delivered up to a known
 -- end, its book is the whole closed session.
 pub record IsHeadline (w : WorldState) : Type 0 where
   pub books : (receiver : ℕ) (subscriber : SubscriberState) → slice_get w.subscribers receiver ≡ Some subscriber →

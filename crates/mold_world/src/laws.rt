@@ -28,11 +28,10 @@ use mold_receiver::laws::{
 use mold_session::laws::{answered_law, publisher_law, sending_law};
 use mold_wire::laws::{one_spelling_law, reading_law, true_packet_law, true_stays_law};
 
-/// States the headline for the machine of one session. The machine takes any list of allowed steps: publications,
-/// sent datagrams, deliveries and restarts. Datagrams may be lost, late, repeated or reordered. At every moment, each
-/// receiver's book is a prefix of the published messages. Every message that was ever delivered is the one that was
-/// published with its number. If a receiver reports the end, the session is closed, and the receiver's book has all of
-/// its messages.
+/// States the headline for the machine of one session, after any list of allowed steps: publications, sent datagrams,
+/// deliveries and restarts. Datagrams may be lost, late, repeated or reordered. At every moment, each receiver's book
+/// is a prefix of the published messages, and every message ever delivered is the one published with its number. If a
+/// receiver reports the end, the session is closed, and the receiver's book has all of its messages.
 ///
 /// `IsAllowed` states the premises. Messages are published while the session is open, and only true packets of the
 /// session are sent. A delivered message was sent with its number, and a reported end was sent. A restart is at a
@@ -116,9 +115,9 @@ pub fn delivery_law()
     honest_take_law();
 }
 
-/// States the straight path. A receiver on it gets each data packet of new messages right after it is sent, and does
-/// not restart. Suppose that before the events its book has every message that was sent in a datagram so far. Then this
-/// is still true after the events.
+/// States the straight path, on which a receiver gets each data packet of new messages right after it is sent, and does
+/// not restart. If before the events its book has every message that was sent in a datagram so far, the same is true
+/// after the events.
 pub fn straight_law()
     ensures { (w : WorldState) (happenings : List Happening) (receiver : ℕ) → IsWorld w →
         IsStraight w receiver happenings → HasSent w receiver → HasSent (run_events w happenings) receiver }

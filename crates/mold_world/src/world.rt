@@ -88,11 +88,11 @@ impl World {
         Ok(World { parts })
     }
 
-    /// Applies an event. A refused event leaves the world unchanged. `Memory` is returned only if an allocation
-    /// fails, and then nothing is sent. The responses to a request are all sent, or none is.
+    /// Applies an event; a refused one leaves the world unchanged. `Memory` is returned only if an allocation fails,
+    /// and then nothing is sent. The responses to a request are all sent, or none is.
     ///
-    /// A datagram that was sent is never reported as refused. Noise is always reported as refused, and it changes no
-    /// receiver's view and no book.
+    /// A datagram that was sent is never reported as refused. Noise always is, and changes no receiver's view and no
+    /// book.
     pub fn apply(&mut self, event: &Event<'_>) -> Result<Report, WorldError>
         ensures done { IfOk result (λ report. effect self.old (seen event.now) ≡ Ok (report, self.new)) }
         ensures refused { IfErr result (λ error. Refuses self.old (seen event.now) error) }
@@ -126,17 +126,17 @@ impl World {
         }
     }
 
-    /// Applies events in order. It stops only if an allocation fails; the events before are then applied. An event
-    /// that is refused for another reason is skipped.
+    /// Applies events in order. It stops only if an allocation fails; the events before are then applied. An event that
+    /// is refused for another reason is skipped.
     ///
     /// The following holds whether the run stops or not. After each event, every book is a prefix of the published
     /// messages. If a receiver is finished, its book is the whole closed session. Each message that was delivered, also
     /// before a restart, is the one that was published with its number. The run corresponds to steps of the machine of
     /// `laws::safety_law`, which deliver the same messages.
     ///
-    /// After `Ok`, the straight path holds. Take a receiver that got each data packet of new messages right after it
-    /// was sent, and that did not restart. Suppose that before the run its book has every message that was sent in a
-    /// datagram so far. Then this is still true after the run.
+    /// After `Ok`, the straight path holds of a receiver that got each data packet of new messages right after it was
+    /// sent, and did not restart. If before the run its book has every message that was sent in a datagram so far, the
+    /// same is true after the run.
     pub fn run(&mut self, events: &[Event<'_>]) -> Result<(), Stopped>
         ensures left { self.new ≡ run_events self.old (applied result (map seen events.now)) }
         ensures place { IfErr result (λ stopped. stopped.at < length events.now) }

@@ -29,7 +29,7 @@ holding exchange = Some (Publisher exchange)
 abbrev pub with_publisher : Exchange → PublisherState → Option Held
 with_publisher exchange publisher = holding (record { publisher = publisher; server = exchange.server })
 
--- What the handle of this publisher holds if its server has this state.
+-- What the handle of this publisher holds after its server got this state.
 abbrev pub with_server : Exchange → ServerState → Option Held
 with_server exchange server = holding (record { publisher = exchange.publisher; server = Some server })
 

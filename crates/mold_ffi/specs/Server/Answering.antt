@@ -24,7 +24,8 @@ pub record PutsAnswer (server : ServerState) (journal : JournalState) (request o
   pub put : Puts old new bytes size
 
 -- Either the first response is written to a buffer that has at least as many bytes as the limit, or the request is
--- refused for the first reason that applies. `holding` maps the server's state to what the handle then holds.
+-- refused for the first reason that applies. Afterwards the handle holds `held`, which is `holding` of the server's new
+-- state.
 pub record Answers (T : Type 0) (server : ServerState) (journal : JournalState) (request old new : List ℕ)
     (before code number : ℕ) (holding : ServerState → T) (held : T) : Type 0 where
   pub foreign : (Suits server journal → ⊥) →
@@ -38,8 +39,8 @@ pub record Answers (T : Type 0) (server : ServerState) (journal : JournalState) 
       checked_request journal request ≡ Ok asked →
       (code ≡ codes.DONE) × PutsAnswer server journal request old new number × (held ≡ holding (counted server))
 
--- The responses to a request are planned, or the request is refused for the first reason that applies. `holding` maps
--- the server's state to what the handle then holds.
+-- The responses to a request are planned, or the request is refused for the first reason that applies. Afterwards the
+-- handle holds `held`, which is `holding` of the server's new state.
 pub record Plans (T : Type 0) (server : ServerState) (journal : JournalState) (request : List ℕ) (old new : MoldPlan)
     (before code number : ℕ) (holding : ServerState → T) (held : T) : Type 0 where
   pub foreign : (Suits server journal → ⊥) →

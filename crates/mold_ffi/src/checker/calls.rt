@@ -40,9 +40,9 @@ pub extern "C" fn mold_checker_new(alloc: Global, checker: &mut MoldHandle) -> u
     }
 }
 
-/// Takes a datagram. It is refused if no session explains both it and the datagrams taken before. The code is then that
-/// of the first reason, and `number` is the number that goes with the reason, or 0. If the datagram is taken, `number`
-/// is 0. The session is that of the first datagram taken. Datagrams may come in any order.
+/// Takes a datagram, or refuses it if no session explains both it and the datagrams taken before. The code is then that
+/// of the first reason, and `number` goes with the reason. If the reason has no number, or the datagram is taken,
+/// `number` is 0. Datagrams may come in any order, and the first one taken sets the session.
 #[unsafe(no_mangle)]
 pub extern "C" fn mold_checker_take(checker: &mut MoldHandle, bytes: &[u8], number: &mut u64) -> u32
     ensures joins { (seen : Seen) → checker.old.handle.value ≡ Some (AChecker seen) →

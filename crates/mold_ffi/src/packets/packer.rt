@@ -78,8 +78,8 @@ pub extern "C" fn mold_packer_fits(packer: &MoldPacker<'_>, len: usize) -> bool
     can_be(packer) && leaves_room(packer, len)
 }
 
-/// Adds a message after those of the open packet. If no packet is open that has room for it, the code is 5. If the
-/// fields are invalid, the code is 6. In both cases nothing changes.
+/// Adds a message after those of the open packet. If no packet is open that has room for it, the code is 5; if the
+/// fields are invalid, it is 6. In both cases nothing changes.
 #[unsafe(no_mangle)]
 pub extern "C" fn mold_packer_add(packer: &mut MoldPacker<'_>, message: &[u8]) -> u32
     ensures added { (begun : Begun) → Holds (fields_of packer.old) begun →

@@ -22,13 +22,12 @@ use crate::server::serving::{Serving, code_of_refusal};
 use mold_wire::{MAX_BURST, MAX_LIMIT, MESSAGE_OVERHEAD, MIN_LIMIT};
 use std::alloc::Global;
 
-/// Makes a server of the bytes of a journal file, of version 1 or 2. Its datagrams have at most `limit` bytes, which is
-/// 64 to 65,507. Each message of the journal must have at most `limit` - 22 bytes. A request gets at most `burst`
-/// responses, 1 to 64. The handle must be empty.
+/// Makes a server of the bytes of a journal file, of version 1 or 2. Its datagrams have at most `limit` bytes, 64 to
+/// 65,507, and each message of the journal must have at most `limit` - 22. A request gets at most `burst` responses, 1
+/// to 64. The handle must be empty.
 ///
-/// If the bytes are not such a journal, `number` goes with the fault. It is a length in bytes, a sequence number, the
-/// byte of the flag, a number of messages, or 0; `mold.h` states which for each code. If the handle is not
-/// empty, `number` is unchanged. After any other result it is 0. If no server is made, the bytes are read once more, so
+/// If the bytes are not such a journal, `number` goes with the fault, as `mold.h` states, or is 0. If the handle is not
+/// empty, `number` is unchanged; after any other result it is 0. If no server is made, the bytes are read once more, so
 /// a fault of the bytes is reported even if an allocation failed.
 #[unsafe(no_mangle)]
 pub extern "C" fn mold_server_new(
