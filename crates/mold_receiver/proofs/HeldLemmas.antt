@@ -9,7 +9,7 @@ use Rattle.mold_receiver.specs.declared.place.Place.{Place}
 use Rattle.mold_receiver.specs.declared.segment.Segment.{Segment}
 use Rattle.mold_receiver.specs.declared.segments.Segments.{Segments}
 use Rattle.mold_receiver.specs.declared.shelf.Shelf.{Shelf}
-use Rattle.mold_receiver.specs.Places.{count_in, places_of}
+use Rattle.mold_receiver.specs.Places.{count_in}
 use Rattle.mold_receiver.specs.Segments.{live_of, one_at}
 use Rattle.mold_receiver.specs.Shelf.{IsKept, slots_in, slots_on}
 use Rattle.mold_receiver.specs.Slots.{count_held}
@@ -105,7 +105,7 @@ pub segments_few : (shelf : Shelf) → IsKept shelf →
 segments_few shelf kept =
     let table = shelf.segments.table in
     let current = shelf.segments.current in
-    let places = places_of shelf.ring.items in
+    let places = shelf.ring in
     let f : ℕ → ℕ = λ key. count_in key places + current_at current key in
     let each : (i : ℕ) (segment : Segment) → slice_index_or table.slots i None ≡ Some segment → 0 < f (0 + i) =
     λ i segment is.

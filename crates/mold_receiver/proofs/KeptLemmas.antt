@@ -5,12 +5,11 @@ use Rattle.std.specs.Prelude.{Option, None, Some, is_some, is_none}
 use Rattle.std.specs.Option.{option_map}
 use Rattle.std.proofs.lemmas.Bool.{and_parts, ltb-true}
 use Rattle.std.proofs.lemmas.List.{append-nil, map-set, length-map}
-use Rattle.circular_buffer.specs.Buffer.{Buffer}
 use Rattle.mold_receiver.specs.declared.place.Place.{Place}
 use Rattle.mold_receiver.specs.declared.segments.Segments.{Segments}
 use Rattle.mold_receiver.specs.declared.shelf.Shelf.{Shelf}
 use Rattle.mold_receiver.specs.Keeping.{is_fresh}
-use Rattle.mold_receiver.specs.Places.{IsBlockAt, count_in, place_at, places_of}
+use Rattle.mold_receiver.specs.Places.{IsBlockAt, count_in, place_at}
 use Rattle.mold_receiver.specs.Segments.{AreMore, AreSegments, HasGained, HasLost, bytes_at, live_at, one_at}
 use Rattle.mold_receiver.specs.Shelf.{AreBlocksAt, IsKept, message_on, slots_in, slots_on}
 use Rattle.mold_receiver.specs.Slots.{AreSlots, Slot, count_held, slot_at}
@@ -22,7 +21,7 @@ use Rattle.mold_receiver.proofs.StoreLemmas.{none_some}
 
 -- The places of a shelf.
 abbrev pub places_on : Shelf → List (Option Place)
-places_on shelf = places_of shelf.ring.items
+places_on shelf = shelf.ring
 
 -- Segments with a stored message keep their bytes, and blocks may be appended to them.
 has_more : (old : Shelf) (new : Segments) → IsKept old → AreMore old.segments new →
@@ -38,7 +37,7 @@ more_on old new kept more =
 pub kept_more : (old : Shelf) (new : Segments) → IsKept old → AreSegments new → AreMore old.segments new →
     IsKept (record old { segments = new })
 kept_more old new kept are more = record {
-  slots = subst (λ (t : List Slot). AreSlots t old.ring.capacity old.held old.occupied)
+  slots = subst (λ (t : List Slot). AreSlots t old.held old.occupied)
       (sym (more_on old new kept more)) kept.slots;
   segments = are;
   within = within_more old.segments new (places_on old) kept.within (has_more old new kept more);
@@ -79,25 +78,25 @@ fresh_there old slot free =
       length-map (places_on old) (option_map (message_on old.segments)),
     )
 
-pub kept_put : (old : Shelf) (ring : Buffer Place) (segments : Segments) (slot : ℕ) (place : Place) (occupied : List Bool) →
-    IsKept old → places_of ring.items ≡ slice_set (places_on old) slot (Some place)
-    → ring.capacity ≡ old.ring.capacity → AreSegments segments → HasGained old.segments segments place.segment
+pub kept_put : (old : Shelf) (ring : List (Option Place)) (segments : Segments) (slot : ℕ) (place : Place) (occupied : List Bool) →
+    IsKept old → ring ≡ slice_set (places_on old) slot (Some place)
+    → AreSegments segments → HasGained old.segments segments place.segment
     → is_fresh (slots_on old) slot ≡ true → IsBlockAt (bytes_at old.segments place.segment) place.start
     → occupied ≡ slice_set old.occupied slot true
     → IsKept (record { ring = ring; occupied = occupied; segments = segments; held = old.held + 1 })
-kept_put old ring segments slot place occupied kept is size are gained free block flags =
+kept_put old ring segments slot place occupied kept is are gained free block flags =
     let slots = slots_on old in
     let parts = and_parts _ (is_none (slot_at slots slot)) free in
     let there : slot < length slots = ltb-true slot (length slots) parts.0 in
     let empty : slot_at slots slot ≡ None = none_of (slot_at slots slot) parts.1 in
     let inside : slot < length (places_on old) = fresh_there old slot free in
     let message = message_on old.segments place in
-    let new : slots_in segments (places_of ring.items) ≡ slice_set slots slot (Some message) =
-    put_on old segments (places_of ring.items) slot place kept gained block inside is in
+    let new : slots_in segments ring ≡ slice_set slots slot (Some message) =
+    put_on old segments ring slot place kept gained block inside is in
     let set = slice_set (places_on old) slot (Some place) in
     record {
-      slots = rw (new, size, flags)
-          (are_put slots old.ring.capacity old.held old.occupied slot message kept.slots there empty);
+      slots = rw (new, flags)
+          (are_put slots old.held old.occupied slot message kept.slots there empty);
       segments = are;
       within = subst (λ (t : List (Option Place)). AreBlocksAt segments t) (sym is)
           (within_more old.segments segments set
@@ -121,48 +120,46 @@ moved_on old segments places is within has =
     ∙ moved_view (message_on old.segments) (places_on old)
 
 -- The state after the slots moved by one.
-pub record HasMoved (old : Shelf) (ring : Buffer Place) (segments : Segments) : Type 0 where
-  pub moved : places_of ring.items ≡ drop 1 (places_on old) ++ None ∷ []
-  pub size : ring.capacity ≡ old.ring.capacity
+pub record HasMoved (old : Shelf) (ring : List (Option Place)) (segments : Segments) : Type 0 where
+  pub moved : ring ≡ drop 1 (places_on old) ++ None ∷ []
   pub whole : AreSegments segments
-  pub has : HasOld old.segments segments (places_of ring.items)
-  pub live : (key : ℕ) → live_at segments key ≡ count_in key (places_of ring.items)
+  pub has : HasOld old.segments segments ring
+  pub live : (key : ℕ) → live_at segments key ≡ count_in key ring
 
-within_after : (old : Shelf) (ring : Buffer Place) (segments : Segments) → IsKept old → HasMoved old ring segments →
-    AreBlocksAt old.segments (places_of ring.items)
+within_after : (old : Shelf) (ring : List (Option Place)) (segments : Segments) → IsKept old → HasMoved old ring segments →
+    AreBlocksAt old.segments ring
 within_after old ring segments kept moved =
     subst (λ (t : List (Option Place)). AreBlocksAt old.segments t) (sym moved.moved)
     (within_moved old.segments (places_on old) kept.within)
 
-pub moved_slots : (old : Shelf) (ring : Buffer Place) (segments : Segments) → IsKept old → HasMoved old ring segments →
-    slots_in segments (places_of ring.items) ≡ drop 1 (slots_on old) ++ None ∷ []
+pub moved_slots : (old : Shelf) (ring : List (Option Place)) (segments : Segments) → IsKept old → HasMoved old ring segments →
+    slots_in segments ring ≡ drop 1 (slots_on old) ++ None ∷ []
 moved_slots old ring segments kept moved =
-    moved_on old segments (places_of ring.items) moved.moved (within_after old ring segments kept moved) moved.has
+    moved_on old segments ring moved.moved (within_after old ring segments kept moved) moved.has
 
-pub kept_moved : (old : Shelf) (ring : Buffer Place) (segments : Segments) (held : ℕ) (occupied : List Bool) → IsKept old →
+pub kept_moved : (old : Shelf) (ring : List (Option Place)) (segments : Segments) (held : ℕ) (occupied : List Bool) → IsKept old →
     HasMoved old ring segments → held ≡ old.held - cond (is_some (slot_at (slots_on old) 0)) 1 0 →
     occupied ≡ drop 1 old.occupied ++ false ∷ [] →
     IsKept (record { ring = ring; occupied = occupied; segments = segments; held = held })
 kept_moved old ring segments held occupied kept moved counted flags =
     let slots = slots_on old in
     record {
-      slots = rw (moved_slots old ring segments kept moved, moved.size, counted, flags)
-          (are_moved slots old.ring.capacity old.held old.occupied kept.slots);
+      slots = rw (moved_slots old ring segments kept moved, counted, flags)
+          (are_moved slots old.held old.occupied kept.slots);
       segments = moved.whole;
-      within = within_more old.segments segments (places_of ring.items) (within_after old ring segments kept moved)
+      within = within_more old.segments segments ring (within_after old ring segments kept moved)
           moved.has;
       live = moved.live;
     }
 
 -- The first slot was empty.
-pub moved_none : (old : Shelf) (ring : Buffer Place) → IsKept old →
-    places_of ring.items ≡ drop 1 (places_on old) ++ None ∷ [] → ring.capacity ≡ old.ring.capacity
+pub moved_none : (old : Shelf) (ring : List (Option Place)) → IsKept old →
+    ring ≡ drop 1 (places_on old) ++ None ∷ []
     → place_at (places_on old) 0 ≡ None → HasMoved old ring old.segments
-moved_none old ring kept is size first = record {
+moved_none old ring kept is first = record {
   moved = is;
-  size = size;
   whole = kept.segments;
-  has = has_same old.segments old.segments (places_of ring.items) (λ key. refl);
+  has = has_same old.segments old.segments ring (λ key. refl);
   live = λ key. kept.live key ∙ sym (count_moved_none (places_on old) key first) ∙ ap (count_in key) (sym is);
 }
 
@@ -175,23 +172,22 @@ count_after_none old first =
     same ∙ ap (λ (o : Option Message). old.held - cond (is_some o) 1 0) (sym none)
 
 -- The first slot had a message.
-pub moved_some : (old : Shelf) (ring : Buffer Place) (segments : Segments) (place : Place) → IsKept old →
-    places_of ring.items ≡ drop 1 (places_on old) ++ None ∷ [] → ring.capacity ≡ old.ring.capacity
+pub moved_some : (old : Shelf) (ring : List (Option Place)) (segments : Segments) (place : Place) → IsKept old →
+    ring ≡ drop 1 (places_on old) ++ None ∷ []
     → place_at (places_on old) 0 ≡ Some place → AreSegments segments
     → HasLost old.segments segments place.segment → HasMoved old ring segments
-moved_some old ring segments place kept is size first are lost =
-    let live : (key : ℕ) → live_at segments key ≡ count_in key (places_of ring.items) = λ key.
+moved_some old ring segments place kept is first are lost =
+    let live : (key : ℕ) → live_at segments key ≡ count_in key ring = λ key.
     lost.live key
     ∙ ap (λ (n : ℕ). n - one_at place.segment key) (kept.live key)
     ∙ sym (count_moved_some (places_on old) place key first)
     ∙ ap (count_in key) (sym is) in
     record {
       moved = is;
-      size = size;
       whole = are;
       has = λ i p at. (
         [],
-        lost.bytes p.segment (omega (arith, live p.segment, count_some (places_of ring.items) i p at))
+        lost.bytes p.segment (omega (arith, live p.segment, count_some ring i p at))
             ∙ sym (append-nil (bytes_at old.segments p.segment)),
       );
       live = live;
@@ -225,21 +221,21 @@ first_held old place kept first = (
 )
 
 -- All slots are empty, and no segment has a message.
-pub new_on : (ring : Buffer Place) (segments : Segments) (window : ℕ) →
-    places_of ring.items ≡ replicate window None → slots_in segments (places_of ring.items) ≡ replicate window None
+pub new_on : (ring : List (Option Place)) (segments : Segments) (window : ℕ) →
+    ring ≡ replicate window None → slots_in segments ring ≡ replicate window None
 new_on ring segments window is = ap (slots_in segments) is ∙ empty_view (message_on segments) window
 
-pub kept_new : (ring : Buffer Place) (occupied : List Bool) (segments : Segments) (window : ℕ) → 0 < window → window ≤ 65536 →
-    places_of ring.items ≡ replicate window None → ring.capacity ≡ window → AreSegments segments →
+pub kept_new : (ring : List (Option Place)) (occupied : List Bool) (segments : Segments) (window : ℕ) → 0 < window → window ≤ 65536 →
+    ring ≡ replicate window None → AreSegments segments →
     ((key : ℕ) → live_at segments key ≡ 0) →
     occupied ≡ replicate window false →
     IsKept (record { ring = ring; occupied = occupied; segments = segments; held = 0 })
-kept_new ring occupied segments window some few is size are none flags = record {
-  slots = rw (new_on ring segments window is, size, flags) (are_empty window some few);
+kept_new ring occupied segments window some few is are none flags = record {
+  slots = rw (new_on ring segments window is, flags) (are_empty window some few);
   segments = are;
   within = λ i place at. absurd (omega (
     arith,
-    count_some (places_of ring.items) i place at,
+    count_some ring i place at,
     ap (count_in place.segment) is,
     count_none window place.segment,
   ));

@@ -1,8 +1,9 @@
 pub mod StoreLemmas
 pub mod SlotLemmas
 pub mod OccupiedLemmas
+pub mod RingLemmas
 pub mod OccupiedRingLemmas
-pub mod RuleLemmas
+mod RuleLemmas
 pub mod CaseLemmas
 pub mod BatchLemmas
 pub mod KeepLemmas

@@ -268,15 +268,74 @@ module _ (old new : Levels) (are : AreLevels old) where
     one = top ∙ are.one;
   }
 
--- The levels after bit `i` is set.
-pub levels_set : (old new : Levels) (i : ℕ) → AreLevels old → Writes old.bits.items new.bits.items i 1 →
-    Writes old.words.items new.words.items (i / 64) 1 → Writes old.groups.items new.groups.items (i / 64 / 64) 1 →
-    Writes old.top new.top (i / 64 / 64 / 64) 1 → AreLevels new
-levels_set old new i are bits words groups top =
-    levels_kept old new are bits.size words.size groups.size top.size
-    (summary_set old.bits.items new.bits.items old.words.items i are.words new.words.items bits words)
-    (summary_set old.words.items new.words.items old.groups.items (i / 64) are.groups new.groups.items words groups)
-    (summary_set old.groups.items new.groups.items old.top (i / 64 / 64) are.top new.top groups top)
+-- Bit `i` is set, and `first` is whether its word had no set bit before.
+pub record Sets (old new : List ℕ) (i : ℕ) (first : Bool) : Type 0 where
+  pub writes : Writes old new i 1
+  pub told : first ≡ eqb (get_or old (i / 64) 0) 0
+
+pub sets_in : (v : Vec ℕ Global) {old new : List ℕ} {i : ℕ} {first : Bool} → old ≡ v.items → length old ≡ v.len →
+    Sets old new i first → Sets v.items (with_items v new).items i first
+sets_in v {old} {new} {i} {first} same long sets =
+    let now : (with_items v new).items ≡ new = with_items_is v new (sets.writes.size ∙ long) in
+    subst (λ (t : List ℕ). Sets v.items t i first) (sym now)
+    (subst (λ (t : List ℕ). Sets t new i first) same sets)
+
+-- A word that had a set bit before has its bit in the level above.
+summary_same : (low next high : List ℕ) (i : ℕ) (first : Bool) → IsSummary low high → Sets low next i first →
+    first ≡ false → IsSummary next high
+summary_same low next high i first is sets some k =
+    elim (cases_eq k (i / 64)) [
+      | inl same ↦
+          rw same (omega (
+            arith,
+            is (i / 64),
+            word_some next i sets.writes.written,
+            eqb-false (get_or low (i / 64) 0) 0 (sym sets.told ∙ some),
+          ))
+      | inr other ↦ is k ∙ sym (ap (λ x. min 1 x) (sets.writes.words k other))
+    ]
+
+-- The levels after bit `i` is set, if its word had a set bit before, and if its word in the second or in the third
+-- level had one; and otherwise.
+module _ (old new : Levels) (i : ℕ) (are : AreLevels old) where
+  pub levels_set_1 : (first : Bool) → Sets old.bits.items new.bits.items i first → first ≡ false →
+      new.words ≡ old.words → new.groups ≡ old.groups → new.top ≡ old.top → AreLevels new
+  levels_set_1 first bits is_some words groups top =
+      levels_kept old new are bits.writes.size (ap (λ (v : Vec ℕ Global). length v.items) words)
+      (ap (λ (v : Vec ℕ Global). length v.items) groups) (ap (λ (t : List ℕ). length t) top)
+      (rw words (summary_same old.bits.items new.bits.items old.words.items i first are.words bits is_some))
+      (rw (words, groups) are.groups)
+      (rw (groups, top) are.top)
+
+  pub levels_set_2 : (second : Bool) → Writes old.bits.items new.bits.items i 1 →
+      Sets old.words.items new.words.items (i / 64) second → second ≡ false → new.groups ≡ old.groups →
+      new.top ≡ old.top → AreLevels new
+  levels_set_2 second bits words is_some groups top =
+      levels_kept old new are bits.size words.writes.size
+      (ap (λ (v : Vec ℕ Global). length v.items) groups) (ap (λ (t : List ℕ). length t) top)
+      (summary_set old.bits.items new.bits.items old.words.items i are.words new.words.items bits words.writes)
+      (rw groups (summary_same old.words.items new.words.items old.groups.items (i / 64) second are.groups words
+      is_some))
+      (rw (groups, top) are.top)
+
+  pub levels_set_3 : (third : Bool) → Writes old.bits.items new.bits.items i 1 →
+      Writes old.words.items new.words.items (i / 64) 1 →
+      Sets old.groups.items new.groups.items (i / 64 / 64) third → third ≡ false → new.top ≡ old.top → AreLevels new
+  levels_set_3 third bits words groups is_some top =
+      levels_kept old new are bits.size words.size groups.writes.size (ap (λ (t : List ℕ). length t) top)
+      (summary_set old.bits.items new.bits.items old.words.items i are.words new.words.items bits words)
+      (summary_set old.words.items new.words.items old.groups.items (i / 64) are.groups new.groups.items words
+      groups.writes)
+      (rw top (summary_same old.groups.items new.groups.items old.top (i / 64 / 64) third are.top groups is_some))
+
+  pub levels_set_4 : Writes old.bits.items new.bits.items i 1 → Writes old.words.items new.words.items (i / 64) 1 →
+      Writes old.groups.items new.groups.items (i / 64 / 64) 1 → Writes old.top new.top (i / 64 / 64 / 64) 1 →
+      AreLevels new
+  levels_set_4 bits words groups top =
+      levels_kept old new are bits.size words.size groups.size top.size
+      (summary_set old.bits.items new.bits.items old.words.items i are.words new.words.items bits words)
+      (summary_set old.words.items new.words.items old.groups.items (i / 64) are.groups new.groups.items words groups)
+      (summary_set old.groups.items new.groups.items old.top (i / 64 / 64) are.top new.top groups top)
 
 -- The levels after bit `i` is cleared, if its word keeps another set bit, and if its word in the second or in the third
 -- level does; and otherwise.

@@ -216,29 +216,27 @@ held_past slots flags most first same is past =
     (omega (arith, past, ap (λ (t : List Bool). length t) same, length-map slots is_some))
 
 -- The ring stays valid.
-pub are_moved : (slots : List Slot) (capacity count : ℕ) (flags : List Bool) → AreSlots slots capacity count flags →
-    AreSlots (drop 1 slots ++ None ∷ []) capacity (count - cond (is_some (slot_at slots 0)) 1 0)
+pub are_moved : (slots : List Slot) (count : ℕ) (flags : List Bool) → AreSlots slots count flags →
+    AreSlots (drop 1 slots ++ None ∷ []) (count - cond (is_some (slot_at slots 0)) 1 0)
     (drop 1 flags ++ false ∷ [])
-are_moved slots capacity count flags are =
+are_moved slots count flags are =
     let same : length (drop 1 slots ++ None ∷ []) ≡ length slots =
     omega (arith, are.some, length-append (drop 1 slots) (None ∷ []), length-drop 1 slots) in
     record {
       some = omega (arith, are.some, same);
       few = omega (arith, are.few, same);
-      full = same ∙ are.full;
       counted = ap (λ (n : ℕ). n - cond (is_some (slot_at slots 0)) 1 0) are.counted ∙ sym (count_moved slots);
       flagged = ap (λ (t : List Bool). drop 1 t ++ false ∷ []) are.flagged ∙ sym (flags_moved slots);
     }
 
-pub are_put : (slots : List Slot) (capacity count : ℕ) (flags : List Bool) (i : ℕ) (message : Message) →
-    AreSlots slots capacity count flags → i < length slots → slot_at slots i ≡ None →
-    AreSlots (slice_set slots i (Some message)) capacity (count + 1) (slice_set flags i true)
-are_put slots capacity count flags i message are within free =
+pub are_put : (slots : List Slot) (count : ℕ) (flags : List Bool) (i : ℕ) (message : Message) →
+    AreSlots slots count flags → i < length slots → slot_at slots i ≡ None →
+    AreSlots (slice_set slots i (Some message)) (count + 1) (slice_set flags i true)
+are_put slots count flags i message are within free =
     let same : length (slice_set slots i (Some message)) ≡ length slots = length-set slots i (Some message) in
     record {
       some = omega (arith, are.some, same);
       few = omega (arith, are.few, same);
-      full = same ∙ are.full;
       counted = ap (λ (n : ℕ). n + 1) are.counted
           ∙ sym (count_put slots i message within
           ∙ ap (λ (o : Slot). cond (is_some o) (count_held slots) (count_held slots + 1)) free);
@@ -257,13 +255,12 @@ put_past [] i slot past = refl
 put_past (s ∷ slots) zero slot past = absurd (omega arith)
 put_past (s ∷ slots) (suc i) slot past = ap (λ (t : List Slot). s ∷ t) (put_past slots i slot (omega arith))
 
-pub are_empty : (n : ℕ) → 0 < n → n ≤ 65536 → AreSlots (replicate n None) n 0 (replicate n false)
+pub are_empty : (n : ℕ) → 0 < n → n ≤ 65536 → AreSlots (replicate n None) 0 (replicate n false)
 are_empty n some few =
     let same : length (replicate {A = Slot} n None) ≡ n = length-replicate n None in
     record {
       some = omega (arith, same);
       few = omega (arith, same);
-      full = same;
       counted = sym (count_empty n);
       flagged = sym (flags_empty n);
     }

@@ -7,6 +7,7 @@ pub mod Batch
 pub mod Slots
 pub mod Occupied
 pub mod Places
+pub mod Ring
 pub mod Segments
 pub mod Shelf
 pub mod Keeping

@@ -4,6 +4,7 @@ use Rattle.std.specs.Prelude.{false, List, length, map, slice_index, slice_index
 use Rattle.std.specs.Int.{bit_at}
 use Rattle.std.specs.List.{range_with_len}
 use Rattle.mold_receiver.specs.declared.occupied.Levels.{Levels}
+use Rattle.mold_receiver.specs.Ring.{ring_in}
 
 -- The flag of a slot. It is false if the slot doesn't exist.
 abbrev pub flag_at : List Bool → ℕ → Bool
@@ -60,13 +61,9 @@ pub record AreLevels (levels : Levels) : Type 0 where
   pub top_fits : length levels.groups.items ≤ 64
   pub one : length levels.top ≡ 1
 
--- The bit that has the flag of a slot, in a ring of `count` bits whose first slot has the bit `head`.
-abbrev pub place_of : ℕ → ℕ → ℕ → ℕ
-place_of head count slot = if nat_lt (head + slot) count then head + slot else head + slot - count
-
--- The flags of such a ring, in the order of its slots.
-unfoldable pub flags_in : List ℕ → ℕ → ℕ → List Bool
-flags_in words head count = map (λ slot. nat_eq (bit_of words (place_of head count slot)) 1) (range_with_len 0 count)
+-- The flags of a ring of `count` bits whose first slot has the bit `head`, in the order of its slots.
+abbrev pub flags_in : List ℕ → ℕ → ℕ → List Bool
+flags_in words head count = ring_in (λ i. nat_eq (bit_of words i) 1) head count
 
 -- The fields of a ring of flags are consistent. Bits from bit `count` on are never set.
 pub record IsRing (levels : Levels) (head count : ℕ) : Type 0 where

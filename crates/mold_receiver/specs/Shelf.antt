@@ -3,7 +3,7 @@ use Rattle.std.specs.Prelude.{◌≡◌, ℕ, List, Option, Some}
 use Rattle.mold_receiver.specs.declared.place.Place.{Place}
 use Rattle.mold_receiver.specs.declared.segments.Segments.{Segments}
 use Rattle.mold_receiver.specs.declared.shelf.Shelf.{Shelf}
-use Rattle.mold_receiver.specs.Places.{IsBlockAt, count_in, message_in, place_at, places_of}
+use Rattle.mold_receiver.specs.Places.{IsBlockAt, count_in, message_in, place_at}
 use Rattle.mold_receiver.specs.Segments.{AreSegments, bytes_at, live_at}
 use Rattle.mold_receiver.specs.Slots.{Slot, AreSlots, slots_of}
 use Rattle.mold_receiver.specs.Store.{Message}
@@ -18,7 +18,7 @@ slots_in segments places = slots_of (message_on segments) places
 
 -- The slots that a shelf represents.
 abbrev pub slots_on : Shelf → List Slot
-slots_on shelf = slots_in shelf.segments (places_of shelf.ring.items)
+slots_on shelf = slots_in shelf.segments shelf.ring
 
 -- A whole block starts at each place.
 abbrev pub AreBlocksAt : Segments → List (Option Place) → Type 0
@@ -29,7 +29,7 @@ AreBlocksAt segments places =
 -- The fields of a shelf are consistent. Its slots match its counts. Its places are in its segments. A segment counts
 -- exactly the places that are in it.
 pub record IsKept (shelf : Shelf) : Type 0 where
-  pub slots : AreSlots (slots_on shelf) shelf.ring.capacity shelf.held shelf.occupied
+  pub slots : AreSlots (slots_on shelf) shelf.held shelf.occupied
   pub segments : AreSegments shelf.segments
-  pub within : AreBlocksAt shelf.segments (places_of shelf.ring.items)
-  pub live : (key : ℕ) → live_at shelf.segments key ≡ count_in key (places_of shelf.ring.items)
+  pub within : AreBlocksAt shelf.segments shelf.ring
+  pub live : (key : ℕ) → live_at shelf.segments key ≡ count_in key shelf.ring

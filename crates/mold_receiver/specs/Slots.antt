@@ -37,12 +37,11 @@ count_held (slot ∷ slots) = (if is_some slot then 1 else 0) + count_held slots
 abbrev pub flags_of : List Slot → List Bool
 flags_of slots = map is_some slots
 
--- The slots are those of a ring with this capacity, which is a valid window. `count` slots have a message, and the
+-- The number of slots is a valid window. `count` slots have a message, and the
 -- flags of these slots are set.
-pub record AreSlots (slots : List Slot) (capacity count : ℕ) (flags : List Bool) : Type 0 where
+pub record AreSlots (slots : List Slot) (count : ℕ) (flags : List Bool) : Type 0 where
   pub some : 0 < length slots
   pub few : length slots ≤ MAX_WINDOW
-  pub full : length slots ≡ capacity
   pub counted : count ≡ count_held slots
   pub flagged : flags ≡ flags_of slots
 

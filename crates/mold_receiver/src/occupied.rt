@@ -2,9 +2,10 @@
 
 ghost use Rattle.std.specs.Prelude.{◌≡◌, ℕ, ◌+◌, ◌*◌, ◌/◌, ◌^◌, ◌<◌, ◌≤◌, ◌++◌, ◌∷◌, [], length, drop, replicate};
 ghost use Rattle.std.specs.Prelude.{nat_eq, slice_index, slice_set, false, true, IfOk};
-ghost use Rattle.mold_receiver.specs.Occupied.{flag_at, bit_of, place_of, Writes, IsNext, IsNextInWord, IsNextSet};
+ghost use Rattle.mold_receiver.specs.Occupied.{flag_at, bit_of, Writes, IsNext, IsNextInWord, IsNextSet};
 ghost use Rattle.mold_receiver.specs.Occupied.{AreLevels, IsFirstSet};
 
+use crate::ring::ring_index;
 use std::alloc::{AllocError, Global};
 use std::marker::Model;
 
@@ -27,12 +28,15 @@ fn is_bit_set(words: &[u64], i: usize) -> bool
     (words[i / 64] >> (i % 64)) & 1 == 1
 }
 
-// Sets bit `i`.
-fn set_bit(words: &mut [u64], i: usize)
+// Sets bit `i`, and returns whether its word had no set bit before.
+fn set_bit(words: &mut [u64], i: usize) -> bool
     requires { i / 64 < length words.old }
-    ensures { Writes words.old words.new i 1 }
+    ensures set { Writes words.old words.new i 1 }
+    ensures first { result ≡ nat_eq (slice_index words.old (i / 64)) 0 }
 {
+    let first = words[i / 64] == 0;
     words[i / 64] |= 1 << (i % 64);
+    first
 }
 
 // Clears bit `i`, and returns whether its word has no set bit left.
@@ -107,9 +111,15 @@ impl Levels {
         ensures levels { AreLevels self.new }
         ensures set { Writes self.old.bits.items self.new.bits.items i 1 }
     {
-        set_bit(&mut self.bits, i);
-        set_bit(&mut self.words, i / 64);
-        set_bit(&mut self.groups, i / 64 / 64);
+        if !set_bit(&mut self.bits, i) {
+            return;
+        }
+        if !set_bit(&mut self.words, i / 64) {
+            return;
+        }
+        if !set_bit(&mut self.groups, i / 64 / 64) {
+            return;
+        }
         set_bit(&mut self.top, i / 64 / 64 / 64);
     }
 
@@ -190,15 +200,6 @@ impl Levels {
     }
 }
 
-// Returns the bit that has the flag of a slot.
-fn place(head: usize, count: usize, slot: usize) -> usize
-    requires { head + slot < 2 ^ 64 }
-    ensures { result ≡ place_of head count slot }
-{
-    let place = head + slot;
-    if place < count { place } else { place - count }
-}
-
 /// A ring of flags, one for each slot. It is allocated once, and takes little more than one bit for each flag. No call
 /// searches the flags: `first` reads at most 14 words, wherever the first set flag is.
 #[derive(Debug, Drop)]
@@ -250,7 +251,7 @@ impl Occupied {
         if slot >= self.count {
             return false;
         }
-        is_bit_set(&self.levels.bits, place(self.head, self.count, slot))
+        is_bit_set(&self.levels.bits, ring_index(self.head, self.count, slot))
     }
 
     /// Sets the flag of a slot.
@@ -258,7 +259,7 @@ impl Occupied {
         requires { slot < length self.old }
         ensures { self.new ≡ slice_set self.old slot true }
     {
-        self.levels.set(place(self.head, self.count, slot));
+        self.levels.set(ring_index(self.head, self.count, slot));
     }
 
     /// Drops the first flag and appends one that is not set. Returns the dropped flag.
@@ -268,7 +269,7 @@ impl Occupied {
         ensures first { result ≡ flag_at self.old 0 }
     {
         let first = self.levels.take(self.head);
-        self.head = place(self.head, self.count, 1);
+        self.head = ring_index(self.head, self.count, 1);
         first
     }
 

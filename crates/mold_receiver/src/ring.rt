@@ -1,60 +1,91 @@
 //! The ring of places. A slot is empty or has the place of its message.
 
-ghost use Rattle.std.specs.Prelude.{◌≡◌, ◌<◌, ◌≤◌, ◌++◌, ◌∷◌, [], length, drop, replicate, slice_set, IfOk, None, Some};
-ghost use Rattle.mold_receiver.specs.Places.{place_at, places_of};
+ghost use Rattle.std.specs.Prelude.{◌≡◌, ◌+◌, ◌<◌, ◌^◌, ◌++◌, ◌∷◌, [], length, drop, replicate, slice_set, IfOk, None, Some};
+ghost use Rattle.mold_receiver.specs.Places.{place_at};
+ghost use Rattle.mold_receiver.specs.Ring.{index_of};
 ghost use Rattle.mold_receiver.specs.declared.place.TheConstants.{NO_START};
 
 use crate::place::Place;
-use circular_buffer::HeapCircularBuffer;
 use std::alloc::{AllocError, Global};
+use std::marker::Model;
 
-/// Returns a ring of `window` empty slots.
-pub(crate) fn empty_ring(
-    alloc: Global,
-    window: u32,
-) -> Result<HeapCircularBuffer<Place>, AllocError>
-    ensures empty { IfOk result (λ ring. places_of ring.items ≡ replicate window None) }
-    ensures full { IfOk result (λ ring. ring.capacity ≡ window) }
+/// Returns the index of a slot in a ring of `count` items. The first slot has the index `head`, and the slots go on at
+/// index 0 after the last item.
+pub(crate) fn ring_index(head: usize, count: usize, slot: usize) -> usize
+    requires { head + slot < 2 ^ 64 }
+    ensures { result ≡ index_of head count slot }
 {
-    let mut ring = HeapCircularBuffer::with_capacity(alloc, window as usize)?;
-    for _ in 0..window {
-        ring.push_back(Place::none());
+    let index = head + slot;
+    if index < count { index } else { index - count }
+}
+
+/// A ring of slots. It is allocated once, and takes 8 bytes a slot. Its slots move without a copy.
+#[derive(Debug, Drop)]
+pub(crate) struct Ring {
+    places: Vec<Place>,
+    // The index of the first slot.
+    head: usize,
+}
+
+impl Model for Ring {
+    ghost use Rattle.std.specs.Prelude.{List, Option, ◌<◌, ◌^◌, length};
+    ghost use Rattle.mold_receiver.specs.declared.place.Place.{Place};
+    ghost use Rattle.mold_receiver.specs.Ring.{ring_of};
+
+    ghost Value = { List (Option Place) };
+
+    ghost view = { λ r. ring_of r.places.items r.head };
+
+    ghost invariant = { λ r. (r.head < length r.places.items) × (length r.places.items < 2 ^ 32) };
+}
+
+impl Ring {
+    /// Returns `window` empty slots.
+    pub(crate) fn new(alloc: Global, window: u32) -> Result<Ring, AllocError>
+        requires { 0 < window }
+        ensures { IfOk result (λ ring. ring ≡ replicate window None) }
+    {
+        let places = vec![in alloc; Place::none(); window as usize]?;
+        Ok(Ring { places, head: 0 })
     }
-    Ok(ring)
-}
 
-/// Drops the first slot, appends an empty one, and returns what was in the first.
-pub(crate) fn rotate(ring: &mut HeapCircularBuffer<Place>) -> Option<Place>
-    requires some { 0 < length ring.old.items }
-    requires full { length ring.old.items ≡ ring.old.capacity }
-    ensures moved { places_of ring.new.items ≡ drop 1 (places_of ring.old.items) ++ None ∷ [] }
-    ensures capacity { ring.new.capacity ≡ ring.old.capacity }
-    ensures first { result ≡ place_at (places_of ring.old.items) 0 }
-{
-    let first = place_in(ring, 0);
-    ring.pop_front();
-    ring.push_back(Place::none());
-    first
-}
-
-/// Returns the place in a slot, or `None` if the slot is empty or doesn't exist.
-pub(crate) fn place_in(ring: &HeapCircularBuffer<Place>, slot: usize) -> Option<Place>
-    ensures { result ≡ place_at (places_of ring.now.items) slot }
-{
-    match ring.get(slot) {
-        Some(place) => place.held(),
-        None => None,
+    /// Returns the number of slots.
+    pub(crate) fn len(&self) -> usize
+        ensures { result ≡ length self.now }
+    {
+        self.places.len()
     }
-}
 
-/// Writes a place into a slot.
-pub(crate) fn write(ring: &mut HeapCircularBuffer<Place>, slot: usize, place: Place)
-    requires there { slot < length ring.old.items }
-    requires some { place.start < NO_START }
-    ensures written { places_of ring.new.items ≡ slice_set (places_of ring.old.items) slot (Some place) }
-    ensures capacity { ring.new.capacity ≡ ring.old.capacity }
-{
-    if let Some(here) = ring.get_mut(slot) {
-        *here = place;
+    /// Returns the place in a slot, or `None` if the slot is empty or doesn't exist.
+    pub(crate) fn get(&self, slot: usize) -> Option<Place>
+        ensures { result ≡ place_at self.now slot }
+    {
+        let count = self.places.len();
+        if slot >= count {
+            return None;
+        }
+        self.places[ring_index(self.head, count, slot)].held()
+    }
+
+    /// Writes a place into a slot.
+    pub(crate) fn write(&mut self, slot: usize, place: Place)
+        requires there { slot < length self.old }
+        requires some { place.start < NO_START }
+        ensures { self.new ≡ slice_set self.old slot (Some place) }
+    {
+        let index = ring_index(self.head, self.places.len(), slot);
+        self.places[index] = place;
+    }
+
+    /// Drops the first slot, appends an empty one, and returns what was in the first.
+    pub(crate) fn rotate(&mut self) -> Option<Place>
+        requires { 0 < length self.old }
+        ensures moved { self.new ≡ drop 1 self.old ++ None ∷ [] }
+        ensures first { result ≡ place_at self.old 0 }
+    {
+        let first = self.places[self.head].held();
+        self.places[self.head] = Place::none();
+        self.head = ring_index(self.head, self.places.len(), 1);
+        first
     }
 }

@@ -14,10 +14,9 @@ ghost use Rattle.mold_wire.specs.declared.limits.TheConstants.{MAX_WINDOW};
 
 use crate::occupied::Occupied;
 use crate::place::Place;
-use crate::ring::{empty_ring, place_in, rotate, write};
+use crate::ring::Ring;
 use crate::segment::message_at;
 use crate::segments::Segments;
-use circular_buffer::HeapCircularBuffer;
 use std::alloc::{AllocError, Global};
 
 /// A ring with one slot for each number of a receiver's window. A slot is empty or has the place of a message. The
@@ -25,7 +24,7 @@ use std::alloc::{AllocError, Global};
 /// packet doesn't fit the current one, and given back when its last message is gone.
 #[derive(Debug, Drop)]
 pub(crate) struct Shelf {
-    ring: HeapCircularBuffer<Place>,
+    ring: Ring,
     // The slots that have a message.
     occupied: Occupied,
     segments: Segments,
@@ -42,7 +41,7 @@ impl Shelf {
         ensures empty { IfOk result (λ shelf. slots_on shelf ≡ replicate window None) }
     {
         Ok(Shelf {
-            ring: empty_ring(alloc, window)?,
+            ring: Ring::new(alloc, window)?,
             occupied: Occupied::new(alloc, window)?,
             segments: Segments::new(alloc)?,
             held: 0,
@@ -81,7 +80,7 @@ impl Shelf {
         requires { IsKept self.now }
         ensures { option_copied result ≡ slot_at (slots_on self.now) slot }
     {
-        match place_in(&self.ring, slot) {
+        match self.ring.get(slot) {
             Some(place) => Some(message_at(
                 self.segments.bytes(place.segment),
                 place.start as usize,
@@ -94,7 +93,7 @@ impl Shelf {
     pub(crate) fn has(&self, slot: usize) -> bool
         ensures { result ≡ is_some (slot_at (slots_on self.now) slot) }
     {
-        place_in(&self.ring, slot).is_some()
+        self.ring.get(slot).is_some()
     }
 
     /// Returns whether the slot exists and is empty.
@@ -129,7 +128,7 @@ impl Shelf {
         self.held += 1;
         self.occupied.set(slot);
         self.segments.hold(place.segment);
-        write(&mut self.ring, slot, place);
+        self.ring.write(slot, place);
     }
 
     /// Puts a message into a slot, if the slot exists and is empty, and returns whether it did. The message's block
@@ -158,7 +157,7 @@ impl Shelf {
         ensures moved { slots_on self.new ≡ drop 1 (slots_on self.old) ++ None ∷ [] }
     {
         self.occupied.advance();
-        match rotate(&mut self.ring) {
+        match self.ring.rotate() {
             Some(place) => {
                 self.held -= 1;
                 self.segments.let_go(place.segment);

@@ -5,7 +5,7 @@ use Rattle.mold_receiver.proofs.occupied.Occupied.advance.Goals as goal
 
 pub returns-clause-moved : goal.returns-clause-moved
 returns-clause-moved c =
-    ap (λ (p : ℕ). flags_in c.take-first.new.self.bits.items p c.self.inside.count) c.place-self-inside.ensures
+    ap (λ (p : ℕ). flags_in c.take-first.new.self.bits.items p c.self.inside.count) c.ring_index-self-inside.ensures
     ∙ flags_moved c.self.inside.levels.bits.items c.take-first.new.self.bits.items c.self.inside.head
     c.self.inside.count c.self.invariant.inside c.take-first.ensures.cleared
     ∙ ap (λ (t : List Bool). drop 1 t ++ false ∷ []) c.self.view_is

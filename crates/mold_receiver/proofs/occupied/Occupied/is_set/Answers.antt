@@ -12,8 +12,8 @@ returns-then-slot-self c =
 pub returns : goal.returns
 returns c =
     c.is_bit_set.ensures
-    ∙ ap (λ (t : List ℕ). eqb (bit_of t c.place.result) 1) c.deref.ensures.value
-    ∙ ap (λ (p : ℕ). eqb (bit_of c.self.inside.levels.bits.items p) 1) c.place.ensures
+    ∙ ap (λ (t : List ℕ). eqb (bit_of t c.ring_index.result) 1) c.deref.ensures.value
+    ∙ ap (λ (p : ℕ). eqb (bit_of c.self.inside.levels.bits.items p) 1) c.ring_index.ensures
     ∙ sym (flag_in c.self.inside.levels.bits.items c.self.inside.head c.self.inside.count c.args.slot
     c.if-slot-self.false)
     ∙ ap (λ (t : List Bool). flag_at t c.args.slot) c.self.view_is

@@ -18,17 +18,17 @@ hold-requires-clause-few c =
       c.requires.kept.slots.few,
       count_within (slots_on old),
       c.requires.kept.live c.args.place.segment,
-      count_held_in old.segments (places_of old.ring.items) c.args.place.segment,
+      count_held_in old.segments old.ring c.args.place.segment,
     )
 
 pub returns-clause-kept : goal.returns-clause-kept
 returns-clause-kept c =
-    kept_put c.args.self.now c.write.new.ring c.hold.new.self c.args.slot c.args.place c.set.new.self
-    c.requires.kept c.write.ensures.written c.write.ensures.capacity c.hold.ensures.whole c.hold.ensures.gained
+    kept_put c.args.self.now c.write.new.self c.hold.new.self c.args.slot c.args.place c.set.new.self
+    c.requires.kept c.write.ensures c.hold.ensures.whole c.hold.ensures.gained
     c.requires.free c.requires.there c.set.ensures
 
 pub returns-clause-marked : goal.returns-clause-marked
 returns-clause-marked c =
-    put_on c.args.self.now c.hold.new.self (places_of c.write.new.ring.items) c.args.slot c.args.place c.requires.kept
+    put_on c.args.self.now c.hold.new.self c.write.new.self c.args.slot c.args.place c.requires.kept
     c.hold.ensures.gained c.requires.there (fresh_there c.args.self.now c.args.slot c.requires.free)
-    c.write.ensures.written
+    c.write.ensures

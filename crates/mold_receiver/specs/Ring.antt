@@ -1,0 +1,17 @@
+-- Rings: lists whose first slot may be at any index.
+use Rattle.std.specs.Prelude.{ℕ, ◌+◌, ◌-◌, nat_lt, List, length, map, slice_index_or, Option, None, if◌then◌else◌}
+use Rattle.std.specs.List.{range_with_len}
+use Rattle.mold_receiver.specs.declared.place.Place.{Place}
+use Rattle.mold_receiver.specs.Places.{places_of}
+
+-- The index of a slot in a ring of `count` items whose first slot has the index `head`.
+abbrev pub index_of : ℕ → ℕ → ℕ → ℕ
+index_of head count slot = if nat_lt (head + slot) count then head + slot else head + slot - count
+
+-- The items of such a ring in the order of its slots, given the item at each index.
+unfoldable pub ring_in : {A : Type 0} → (ℕ → A) → ℕ → ℕ → List A
+ring_in item head count = map (λ slot. item (index_of head count slot)) (range_with_len 0 count)
+
+-- What the slots of a ring of places have. The first slot has the index `head`.
+abbrev pub ring_of : List Place → ℕ → List (Option Place)
+ring_of places head = ring_in (λ i. slice_index_or (places_of places) i None) head (length places)
