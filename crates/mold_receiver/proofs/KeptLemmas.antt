@@ -225,7 +225,7 @@ pub new_on : (ring : List (Option Place)) (segments : Segments) (window : ℕ) �
     ring ≡ replicate window None → slots_in segments ring ≡ replicate window None
 new_on ring segments window is = ap (slots_in segments) is ∙ empty_view (message_on segments) window
 
-pub kept_new : (ring : List (Option Place)) (occupied : List Bool) (segments : Segments) (window : ℕ) → 0 < window → window ≤ 65536 →
+pub kept_new : (ring : List (Option Place)) (occupied : List Bool) (segments : Segments) (window : ℕ) → 0 < window → window ≤ 1048576 →
     ring ≡ replicate window None → AreSegments segments →
     ((key : ℕ) → live_at segments key ≡ 0) →
     occupied ≡ replicate window false →

@@ -255,7 +255,7 @@ put_past [] i slot past = refl
 put_past (s ∷ slots) zero slot past = absurd (omega arith)
 put_past (s ∷ slots) (suc i) slot past = ap (λ (t : List Slot). s ∷ t) (put_past slots i slot (omega arith))
 
-pub are_empty : (n : ℕ) → 0 < n → n ≤ 65536 → AreSlots (replicate n None) 0 (replicate n false)
+pub are_empty : (n : ℕ) → 0 < n → n ≤ 1048576 → AreSlots (replicate n None) 0 (replicate n false)
 are_empty n some few =
     let same : length (replicate {A = Slot} n None) ≡ n = length-replicate n None in
     record {

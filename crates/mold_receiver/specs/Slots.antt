@@ -4,7 +4,7 @@ use Rattle.std.specs.Prelude.{slice_get, map, is_some, if◌then◌else◌}
 use Rattle.std.specs.FinMap as finite
 use Rattle.std.specs.Option.{option_flatten, option_map}
 use Rattle.mold_receiver.specs.Store.{Message, Store}
-use Rattle.mold_wire.specs.declared.limits.TheConstants.{MAX_WINDOW}
+use Rattle.mold_wire.specs.declared.limits.TheConstants.{MAX_WIDE_WINDOW}
 
 -- A slot, which is empty or has a message.
 abbrev pub Slot : Type 0
@@ -41,7 +41,7 @@ flags_of slots = map is_some slots
 -- flags of these slots are set.
 pub record AreSlots (slots : List Slot) (count : ℕ) (flags : List Bool) : Type 0 where
   pub some : 0 < length slots
-  pub few : length slots ≤ MAX_WINDOW
+  pub few : length slots ≤ MAX_WIDE_WINDOW
   pub counted : count ≡ count_held slots
   pub flagged : flags ≡ flags_of slots
 

@@ -6,7 +6,7 @@ use Rattle.std.specs.Ordering.{nat_cmp}
 use Rattle.mold_wire.specs.declared.session.Session.{Session}
 use Rattle.mold_receiver.specs.Slots.{Slot, store_of}
 use Rattle.mold_receiver.specs.Store.{Message, Store}
-use Rattle.mold_wire.specs.declared.limits.TheConstants.{MAX_WINDOW}
+use Rattle.mold_wire.specs.declared.limits.TheConstants.{MAX_WIDE_WINDOW, MAX_WINDOW}
 
 -- The model of a receiver: everything that its behavior depends on.
 pub record View : Type 0 where
@@ -70,6 +70,10 @@ view_over session next known ended slots =
           length slots;
     }
 
--- The window is valid: 1 to `MAX_WINDOW` messages.
+-- The window is valid for `Receiver::new`: 1 to `MAX_WINDOW` messages.
 abbrev pub IsWindow : ℕ → Type 0
 IsWindow window = (1 ≤ window) × (window ≤ MAX_WINDOW)
+
+-- The window is valid for `Receiver::wide`: 1 to `MAX_WIDE_WINDOW` messages. Each receiver has such a window.
+abbrev pub IsWideWindow : ℕ → Type 0
+IsWideWindow window = (1 ≤ window) × (window ≤ MAX_WIDE_WINDOW)

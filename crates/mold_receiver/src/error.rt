@@ -8,7 +8,7 @@ pub enum ReceiverError {
     /// The first number is 0. The first message of a session has number 1.
     #[error("the next message can't have number 0")]
     NextZero,
-    /// The window is not 1 to `MAX_WINDOW` messages.
+    /// The window is not 1 to `MAX_WINDOW` messages, or for `Receiver::wide` not 1 to `MAX_WIDE_WINDOW`.
     #[error("a window is 1 to 65,536 messages")]
     Window,
     /// The allocation of the window failed.

@@ -27,7 +27,7 @@ pub use error::ReceiverError;
 pub use line::{Line, LineReport};
 pub use mold_messages::PartIterator;
 pub use mold_rule::{Refusal, Refusal as Refused};
-pub use mold_wire::MAX_WINDOW;
+pub use mold_wire::{MAX_WIDE_WINDOW, MAX_WINDOW};
 pub use origin::Origin;
 pub use receiver::Receiver;
 pub use taken::Taken;

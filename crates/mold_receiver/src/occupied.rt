@@ -3,14 +3,12 @@
 ghost use Rattle.std.specs.Prelude.{◌≡◌, ℕ, ◌+◌, ◌*◌, ◌/◌, ◌^◌, ◌<◌, ◌≤◌, ◌++◌, ◌∷◌, [], length, drop, replicate};
 ghost use Rattle.std.specs.Prelude.{nat_eq, slice_index, slice_set, false, true, IfOk};
 ghost use Rattle.mold_receiver.specs.Occupied.{flag_at, bit_of, Writes, IsNext, IsNextInWord, IsNextSet};
+ghost use Rattle.mold_wire.specs.declared.limits.TheConstants.{MAX_WIDE_WINDOW};
 ghost use Rattle.mold_receiver.specs.Occupied.{AreLevels, IsFirstSet};
 
 use crate::ring::ring_index;
 use std::alloc::{AllocError, Global};
 use std::marker::Model;
-
-/// The most flags that a ring can have.
-pub(crate) const MAX_FLAGS: u32 = 1_048_576;
 
 // Returns how many words of 64 bits have `count` bits.
 fn words_for(count: usize) -> usize
@@ -88,7 +86,7 @@ struct Levels {
 impl Levels {
     // Returns at least `count` bits, none of which is set.
     fn new(alloc: Global, count: usize) -> Result<Levels, AllocError>
-        requires { count ≤ MAX_FLAGS }
+        requires { count ≤ MAX_WIDE_WINDOW }
         ensures levels { IfOk result (λ levels. AreLevels levels) }
         ensures room { IfOk result (λ levels. count ≤ 64 * length levels.bits.items) }
         ensures clear { IfOk result (λ levels. (i : ℕ) → bit_of levels.bits.items i ≡ 0) }
@@ -226,7 +224,7 @@ impl Occupied {
     /// Returns `count` flags, none of which is set.
     pub(crate) fn new(alloc: Global, count: u32) -> Result<Occupied, AllocError>
         requires some { 0 < count }
-        requires few { count ≤ MAX_FLAGS }
+        requires few { count ≤ MAX_WIDE_WINDOW }
         ensures { IfOk result (λ flags. flags ≡ replicate count false) }
     {
         let levels = Levels::new(alloc, count as usize)?;

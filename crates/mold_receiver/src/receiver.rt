@@ -16,7 +16,7 @@ ghost use Rattle.mold_receiver.specs.Receive.{HasTaken, HasTakenPacket, IsRefuse
 ghost use Rattle.mold_receiver.specs.Receive.{ended_after, handed_on, refusal, top_read};
 ghost use Rattle.mold_receiver.specs.Store.{first_conflict, from_next};
 ghost use Rattle.mold_receiver.specs.Wanted.{wanted};
-ghost use Rattle.mold_receiver.specs.View.{View, IsWellFormed, IsWindow, fresh};
+ghost use Rattle.mold_receiver.specs.View.{View, IsWellFormed, IsWideWindow, IsWindow, fresh};
 ghost use Rattle.mold_receiver.specs.declared.error.ReceiverError.TheVariants.{NextZero, Window, Memory};
 ghost use Rattle.mold_receiver.specs.declared.segments.TheConstants.{MAX_SPARE};
 ghost use Rattle.mold_rule.specs.Refusals.{end_below, past_end};
@@ -28,7 +28,7 @@ use crate::hand::hand_on;
 use crate::slots::Slots;
 use crate::taken::{Accepted, Taken};
 use mold_rule::{Refusal, check_header};
-use mold_wire::{Blocks, Body, MAX_COUNT, MAX_WINDOW, Packet, Request, Session, decode};
+use mold_wire::{Blocks, Body, MAX_COUNT, MAX_WIDE_WINDOW, MAX_WINDOW, Packet, Request, Session, decode};
 use std::alloc::{AllocError, Global};
 use std::marker::Model;
 
@@ -92,10 +92,30 @@ impl Receiver {
         ensures window { 0 < next → (IsWindow window → ⊥) → result ≡ Err Window }
         ensures memory { 0 < next → IsWindow window → IfErr result (λ error. error ≡ Memory) }
     {
+        if next > 0 && window > MAX_WINDOW {
+            return Err(ReceiverError::Window);
+        }
+        Receiver::wide(alloc, session, next, window)
+    }
+
+    /// Returns a receiver as `new` does, but with a window of up to `MAX_WIDE_WINDOW` messages. The window takes some 8
+    /// bytes for each of them.
+    pub fn wide(
+        alloc: Global,
+        session: Session,
+        next: u64,
+        window: u32,
+    ) -> Result<Receiver, ReceiverError>
+        ensures made { IfOk result (λ receiver. receiver ≡ fresh session next window) }
+        ensures ok { OnOk result ((0 < next) × IsWideWindow window) }
+        ensures zero { next ≡ 0 → result ≡ Err NextZero }
+        ensures window { 0 < next → (IsWideWindow window → ⊥) → result ≡ Err Window }
+        ensures memory { 0 < next → IsWideWindow window → IfErr result (λ error. error ≡ Memory) }
+    {
         if next == 0 {
             return Err(ReceiverError::NextZero);
         }
-        if window == 0 || window > MAX_WINDOW {
+        if window == 0 || window > MAX_WIDE_WINDOW {
             return Err(ReceiverError::Window);
         }
         match Slots::new(alloc, window) {
@@ -338,10 +358,10 @@ impl Receiver {
         self.slots.segments()
     }
 
-    /// Returns the window, 1 to `MAX_WINDOW`: the receiver stores messages with numbers below `next` plus the window.
+    /// Returns the window, 1 to `MAX_WIDE_WINDOW`: the receiver stores messages with numbers below `next` plus the window.
     pub fn window(&self) -> u32
         ensures window { result ≡ self.now.window }
-        ensures range { IsWindow self.now.window }
+        ensures range { IsWideWindow self.now.window }
     {
         self.slots.len() as u32
     }

@@ -10,7 +10,7 @@ ghost use Rattle.mold_receiver.specs.Shelf.{IsKept, message_on, slots_on};
 ghost use Rattle.mold_receiver.specs.Slots.{slot_at, count_held, IsFirstHeld};
 ghost use Rattle.mold_receiver.specs.declared.place.TheConstants.{NO_START};
 ghost use Rattle.mold_receiver.specs.declared.segments.TheConstants.{MAX_SPARE};
-ghost use Rattle.mold_wire.specs.declared.limits.TheConstants.{MAX_WINDOW};
+ghost use Rattle.mold_wire.specs.declared.limits.TheConstants.{MAX_WIDE_WINDOW};
 
 use crate::occupied::Occupied;
 use crate::place::Place;
@@ -36,7 +36,7 @@ impl Shelf {
     /// Returns `window` empty slots and no segments.
     pub(crate) fn new(alloc: Global, window: u32) -> Result<Shelf, AllocError>
         requires some { 0 < window }
-        requires few { window ≤ MAX_WINDOW }
+        requires few { window ≤ MAX_WIDE_WINDOW }
         ensures kept { IfOk result (λ shelf. IsKept shelf) }
         ensures empty { IfOk result (λ shelf. slots_on shelf ≡ replicate window None) }
     {
@@ -52,7 +52,7 @@ impl Shelf {
     pub(crate) fn len(&self) -> usize
         requires { IsKept self.now }
         ensures length { result ≡ length (slots_on self.now) }
-        ensures range { (0 < length (slots_on self.now)) × (length (slots_on self.now) ≤ MAX_WINDOW) }
+        ensures range { (0 < length (slots_on self.now)) × (length (slots_on self.now) ≤ MAX_WIDE_WINDOW) }
     {
         self.ring.len()
     }

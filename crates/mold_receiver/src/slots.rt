@@ -5,7 +5,7 @@ ghost use Rattle.std.specs.Option.{option_copied};
 ghost use Rattle.mold_receiver.specs.Keeping.{filled, fresh};
 ghost use Rattle.mold_receiver.specs.Slots.{slot_at, count_held, IsFirstHeld};
 ghost use Rattle.mold_receiver.specs.declared.segments.TheConstants.{MAX_SPARE};
-ghost use Rattle.mold_wire.specs.declared.limits.TheConstants.{MAX_WINDOW};
+ghost use Rattle.mold_wire.specs.declared.limits.TheConstants.{MAX_WIDE_WINDOW};
 ghost use Rattle.mold_wire.specs.declared.header.TheConstants.{END_OF_SESSION};
 
 use crate::keep::keep_fresh;
@@ -41,7 +41,7 @@ impl Slots {
     /// Returns `window` empty slots.
     pub(crate) fn new(alloc: Global, window: u32) -> Result<Slots, AllocError>
         requires some { 0 < window }
-        requires few { window ≤ MAX_WINDOW }
+        requires few { window ≤ MAX_WIDE_WINDOW }
         ensures { IfOk result (λ slots. slots ≡ replicate window None) }
     {
         let shelf = Shelf::new(alloc, window)?;
@@ -51,7 +51,7 @@ impl Slots {
     /// Returns the number of slots.
     pub(crate) fn len(&self) -> usize
         ensures length { result ≡ length self.now }
-        ensures range { (0 < length self.now) × (length self.now ≤ MAX_WINDOW) }
+        ensures range { (0 < length self.now) × (length self.now ≤ MAX_WIDE_WINDOW) }
     {
         self.shelf.len()
     }

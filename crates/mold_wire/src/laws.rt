@@ -16,7 +16,7 @@ ghost use Rattle.mold_wire.specs.declared.error.RequestError.{RequestError};
 ghost use Rattle.mold_wire.specs.declared.block.TheConstants.{MAX_MESSAGE};
 ghost use Rattle.mold_wire.specs.declared.header.TheConstants.{END_OF_SESSION, HEADER_LENGTH};
 ghost use Rattle.mold_wire.specs.declared.limits.TheConstants.{MAX_COUNT, MAX_LIMIT, MAX_NUMBER, MESSAGE_OVERHEAD};
-ghost use Rattle.mold_wire.specs.declared.limits.TheConstants.{MAX_BURST, MAX_WINDOW, MIN_LIMIT};
+ghost use Rattle.mold_wire.specs.declared.limits.TheConstants.{MAX_BURST, MAX_WIDE_WINDOW, MAX_WINDOW, MIN_LIMIT};
 ghost use Rattle.mold_wire.specs.declared.packet.Body.TheVariants.{Data};
 ghost use Rattle.mold_wire.specs.declared.packet.Packet.{Packet};
 ghost use Rattle.mold_wire.specs.declared.request.Request.{Request};
@@ -31,7 +31,7 @@ pub fn constants_law()
     ensures count { MAX_COUNT ≡ 65534 }
     ensures number { MAX_NUMBER ≡ 18446744073709551615 }
     ensures limits { (MIN_LIMIT ≡ 64) × (MAX_LIMIT ≡ 65507) }
-    ensures window { MAX_WINDOW ≡ 65536 }
+    ensures window { (MAX_WINDOW ≡ 65536) × (MAX_WIDE_WINDOW ≡ 1048576) }
     ensures burst { MAX_BURST ≡ 64 }
 {}
 

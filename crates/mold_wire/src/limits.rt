@@ -20,8 +20,11 @@ pub const MAX_COUNT: u16 = END_OF_SESSION - 1;
 /// The greatest value of a sequence number field. A 64-bit counter that would exceed it stays at this value.
 pub const MAX_NUMBER: u64 = u64::MAX;
 
-/// The greatest window of a receiver, in messages.
+/// The greatest window of a receiver that `Receiver::new` makes, in messages.
 pub const MAX_WINDOW: u32 = 65536;
+
+/// The greatest window of a receiver that `Receiver::wide` makes, in messages.
+pub const MAX_WIDE_WINDOW: u32 = 1_048_576;
 
 /// The greatest number of datagrams that a server sends for one request.
 pub const MAX_BURST: u16 = 64;

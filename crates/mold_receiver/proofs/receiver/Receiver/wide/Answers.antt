@@ -3,7 +3,7 @@ use Rattle.std.proofs.lemmas.List.{length-replicate}
 use Rattle.mold_receiver.specs.Slots.{Slot}
 use Rattle.mold_receiver.specs.View.{IsWellFormed, view_over}
 use Rattle.mold_receiver.proofs.ViewLemmas.{empty_store, fresh_well}
-use Rattle.mold_receiver.proofs.receiver.Receiver.new.Goals as goal
+use Rattle.mold_receiver.proofs.receiver.Receiver.wide.Goals as goal
 
 pub invariant_of-result : goal.invariant_of-result
 invariant_of-result c =
