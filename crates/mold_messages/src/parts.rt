@@ -1,7 +1,7 @@
 //! A list of messages in a buffer whose bytes are copied in larger pieces.
 
-ghost use Rattle.std.specs.Prelude.{◌≡◌, ◌+◌, ◌-◌, ◌<◌, ◌≤◌, ◌^◌, ◌++◌, ◌∷◌, [], length, take, drop, slice_get, IfOk};
-ghost use Rattle.std.specs.Prelude.{OnOk, OnErr, ◌==◌};
+ghost use Rattle.std.specs.Prelude.{◌≡◌, ◌+◌, ◌-◌, ◌<◌, ◌≤◌, ◌^◌, ◌++◌, ◌∷◌, [], length, take, drop, slice_get, IfOk, min};
+ghost use Rattle.std.specs.Prelude.{OnOk, OnErr, ◌==◌, if◌then◌else◌};
 ghost use Rattle.std.specs.Option.{option_copied};
 ghost use Rattle.mold_messages.specs.Parts.{end_of};
 
@@ -20,6 +20,24 @@ fn end_after(spans: &[(usize, usize)]) -> usize
     }
 }
 
+// Room that a list lacked: a number of messages, and a number of bytes.
+#[derive(Clone, Copy, Debug)]
+struct Room {
+    messages: usize,
+    bytes: usize,
+}
+
+// Returns how much one more than `room` is beyond `used`, or 0 if nothing is lacking.
+fn room_beyond(is_lacking: bool, room: usize, used: usize) -> usize
+    ensures { result ≡ (if is_lacking then min (room + 1) (2 ^ 64 - 1) - used else 0) }
+{
+    if is_lacking {
+        room.saturating_add(1).saturating_sub(used)
+    } else {
+        0
+    }
+}
+
 /// Messages of any lengths as parts of one buffer, in order, with other bytes between them. The bytes of many
 /// messages are copied at once, and each message is then marked where it is. A message takes its bytes and 16
 /// more for the two offsets. The list keeps its memory until it is dropped.
@@ -28,6 +46,8 @@ pub struct PartList {
     // The offsets at which each message starts and ends in the bytes.
     spans: Vec<(usize, usize)>,
     bytes: Vec<u8>,
+    // The room that was lacking when `take_back` was last called.
+    lacking: Room,
 }
 
 impl Model for PartList {
@@ -49,6 +69,10 @@ impl PartList {
         PartList {
             spans: Vec::new(alloc),
             bytes: Vec::new(alloc),
+            lacking: Room {
+                messages: 0,
+                bytes: 0,
+            },
         }
     }
 
@@ -149,6 +173,29 @@ impl PartList {
         self.spans.truncate(keep);
         let end = end_after(&self.spans);
         self.bytes.truncate(end);
+    }
+
+    /// Discards messages as `truncate` does, after a call that failed for memory. The list remembers how much room that
+    /// call lacked at least, so that `make_room` can ask for it first.
+    pub fn take_back(&mut self, keep: usize)
+        ensures messages { self.new.messages ≡ take keep self.old.messages }
+        ensures bytes { self.new.bytes ≡ take self.new.end self.old.bytes }
+    {
+        let is_full = self.spans.len() == self.spans.capacity();
+        self.truncate(keep);
+        self.lacking = Room {
+            messages: room_beyond(is_full, self.spans.capacity(), self.spans.len()),
+            bytes: room_beyond(!is_full, self.bytes.capacity(), self.bytes.len()),
+        };
+    }
+
+    /// Makes the room that was lacking when `take_back` was last called. It fails if an allocation fails. The messages
+    /// and bytes are unchanged.
+    pub fn make_room(&mut self) -> Result<(), AllocError>
+        ensures { self.new ≡ self.old }
+    {
+        self.spans.reserve(self.lacking.messages)?;
+        self.bytes.reserve(self.lacking.bytes)
     }
 
     /// Removes all messages and bytes and keeps the allocated room.

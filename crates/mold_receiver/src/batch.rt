@@ -22,6 +22,8 @@ pub struct Batch {
     // The number of the first message, if there is one.
     first: u64,
     list: PartList,
+    // The number from which a run was last refused for memory, or 0.
+    refused: u64,
 }
 
 impl Model for Batch {
@@ -43,6 +45,7 @@ impl Batch {
         Batch {
             first: 0,
             list: PartList::new(alloc),
+            refused: 0,
         }
     }
 
@@ -121,6 +124,26 @@ impl Batch {
             None => true,
             Some(after) => after == next,
         }
+    }
+
+    /// Makes room for the run from `next` on, if `take_back` was last called for it. Returns an error if an allocation
+    /// fails. So a run that was refused for memory isn't copied again while its room is lacking.
+    #[inline(always)]
+    pub(crate) fn make_room(&mut self, next: u64) -> Result<(), AllocError>
+        ensures { self.new ≡ self.old }
+    {
+        if self.refused == next {
+            self.list.make_room()?;
+        }
+        Ok(())
+    }
+
+    /// Keeps the first `keep` messages, after the run from `next` on was refused for memory.
+    pub(crate) fn take_back(&mut self, keep: usize, next: u64)
+        ensures { self.new ≡ handed_from self.old.first (take keep self.old.messages) }
+    {
+        self.refused = next;
+        self.list.take_back(keep);
     }
 
     /// Appends the message with the number `next`. Returns an error if an allocation fails.

@@ -131,10 +131,11 @@ pub(crate) fn hand_on(
         (λ after. HasHandedOn batch.old batch.new next (run_of slots.now next first top blocks.now) after) }
     ensures same { OnErr result (batch.new ≡ batch.old) }
 {
+    batch.make_room(next)?;
     let before = batch.len();
     let handed = push_run(batch, next, first, top, blocks, slots);
     if handed.is_err() {
-        batch.truncate(before);
+        batch.take_back(before, next);
     }
     handed
 }

@@ -28,7 +28,9 @@ use crate::hand::hand_on;
 use crate::slots::Slots;
 use crate::taken::{Accepted, Taken};
 use mold_rule::{Refusal, check_header};
-use mold_wire::{Blocks, Body, MAX_COUNT, MAX_WIDE_WINDOW, MAX_WINDOW, Packet, Request, Session, decode};
+use mold_wire::{
+    Blocks, Body, MAX_COUNT, MAX_WIDE_WINDOW, MAX_WINDOW, Packet, Request, Session, decode,
+};
 use std::alloc::{AllocError, Global};
 use std::marker::Model;
 
