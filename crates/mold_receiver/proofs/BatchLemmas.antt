@@ -141,7 +141,7 @@ unfolding run_from
 none_run look at zero is = refl
 none_run look at (suc most) is = ap (λ (o : Option Message). behind_some o (run_from look (suc at) most)) is
 
-slot_within : (slots : List Slot) (at : ℕ) (m : Message) → slot_at slots at ≡ Some m → at < length slots
+pub slot_within : (slots : List Slot) (at : ℕ) (m : Message) → slot_at slots at ≡ Some m → at < length slots
 slot_within [] at m is = absurd (none_some is)
 slot_within (s ∷ slots) zero m is = omega arith
 slot_within (s ∷ slots) (suc at) m is = omega (arith, slot_within slots at m is)

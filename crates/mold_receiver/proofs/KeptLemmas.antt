@@ -56,7 +56,7 @@ none_of (Some m) none = absurd (cc none)
 
 -- A message is put into an empty slot.
 pub put_on : (old : Shelf) (segments : Segments) (places : List (Option Place)) (slot : ℕ) (place : Place) →
-    IsKept old → HasGained old.segments segments place.segment
+    IsKept old → HasGained old.segments segments place.segment 1
     → IsBlockAt (bytes_at old.segments place.segment) place.start
     → slot < length (places_on old)
     → places ≡ slice_set (places_on old) slot (Some place)
@@ -80,7 +80,7 @@ fresh_there old slot free =
 
 pub kept_put : (old : Shelf) (ring : List (Option Place)) (segments : Segments) (slot : ℕ) (place : Place) (occupied : List Bool) →
     IsKept old → ring ≡ slice_set (places_on old) slot (Some place)
-    → AreSegments segments → HasGained old.segments segments place.segment
+    → AreSegments segments → HasGained old.segments segments place.segment 1
     → is_fresh (slots_on old) slot ≡ true → IsBlockAt (bytes_at old.segments place.segment) place.start
     → occupied ≡ slice_set old.occupied slot true
     → IsKept (record { ring = ring; occupied = occupied; segments = segments; held = old.held + 1 })
@@ -175,7 +175,7 @@ count_after_none old first =
 pub moved_some : (old : Shelf) (ring : List (Option Place)) (segments : Segments) (place : Place) → IsKept old →
     ring ≡ drop 1 (places_on old) ++ None ∷ []
     → place_at (places_on old) 0 ≡ Some place → AreSegments segments
-    → HasLost old.segments segments place.segment → HasMoved old ring segments
+    → HasLost old.segments segments place.segment 1 → HasMoved old ring segments
 moved_some old ring segments place kept is first are lost =
     let live : (key : ℕ) → live_at segments key ≡ count_in key ring = λ key.
     lost.live key

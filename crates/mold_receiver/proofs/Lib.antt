@@ -23,3 +23,7 @@ pub mod ShelfLemmas
 pub mod SegmentLemmas
 pub mod KeptLemmas
 pub mod HeldLemmas
+pub mod ReleaseLemmas
+pub mod PlacedLemmas
+pub mod SkipLemmas
+pub mod RunLemmas

@@ -3,13 +3,15 @@ use Rattle.std.proofs.Common.{◌≡◌, ℕ, suc, ◌+◌, ◌-◌, ◌≤◌, 
 use Rattle.std.proofs.Common.{◌⊎◌, arith, nat_cmp}
 use Rattle.std.specs.Prelude.{Option, None, Some, slice_get}
 use Rattle.std.specs.FinMap as finite
-use Rattle.std.proofs.lemmas.Bool.{cases_lt, cond-false, lt-leb}
+use Rattle.std.proofs.lemmas.Bool.{cases_lt, cond-false, cond-true, le-leb, lt-leb}
 use Rattle.mold_wire.specs.Packet.{messages_of, top_of}
 use Rattle.mold_wire.specs.declared.packet.Packet.{Packet}
 use Rattle.mold_wire.specs.Truth.{message_at}
 use Rattle.mold_receiver.specs.Receive.{handed_on, count_beyond, ended_after, view_at, view_after, taken_of}
+use Rattle.mold_receiver.specs.Slots.{AreEmpty, Slot, slot_at, store_of}
 use Rattle.mold_receiver.specs.Store.{Message, Store, differs, numbered, from_next, first_conflict}
 use Rattle.mold_receiver.specs.View.{View, IsWellFormed}
+use Rattle.mold_receiver.proofs.SlotLemmas.{get-slots}
 use Rattle.mold_receiver.proofs.CaseLemmas.{nothing_handed, nothing_stored, nothing_kept}
 use Rattle.mold_receiver.proofs.RuleLemmas.{message_below, message_past, message_within, count_from}
 use Rattle.mold_receiver.proofs.ViewLemmas.{between_of}
@@ -90,3 +92,27 @@ empty_no_conflict s (pair ∷ pairs) empty =
     ∙ finite.get-empty nat_cmp pair.0 in
     cond-false (differs (finite.get s pair.0) pair.1) (Some pair.0) (first_conflict s pairs)
     (ap (λ (o : Option Message). differs o pair.1) none) ∙ empty_no_conflict s pairs empty
+
+-- Nor has one if no slot of its messages from `next` on has a message.
+pub clear_no_conflict : (slots : List Slot) (next n top : ℕ) (ms : List Message) → n + length ms ≡ top →
+    AreEmpty slots (max n next - next) (top - next) →
+    first_conflict (store_of next slots) (from_next next n ms) ≡ None
+clear_no_conflict slots next n top [] ends empty = refl
+clear_no_conflict slots next n top (m ∷ ms) ends empty =
+    let s = store_of next slots in
+    let rest = from_next next (suc n) ms in
+    let others : first_conflict s rest ≡ None =
+    clear_no_conflict slots next (suc n) top ms (omega (arith, ends))
+    (λ i low high. empty i (omega (arith, low)) high) in
+    elim (cases_lt n next) [
+      | inl below ↦
+          ap (first_conflict s) (cond-false (leb next n) ((n, m) ∷ rest) rest (lt-leb next n below)) ∙ others
+      | inr above ↦
+          let none : finite.get s n ≡ None = get-slots next slots n
+          ∙ cond-true (leb next n) (slot_at slots (n - next)) None (le-leb next n above)
+          ∙ empty (n - next) (omega (arith, above)) (omega (arith, above, ends)) in
+          ap (first_conflict s) (cond-true (leb next n) ((n, m) ∷ rest) rest (le-leb next n above))
+          ∙ cond-false (differs (finite.get s n) m) (Some n) (first_conflict s rest)
+          (ap (λ (o : Option Message). differs o m) none)
+          ∙ others
+    ]

@@ -1,15 +1,18 @@
 -- Bits of words, and the levels of words that find a set bit.
 use Rattle.std.proofs.Common.{◌≡◌, ◌≢◌, ℕ, ◌+◌, ◌-◌, ◌*◌, ◌/◌, ◌%◌, ◌^◌, ◌<◌, ◌≤◌, List, length, get_or, replicate}
 use Rattle.std.proofs.Common.{set, min, bit_and, bit_or, w64, refl, sym, ap, ◌∙◌, inl, inr, arith, Bool, true, false}
-use Rattle.std.proofs.Common.{eqb, length-set, get_or-set_same, get_or-set_other, None, Vec, Global, subst}
+use Rattle.std.proofs.Common.{true≢false, not, eqb, eq-eqb, ne_eqb, length-set, get_or-set_same, get_or-set_other, None, Vec, Global, subst}
+use Rattle.std.specs.Bool.{beq}
 use Rattle.std.specs.Vec.{with_items}
 use Rattle.std.proofs.lemmas.List.{with_items_is, get_or-replicate, get_or_past, length-replicate}
 use Rattle.std.specs.Int.{bit_at, bit_not, trailing_zeros}
-use Rattle.std.proofs.lemmas.Bool.{cases_eq, cases_lt, eqb-true, eqb-false}
-use Rattle.std.proofs.lemmas.Nat.{shr-shr, shr_le}
-use Rattle.std.proofs.lemmas.Nat.Bits.{bit_at-zero, bit_at-trailing_zeros, bit_at-lt, bit_at_above, bit_at_set_same}
-use Rattle.std.proofs.lemmas.Nat.Bits.{bit_at_set_other, bit_at_clear_same, bit_at_clear_other}
-use Rattle.mold_receiver.specs.Occupied.{bit_of, Writes, AreClear, IsNextSet, IsNextInWord, IsSummary, AreLevels}
+use Rattle.std.proofs.lemmas.Bool.{cases_eq, cases_lt, cases_order, eqb-true, eqb-false}
+use Rattle.std.proofs.lemmas.Nat.{and_le_l, pow-add, shr-shr, shr_le}
+use Rattle.std.proofs.lemmas.Nat.Bits.{bit_at-zero, bit_at-trailing_zeros, bit_at-lt, bit_at_above, bit_at_and, bit_at_not}
+use Rattle.std.proofs.lemmas.Nat.Bits.{bit_at_or, bit_at_mask_above, bit_at_mask_below, bit_at_mask_inside, ones_shr}
+use Rattle.std.proofs.Math.Nat.{mul_comm, mul-sub, one-le-pow}
+use Rattle.std.proofs.Math.Pow.{pow_mono}
+use Rattle.mold_receiver.specs.Occupied.{bit_of, AreWritten, IsWrite, AreClear, IsNextSet, IsNextInWord, IsSummary, AreLevels}
 use Rattle.mold_receiver.specs.declared.occupied.Levels.{Levels}
 
 pub bit_small : (words : List ℕ) (i : ℕ) → bit_of words i < 2
@@ -36,51 +39,138 @@ bit_new n i = bit_of_zero (replicate n 0) i (zeros n (i / 64))
 pub summary_new : (n m : ℕ) → IsSummary (replicate n 0) (replicate m 0)
 summary_new n m k = bit_new m k ∙ sym (ap (λ x. min 1 x) (zeros n k))
 
-module _ (words : List ℕ) (i word : ℕ) (within : i / 64 < length words) where
-  written_same : bit_of (set words (i / 64) word) i ≡ bit_at word (i % 64)
-  unfolding bit_of
-  written_same = ap (λ n. bit_at n (i % 64)) (get_or-set_same words (i / 64) word 0 within)
+-- The word of a mask.
+module _ (from to : ℕ) (some : from < to) (one : to ≤ 64 * (from / 64 + 1)) where
+  pub mask_fits : 2 ^ (from % 64 + (to - from)) - 2 ^ (from % 64) < 2 ^ 64
+  mask_fits =
+      let last : from % 64 + (to - from) ≤ 64 = omega arith in
+      omega (arith, pow_mono last, one-le-pow (from % 64) 2 (omega arith))
 
-  written_other :
-      ((b : ℕ) → b < 64 → b ≢ i % 64 → bit_at word b ≡ bit_at (get_or words (i / 64) 0) b) → (j : ℕ) → j ≢ i →
-      bit_of (set words (i / 64) word) j ≡ bit_of words j
+  pub mask_is :
+      (2 ^ 64 - 1) / 2 ^ (64 - (to - from)) * 2 ^ (from % 64) % 2 ^ 64 ≡ 2 ^ (from % 64 + (to - from)) - 2 ^ (from % 64)
+  mask_is =
+      let n : ℕ = to - from in
+      let low : ℕ = 2 ^ (from % 64) in
+      let count : 64 - (64 - n) ≡ n = omega arith in
+      let run : (2 ^ 64 - 1) / 2 ^ (64 - n) ≡ 2 ^ n - 1 = ones_shr 64 (64 - n) (omega arith) ∙ ap (λ k. 2 ^ k - 1) count in
+      let moved : (2 ^ n - 1) * low ≡ 2 ^ (from % 64 + n) - low =
+      mul_comm (2 ^ n - 1) low ∙ mul-sub low (2 ^ n) 1 ∙ omega (arith, pow-add 2 (from % 64) n) in
+      rw run (omega (arith, moved, mask_fits))
+
+-- Bits of one word are written.
+module _ (words : List ℕ) (from to word : ℕ) (there : from / 64 < length words) where
+  bit_here : (i : ℕ) → i / 64 ≡ from / 64 → bit_of (set words (from / 64) word) i ≡ bit_at word (i % 64)
   unfolding bit_of
-  written_other kept j other =
-      elim (cases_eq (j / 64) (i / 64)) [
-        | inl same ↦
-            rw (same, get_or-set_same words (i / 64) word 0 within)
-            (kept (j % 64) (omega arith) (λ index. other (omega arith)))
-        | inr apart ↦ ap (λ n. bit_at n (j % 64)) (get_or-set_other words (i / 64) (j / 64) word 0 apart)
+  bit_here i same = rw (same, get_or-set_same words (from / 64) word 0 there)
+
+  bit_there : (i : ℕ) → i / 64 ≡ from / 64 → bit_of words i ≡ bit_at (get_or words (from / 64) 0) (i % 64)
+  unfolding bit_of
+  bit_there i same = rw same
+
+  bit_elsewhere : (i : ℕ) → i / 64 ≢ from / 64 → bit_of (set words (from / 64) word) i ≡ bit_of words i
+  unfolding bit_of
+  bit_elsewhere i apart = ap (λ n. bit_at n (i % 64)) (get_or-set_other words (from / 64) (i / 64) word 0 apart)
+
+  same_bit :
+      (i : ℕ) → (i / 64 ≡ from / 64 → bit_at word (i % 64) ≡ bit_at (get_or words (from / 64) 0) (i % 64)) →
+      bit_of (set words (from / 64) word) i ≡ bit_of words i
+  same_bit i kept =
+      elim (cases_eq (i / 64) (from / 64)) [
+        | inl same ↦ bit_here i same ∙ kept same ∙ sym (bit_there i same)
+        | inr apart ↦ bit_elsewhere i apart
       ]
 
-  writes :
-      (bit : ℕ) → bit_at word (i % 64) ≡ bit →
-      ((b : ℕ) → b < 64 → b ≢ i % 64 → bit_at word b ≡ bit_at (get_or words (i / 64) 0) b) →
-      Writes words (set words (i / 64) word) i bit
-  writes bit here kept = record {
-    size = length-set words (i / 64) word;
-    written = written_same ∙ here;
-    others = written_other kept;
-    words = λ k apart. get_or-set_other words (i / 64) k word 0 apart;
+  are_written :
+      (bit : ℕ) → from < to → to ≤ 64 * (from / 64 + 1) →
+      ((b : ℕ) → from % 64 ≤ b → b < from % 64 + (to - from) → bit_at word b ≡ bit) →
+      ((b : ℕ) → b < from % 64 → bit_at word b ≡ bit_at (get_or words (from / 64) 0) b) →
+      ((b : ℕ) → from % 64 + (to - from) ≤ b → b < 64 → bit_at word b ≡ bit_at (get_or words (from / 64) 0) b) →
+      AreWritten words (set words (from / 64) word) from to bit
+  are_written bit some one inside below above = record {
+    size = length-set words (from / 64) word;
+    written = λ i least most. bit_here i (omega arith) ∙ inside (i % 64) (omega arith) (omega arith);
+    before = λ i less. same_bit i (λ same. below (i % 64) (omega arith));
+    after = λ i more. same_bit i (λ same. above (i % 64) (omega arith) (omega arith));
   }
 
-pub writes_set : (words : List ℕ) (i : ℕ) → i / 64 < length words →
-    Writes words (set words (i / 64) (bit_or (get_or words (i / 64) 0) (1 * 2 ^ (i % 64) % 2 ^ 64))) i 1
-writes_set words i within =
-    let index : i % 64 < 64 = omega arith in
-    writes words i _ within 1 (bit_at_set_same w64 (get_or words (i / 64) 0) (i % 64) index)
-    (λ b below other. bit_at_set_other w64 (get_or words (i / 64) 0) (i % 64) index b other)
+-- Bits of one word are set or cleared by a mask.
+module _ (words : List ℕ) (from to mask : ℕ) (there : from / 64 < length words) (some : from < to)
+    (one : to ≤ 64 * (from / 64 + 1)) (is : mask ≡ 2 ^ (from % 64 + (to - from)) - 2 ^ (from % 64)) where
+  mask_inside : (b : ℕ) → from % 64 ≤ b → b < from % 64 + (to - from) → bit_at mask b ≡ 1
+  mask_inside b least most = rw is (bit_at_mask_inside (from % 64) (from % 64 + (to - from)) b least most)
 
-pub writes_clear : (words : List ℕ) (i : ℕ) → i / 64 < length words →
-    Writes words (set words (i / 64) (bit_and (get_or words (i / 64) 0) (bit_not w64 (1 * 2 ^ (i % 64) % 2 ^ 64)))) i 0
-writes_clear words i within =
-    let index : i % 64 < 64 = omega arith in
-    writes words i _ within 0 (bit_at_clear_same w64 (get_or words (i / 64) 0) (i % 64) index)
-    (λ b below other. bit_at_clear_other w64 (get_or words (i / 64) 0) (i % 64) index b below other)
+  mask_below : (b : ℕ) → b < from % 64 → bit_at mask b ≡ 0
+  mask_below b less = rw is (bit_at_mask_below (from % 64) (from % 64 + (to - from)) b less)
 
--- A bit that already has this value is written by no change.
-pub writes_none : (words : List ℕ) (i bit : ℕ) → bit_of words i ≡ bit → Writes words words i bit
-writes_none words i bit is = record { size = refl; written = is; others = λ j other. refl; words = λ k other. refl }
+  mask_above : (b : ℕ) → from % 64 + (to - from) ≤ b → bit_at mask b ≡ 0
+  mask_above b more = rw is (bit_at_mask_above (from % 64) (from % 64 + (to - from)) b more)
+
+  set_one : (old b : ℕ) → bit_at mask b ≡ 1 → bit_at (bit_or old mask) b ≡ 1
+  set_one old b on = bit_at_or old mask b ∙ omega (arith, on, bit_at-lt old b)
+
+  set_none : (old b : ℕ) → bit_at mask b ≡ 0 → bit_at (bit_or old mask) b ≡ bit_at old b
+  set_none old b off = bit_at_or old mask b ∙ omega (arith, off)
+
+  fits : mask < 2 ^ 64
+  fits = rw is (mask_fits from to some one)
+
+  clear_one : (old b : ℕ) → b < 64 → bit_at mask b ≡ 1 → bit_at (bit_and old (bit_not w64 mask)) b ≡ 0
+  clear_one old b within on =
+      bit_at_and old (bit_not w64 mask) b
+      ∙ omega (arith, on, bit_at_not w64 mask b fits within)
+
+  clear_none : (old b : ℕ) → b < 64 → bit_at mask b ≡ 0 → bit_at (bit_and old (bit_not w64 mask)) b ≡ bit_at old b
+  clear_none old b within off =
+      bit_at_and old (bit_not w64 mask) b
+      ∙ omega (arith, off, bit_at_not w64 mask b fits within, bit_at-lt old b)
+
+  pub written_set : AreWritten words (set words (from / 64) (bit_or (get_or words (from / 64) 0) mask)) from to 1
+  written_set =
+      let old = get_or words (from / 64) 0 in
+      are_written words from to (bit_or old mask) there 1 some one
+      (λ b least most. set_one old b (mask_inside b least most))
+      (λ b less. set_none old b (mask_below b less))
+      (λ b more within. set_none old b (mask_above b more))
+
+  pub written_clear :
+      AreWritten words (set words (from / 64) (bit_and (get_or words (from / 64) 0) (bit_not w64 mask))) from to 0
+  written_clear =
+      let old = get_or words (from / 64) 0 in
+      are_written words from to (bit_and old (bit_not w64 mask)) there 0 some one
+      (λ b least most. clear_one old b (omega arith) (mask_inside b least most))
+      (λ b less. clear_none old b (omega arith) (mask_below b less))
+      (λ b more within. clear_none old b within (mask_above b more))
+
+-- Whether a word changed from 0 to another value, or from another value to 0.
+abbrev turned : ℕ → ℕ → Bool
+turned old new = not (beq (eqb old 0) (eqb new 0))
+
+alike : (a b : Bool) → not (beq a b) ≡ false → a ≡ b
+alike true true is = refl
+alike true false is = absurd (true≢false is)
+alike false true is = absurd (true≢false is)
+alike false false is = refl
+
+unlike : (a b : Bool) → not (beq a b) ≡ true → a ≢ b
+unlike true true is same = true≢false (sym is)
+unlike true false is same = true≢false same
+unlike false true is same = true≢false (sym same)
+unlike false false is same = true≢false (sym is)
+
+stayed : (old new : ℕ) → turned old new ≡ false → min 1 new ≡ min 1 old
+stayed old new is =
+    let same : eqb old 0 ≡ eqb new 0 = alike (eqb old 0) (eqb new 0) is in
+    elim (cases_eq old 0) [
+      | inl none ↦ omega (arith, none, eqb-true new 0 (sym same ∙ eq-eqb old 0 none))
+      | inr some ↦ omega (arith, some, eqb-false new 0 (sym same ∙ ne_eqb old 0 some))
+    ]
+
+emptied : (old new : ℕ) → new ≤ old → turned old new ≡ true → new ≡ 0
+emptied old new less is =
+    elim (cases_eq new 0) [
+      | inl none ↦ none
+      | inr some ↦ absurd (unlike (eqb old 0) (eqb new 0) is (ne_eqb old 0 (omega arith) ∙ sym (ne_eqb new 0 some)))
+    ]
 
 -- A word that has a set bit isn't 0.
 word_some : (words : List ℕ) (i : ℕ) → bit_of words i ≡ 1 → 0 < get_or words (i / 64) 0
@@ -89,31 +179,40 @@ word_some words i is = elim (cases_eq (get_or words (i / 64) 0) 0) [
   | inr some ↦ omega arith
 ]
 
-module _ (low next high : List ℕ) (i : ℕ) (is : IsSummary low high) where
-  pub summary_set : (above : List ℕ) → Writes low next i 1 → Writes high above (i / 64) 1 → IsSummary next above
-  summary_set above writes raised k =
-      elim (cases_eq k (i / 64)) [
-        | inl same ↦ rw same (omega (arith, raised.written, word_some next i writes.written))
-        | inr other ↦ raised.others k other ∙ is k ∙ sym (ap (λ x. min 1 x) (writes.words k other))
-      ]
+module _ (words : List ℕ) (from to mask new : ℕ) (there : from / 64 < length words) (some : from < to)
+    (one : to ≤ 64 * (from / 64 + 1)) (is : mask ≡ 2 ^ (from % 64 + (to - from)) - 2 ^ (from % 64)) where
+  pub write_set :
+      new ≡ bit_or (get_or words (from / 64) 0) mask →
+      IsWrite words (set words (from / 64) new) from to 1 (turned (get_or words (from / 64) 0) new)
+  write_set word =
+      let bits : AreWritten words (set words (from / 64) new) from to 1 = rw word (written_set words from to mask there
+      some one is) in
+      record {
+        bits = bits;
+        others = λ k apart. get_or-set_other words (from / 64) k new 0 apart;
+        turns = λ up. omega (
+          arith,
+          word_some (set words (from / 64) new) from (bits.written from (omega arith) some),
+        );
+        stays = λ same. rw (get_or-set_same words (from / 64) new 0 there)
+            (stayed (get_or words (from / 64) 0) new same);
+      }
 
-  pub summary_cleared :
-      (above : List ℕ) → Writes low next i 0 → get_or next (i / 64) 0 ≡ 0 → Writes high above (i / 64) 0 →
-      IsSummary next above
-  summary_cleared above writes none lowered k =
-      elim (cases_eq k (i / 64)) [
-        | inl same ↦ rw same (omega (arith, lowered.written, none))
-        | inr other ↦ lowered.others k other ∙ is k ∙ sym (ap (λ x. min 1 x) (writes.words k other))
-      ]
-
-  pub summary_kept :
-      Writes low next i 0 → get_or next (i / 64) 0 ≤ get_or low (i / 64) 0 → (get_or next (i / 64) 0 ≡ 0 → ⊥) →
-      IsSummary next high
-  summary_kept writes less some k =
-      elim (cases_eq k (i / 64)) [
-        | inl same ↦ rw same (omega (arith, is (i / 64)))
-        | inr other ↦ is k ∙ sym (ap (λ x. min 1 x) (writes.words k other))
-      ]
+  pub write_clear :
+      new ≡ bit_and (get_or words (from / 64) 0) (bit_not w64 mask) →
+      IsWrite words (set words (from / 64) new) from to 0 (turned (get_or words (from / 64) 0) new)
+  write_clear word =
+      let bits : AreWritten words (set words (from / 64) new) from to 0 = rw word (written_clear words from to mask there
+      some one is) in
+      let less : new ≤ get_or words (from / 64) 0 = omega (arith, word, and_le_l (get_or words (from / 64) 0) (bit_not w64 mask)) in
+      record {
+        bits = bits;
+        others = λ k apart. get_or-set_other words (from / 64) k new 0 apart;
+        turns = λ down. rw (get_or-set_same words (from / 64) new 0 there)
+            (omega (arith, emptied (get_or words (from / 64) 0) new less down));
+        stays = λ same. rw (get_or-set_same words (from / 64) new 0 there)
+            (stayed (get_or words (from / 64) 0) new same);
+      }
 
 -- The first set bit of a word, shifted right by the index of bit `from`.
 module _ (words : List ℕ) (from word rest : ℕ) (at : get_or words (from / 64) 0 ≡ word)
@@ -221,35 +320,34 @@ none_on_top top from one none to i least below =
     ]
 
 -- A level is new words of its vector, after they were borrowed and changed.
-pub writes_in : (v : Vec ℕ Global) {old new : List ℕ} {i bit : ℕ} → old ≡ v.items → length old ≡ v.len →
-    Writes old new i bit → Writes v.items (with_items v new).items i bit
-writes_in v {old} {new} {i} {bit} same long writes =
-    let now : (with_items v new).items ≡ new = with_items_is v new (writes.size ∙ long) in
-    subst (λ (t : List ℕ). Writes v.items t i bit) (sym now) (subst (λ (t : List ℕ). Writes t new i bit) same writes)
+pub write_in : (v : Vec ℕ Global) {old new : List ℕ} {from to bit : ℕ} {turned : Bool} → old ≡ v.items →
+    length old ≡ v.len → IsWrite old new from to bit turned →
+    IsWrite v.items (with_items v new).items from to bit turned
+write_in v {old} {new} {from} {to} {bit} {turned} same long write =
+    let now : (with_items v new).items ≡ new = with_items_is v new (write.bits.size ∙ long) in
+    subst (λ (t : List ℕ). IsWrite v.items t from to bit turned) (sym now)
+    (subst (λ (t : List ℕ). IsWrite t new from to bit turned) same write)
 
--- Bit `i` is cleared, and `empty` is whether its word has no set bit left.
-pub record Clears (old new : List ℕ) (i : ℕ) (empty : Bool) : Type 0 where
-  pub writes : Writes old new i 0
-  pub less : get_or new (i / 64) 0 ≤ get_or old (i / 64) 0
-  pub told : empty ≡ eqb (get_or new (i / 64) 0) 0
+-- The summary of a level that was written.
+module _ (low next high : List ℕ) (from to bit : ℕ) (turned : Bool) (is : IsSummary low high)
+    (write : IsWrite low next from to bit turned) where
+  summary_written :
+      (above : List ℕ) → turned ≡ true → AreWritten high above (from / 64) (from / 64 + 1) bit → IsSummary next above
+  summary_written above up raised k =
+      elim (cases_order k (from / 64)) [
+        | inl same ↦ rw same (raised.written (from / 64) (omega arith) (omega arith) ∙ sym (write.turns up))
+        | inr (inl below) ↦
+            raised.before k below ∙ is k ∙ sym (ap (λ x. min 1 x) (write.others k (omega arith)))
+        | inr (inr above) ↦
+            raised.after k (omega arith) ∙ is k ∙ sym (ap (λ x. min 1 x) (write.others k (omega arith)))
+      ]
 
-pub clears_in : (v : Vec ℕ Global) {old new : List ℕ} {i : ℕ} {empty : Bool} → old ≡ v.items → length old ≡ v.len →
-    Clears old new i empty → Clears v.items (with_items v new).items i empty
-clears_in v {old} {new} {i} {empty} same long clears =
-    let now : (with_items v new).items ≡ new = with_items_is v new (clears.writes.size ∙ long) in
-    subst (λ (t : List ℕ). Clears v.items t i empty) (sym now)
-    (subst (λ (t : List ℕ). Clears t new i empty) same clears)
-
-module _ (low next high : List ℕ) (i : ℕ) (empty : Bool) (is : IsSummary low high)
-    (clears : Clears low next i empty) where
-  pub summary_lowered :
-      (above : List ℕ) → empty ≡ true → Writes high above (i / 64) 0 → IsSummary next above
-  summary_lowered above is_empty lowered =
-      summary_cleared low next high i is above clears.writes (eqb-true _ 0 (sym clears.told ∙ is_empty)) lowered
-
-  pub summary_stays : empty ≡ false → IsSummary next high
-  summary_stays is_some = summary_kept low next high i is clears.writes clears.less
-      (eqb-false _ 0 (sym clears.told ∙ is_some))
+  summary_kept : turned ≡ false → IsSummary next high
+  summary_kept same k =
+      elim (cases_eq k (from / 64)) [
+        | inl here ↦ rw here (is (from / 64) ∙ sym (write.stays same))
+        | inr apart ↦ is k ∙ sym (ap (λ x. min 1 x) (write.others k apart))
+      ]
 
 -- The levels after a change that keeps their lengths.
 module _ (old new : Levels) (are : AreLevels old) where
@@ -268,123 +366,54 @@ module _ (old new : Levels) (are : AreLevels old) where
     one = top ∙ are.one;
   }
 
--- Bit `i` is set, and `first` is whether its word had no set bit before.
-pub record Sets (old new : List ℕ) (i : ℕ) (first : Bool) : Type 0 where
-  pub writes : Writes old new i 1
-  pub told : first ≡ eqb (get_or old (i / 64) 0) 0
-
-pub sets_in : (v : Vec ℕ Global) {old new : List ℕ} {i : ℕ} {first : Bool} → old ≡ v.items → length old ≡ v.len →
-    Sets old new i first → Sets v.items (with_items v new).items i first
-sets_in v {old} {new} {i} {first} same long sets =
-    let now : (with_items v new).items ≡ new = with_items_is v new (sets.writes.size ∙ long) in
-    subst (λ (t : List ℕ). Sets v.items t i first) (sym now)
-    (subst (λ (t : List ℕ). Sets t new i first) same sets)
-
--- A word that had a set bit before has its bit in the level above.
-summary_same : (low next high : List ℕ) (i : ℕ) (first : Bool) → IsSummary low high → Sets low next i first →
-    first ≡ false → IsSummary next high
-summary_same low next high i first is sets some k =
-    elim (cases_eq k (i / 64)) [
-      | inl same ↦
-          rw same (omega (
-            arith,
-            is (i / 64),
-            word_some next i sets.writes.written,
-            eqb-false (get_or low (i / 64) 0) 0 (sym sets.told ∙ some),
-          ))
-      | inr other ↦ is k ∙ sym (ap (λ x. min 1 x) (sets.writes.words k other))
-    ]
-
--- The levels after bit `i` is set, if its word had a set bit before, and if its word in the second or in the third
--- level had one; and otherwise.
-module _ (old new : Levels) (i : ℕ) (are : AreLevels old) where
-  pub levels_set_1 : (first : Bool) → Sets old.bits.items new.bits.items i first → first ≡ false →
+-- The levels after bits of one word are written, if this word stays 0 or stays another value; if its word in the second
+-- or in the third level does; and otherwise.
+module _ (old new : Levels) (from to bit : ℕ) (are : AreLevels old) where
+  pub levels_written_1 : (first : Bool) → IsWrite old.bits.items new.bits.items from to bit first → first ≡ false →
       new.words ≡ old.words → new.groups ≡ old.groups → new.top ≡ old.top → AreLevels new
-  levels_set_1 first bits is_some words groups top =
-      levels_kept old new are bits.writes.size (ap (λ (v : Vec ℕ Global). length v.items) words)
+  levels_written_1 first bits stays words groups top =
+      levels_kept old new are bits.bits.size (ap (λ (v : Vec ℕ Global). length v.items) words)
       (ap (λ (v : Vec ℕ Global). length v.items) groups) (ap (λ (t : List ℕ). length t) top)
-      (rw words (summary_same old.bits.items new.bits.items old.words.items i first are.words bits is_some))
+      (rw words (summary_kept old.bits.items new.bits.items old.words.items from to bit first are.words bits stays))
       (rw (words, groups) are.groups)
       (rw (groups, top) are.top)
 
-  pub levels_set_2 : (second : Bool) → Writes old.bits.items new.bits.items i 1 →
-      Sets old.words.items new.words.items (i / 64) second → second ≡ false → new.groups ≡ old.groups →
-      new.top ≡ old.top → AreLevels new
-  levels_set_2 second bits words is_some groups top =
-      levels_kept old new are bits.size words.writes.size
-      (ap (λ (v : Vec ℕ Global). length v.items) groups) (ap (λ (t : List ℕ). length t) top)
-      (summary_set old.bits.items new.bits.items old.words.items i are.words new.words.items bits words.writes)
-      (rw groups (summary_same old.words.items new.words.items old.groups.items (i / 64) second are.groups words
-      is_some))
-      (rw (groups, top) are.top)
+  module _ (first second : Bool) (bits : IsWrite old.bits.items new.bits.items from to bit first) (turns : first ≡ true)
+      (words : IsWrite old.words.items new.words.items (from / 64) (from / 64 + 1) bit second) where
+    low_written : IsSummary new.bits.items new.words.items
+    low_written =
+        summary_written old.bits.items new.bits.items old.words.items from to bit first are.words bits new.words.items
+        turns words.bits
 
-  pub levels_set_3 : (third : Bool) → Writes old.bits.items new.bits.items i 1 →
-      Writes old.words.items new.words.items (i / 64) 1 →
-      Sets old.groups.items new.groups.items (i / 64 / 64) third → third ≡ false → new.top ≡ old.top → AreLevels new
-  levels_set_3 third bits words groups is_some top =
-      levels_kept old new are bits.size words.size groups.writes.size (ap (λ (t : List ℕ). length t) top)
-      (summary_set old.bits.items new.bits.items old.words.items i are.words new.words.items bits words)
-      (summary_set old.words.items new.words.items old.groups.items (i / 64) are.groups new.groups.items words
-      groups.writes)
-      (rw top (summary_same old.groups.items new.groups.items old.top (i / 64 / 64) third are.top groups is_some))
+    pub levels_written_2 : second ≡ false → new.groups ≡ old.groups → new.top ≡ old.top → AreLevels new
+    levels_written_2 stays groups top =
+        levels_kept old new are bits.bits.size words.bits.size
+        (ap (λ (v : Vec ℕ Global). length v.items) groups) (ap (λ (t : List ℕ). length t) top)
+        low_written
+        (rw groups (summary_kept old.words.items new.words.items old.groups.items (from / 64) (from / 64 + 1) bit second
+        are.groups words stays))
+        (rw (groups, top) are.top)
 
-  pub levels_set_4 : Writes old.bits.items new.bits.items i 1 → Writes old.words.items new.words.items (i / 64) 1 →
-      Writes old.groups.items new.groups.items (i / 64 / 64) 1 → Writes old.top new.top (i / 64 / 64 / 64) 1 →
-      AreLevels new
-  levels_set_4 bits words groups top =
-      levels_kept old new are bits.size words.size groups.size top.size
-      (summary_set old.bits.items new.bits.items old.words.items i are.words new.words.items bits words)
-      (summary_set old.words.items new.words.items old.groups.items (i / 64) are.groups new.groups.items words groups)
-      (summary_set old.groups.items new.groups.items old.top (i / 64 / 64) are.top new.top groups top)
+    module _ (third : Bool) (also : second ≡ true)
+        (groups : IsWrite old.groups.items new.groups.items (from / 64 / 64) (from / 64 / 64 + 1) bit third) where
+      middle_written : IsSummary new.words.items new.groups.items
+      middle_written =
+          summary_written old.words.items new.words.items old.groups.items (from / 64) (from / 64 + 1) bit second
+          are.groups words new.groups.items also groups.bits
 
--- The levels after bit `i` is cleared, if its word keeps another set bit, and if its word in the second or in the third
--- level does; and otherwise.
-module _ (old new : Levels) (i : ℕ) (are : AreLevels old) where
-  pub levels_cleared_1 : (empty : Bool) → Clears old.bits.items new.bits.items i empty → empty ≡ false →
-      new.words ≡ old.words → new.groups ≡ old.groups → new.top ≡ old.top → AreLevels new
-  levels_cleared_1 empty bits is_some words groups top =
-      levels_kept old new are bits.writes.size (ap (λ (v : Vec ℕ Global). length v.items) words)
-      (ap (λ (v : Vec ℕ Global). length v.items) groups) (ap (λ (t : List ℕ). length t) top)
-      (rw words (summary_stays old.bits.items new.bits.items old.words.items i empty are.words bits is_some))
-      (rw (words, groups) are.groups)
-      (rw (groups, top) are.top)
+      pub levels_written_3 : third ≡ false → new.top ≡ old.top → AreLevels new
+      levels_written_3 stays top =
+          levels_kept old new are bits.bits.size words.bits.size groups.bits.size
+          (ap (λ (t : List ℕ). length t) top) low_written middle_written
+          (rw top (summary_kept old.groups.items new.groups.items old.top (from / 64 / 64) (from / 64 / 64 + 1) bit third
+          are.top groups stays))
 
-  pub levels_cleared_2 : (empty second : Bool) → Clears old.bits.items new.bits.items i empty → empty ≡ true →
-      Clears old.words.items new.words.items (i / 64) second → second ≡ false → new.groups ≡ old.groups →
-      new.top ≡ old.top → AreLevels new
-  levels_cleared_2 empty second bits is_empty words is_some groups top =
-      levels_kept old new are bits.writes.size words.writes.size
-      (ap (λ (v : Vec ℕ Global). length v.items) groups) (ap (λ (t : List ℕ). length t) top)
-      (summary_lowered old.bits.items new.bits.items old.words.items i empty are.words bits new.words.items is_empty
-      words.writes)
-      (rw groups (summary_stays old.words.items new.words.items old.groups.items
-      (i / 64) second are.groups words is_some))
-      (rw (groups, top) are.top)
-
-  pub levels_cleared_3 : (empty second third : Bool) → Clears old.bits.items new.bits.items i empty → empty ≡ true →
-      Clears old.words.items new.words.items (i / 64) second → second ≡ true →
-      Clears old.groups.items new.groups.items (i / 64 / 64) third → third ≡ false → new.top ≡ old.top → AreLevels new
-  levels_cleared_3 empty second third bits is_empty words also_empty groups is_some top =
-      levels_kept old new are bits.writes.size words.writes.size groups.writes.size (ap (λ (t : List ℕ). length t) top)
-      (summary_lowered old.bits.items new.bits.items old.words.items i empty are.words bits new.words.items is_empty
-      words.writes)
-      (summary_lowered old.words.items new.words.items old.groups.items
-      (i / 64) second are.groups words new.groups.items
-      also_empty groups.writes)
-      (rw top (summary_stays old.groups.items new.groups.items old.top (i / 64 / 64) third are.top groups is_some))
-
-  pub levels_cleared_4 : (empty second third : Bool) → Clears old.bits.items new.bits.items i empty → empty ≡ true →
-      Clears old.words.items new.words.items (i / 64) second → second ≡ true →
-      Clears old.groups.items new.groups.items (i / 64 / 64) third → third ≡ true →
-      Writes old.top new.top (i / 64 / 64 / 64) 0 → AreLevels new
-  levels_cleared_4 empty second third bits is_empty words also_empty groups last top =
-      levels_kept old new are bits.writes.size words.writes.size groups.writes.size top.size
-      (summary_lowered old.bits.items new.bits.items old.words.items i empty are.words bits new.words.items is_empty
-      words.writes)
-      (summary_lowered old.words.items new.words.items old.groups.items
-      (i / 64) second are.groups words new.groups.items
-      also_empty groups.writes)
-      (summary_lowered old.groups.items new.groups.items old.top (i / 64 / 64) third are.top groups new.top last top)
+      pub levels_written_4 : third ≡ true →
+          AreWritten old.top new.top (from / 64 / 64 / 64) (from / 64 / 64 / 64 + 1) bit → AreLevels new
+      levels_written_4 last top =
+          levels_kept old new are bits.bits.size words.bits.size groups.bits.size top.size low_written middle_written
+          (summary_written old.groups.items new.groups.items old.top (from / 64 / 64) (from / 64 / 64 + 1) bit third
+          are.top groups new.top last top)
 
 -- New levels, of `n`, `m` and `l` words.
 summary_zeros : (low high : List ℕ) (n m : ℕ) → low ≡ replicate n 0 → high ≡ replicate m 0 → IsSummary low high

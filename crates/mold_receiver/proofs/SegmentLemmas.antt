@@ -9,14 +9,14 @@ use Rattle.slab.specs.Slab.{Slab, Updates, get}
 use Rattle.mold_receiver.specs.declared.segment.Segment.{Segment}
 use Rattle.mold_receiver.specs.declared.segments.Segments.{Segments}
 use Rattle.mold_receiver.specs.Segments.{AreMore, AreSegments, AreSpare, HasGained, HasLost, IsFilled, IsMemory, IsSegment}
-use Rattle.mold_receiver.specs.Segments.{bytes_at, bytes_of, live_at, live_of, one_at, used_bytes}
+use Rattle.mold_receiver.specs.Segments.{bytes_at, bytes_of, count_at, live_at, live_of, used_bytes}
 use Rattle.mold_receiver.proofs.StoreLemmas.{none_some}
 
-one_same : (key : ℕ) → one_at key key ≡ 1
-one_same key = ap {B = ℕ} (λ (b : Bool). cond b 1 0) (eq-eqb key key refl)
+count_same : (key count : ℕ) → count_at key count key ≡ count
+count_same key count = ap {B = ℕ} (λ (b : Bool). cond b count 0) (eq-eqb key key refl)
 
-one_other : (key at : ℕ) → (at ≡ key → ⊥) → one_at key at ≡ 0
-one_other key at other = ap {B = ℕ} (λ (b : Bool). cond b 1 0) (ne_eqb key at (λ e. other (sym e)))
+count_other : (key count at : ℕ) → (at ≡ key → ⊥) → count_at key count at ≡ 0
+count_other key count at other = ap {B = ℕ} (λ (b : Bool). cond b count 0) (ne_eqb key at (λ e. other (sym e)))
 
 -- What a key has after an update.
 module _ (old new : Segments) (key : ℕ) (slot : Option Segment) (up : Updates old.table new.table key slot) where
@@ -139,44 +139,45 @@ more_gone old new key none up =
     (sym none, λ some. absurd (omega (arith, some, none)))
     (λ at _. keeps_same (get old.table at) at))
 
-abbrev Loses : ℕ → ℕ → Option Segment → Option Segment → Type 0
-Loses key at old new =
-    (live_of new ≡ live_of old - one_at key at) × (0 < live_of new → bytes_of new ≡ bytes_of old)
+abbrev Loses : ℕ → ℕ → ℕ → Option Segment → Option Segment → Type 0
+Loses key count at old new =
+    (live_of new ≡ live_of old - count_at key count at) × (0 < live_of new → bytes_of new ≡ bytes_of old)
 
-loses_other : (key at : ℕ) (slot : Option Segment) → (at ≡ key → ⊥) → Loses key at slot slot
-loses_other key at slot other = (omega (arith, one_other key at other), λ some. refl)
+loses_other : (key count at : ℕ) (slot : Option Segment) → (at ≡ key → ⊥) → Loses key count at slot slot
+loses_other key count at slot other = (omega (arith, count_other key count at other), λ some. refl)
 
-lost_of : (old new : Segments) (key : ℕ) → ((at : ℕ) → Loses key at (get old.table at) (get new.table at)) →
-    HasLost old new key
-lost_of old new key loses = record { live = λ at. (loses at).0; bytes = λ at. (loses at).1 }
+lost_of : (old new : Segments) (key count : ℕ)
+    → ((at : ℕ) → Loses key count at (get old.table at) (get new.table at)) → HasLost old new key count
+lost_of old new key count loses = record { live = λ at. (loses at).0; bytes = λ at. (loses at).1 }
 
-pub lost_gone : (old new : Segments) (key : ℕ) → live_at old key ≡ 1 → Updates old.table new.table key None →
-    HasLost old new key
-lost_gone old new key one up =
-    lost_of old new key (key_of old new key None up (Loses key)
-    (omega (arith, one, one_same key), λ some. absurd (omega (arith, some)))
-    (λ at other. loses_other key at (get old.table at) other))
+pub lost_gone : (old new : Segments) (key count : ℕ) → live_at old key ≤ count →
+    Updates old.table new.table key None → HasLost old new key count
+lost_gone old new key count all up =
+    lost_of old new key count (key_of old new key None up (Loses key count)
+    (omega (arith, all, count_same key count), λ some. absurd (omega (arith, some)))
+    (λ at other. loses_other key count at (get old.table at) other))
 
-pub lost_with : (old new : Segments) (key : ℕ) (before after : Segment) → get old.table key ≡ Some before
-    → Updates old.table new.table key (Some after) → after.live ≡ before.live - 1
-    → used_bytes after ≡ used_bytes before → HasLost old new key
-lost_with old new key before after was up live bytes =
-    lost_of old new key (key_of old new key (Some after) up (Loses key)
-    (subst (λ (o : Option Segment). Loses key key o (Some after)) (sym was)
-    (omega (arith, live, one_same key), λ some. bytes))
-    (λ at other. loses_other key at (get old.table at) other))
+pub lost_with : (old new : Segments) (key count : ℕ) (before after : Segment) → get old.table key ≡ Some before
+    → Updates old.table new.table key (Some after) → after.live ≡ before.live - count
+    → used_bytes after ≡ used_bytes before → HasLost old new key count
+lost_with old new key count before after was up live bytes =
+    lost_of old new key count (key_of old new key (Some after) up (Loses key count)
+    (subst (λ (o : Option Segment). Loses key count key o (Some after)) (sym was)
+    (omega (arith, live, count_same key count), λ some. bytes))
+    (λ at other. loses_other key count at (get old.table at) other))
 
-abbrev Gains : ℕ → ℕ → Option Segment → Option Segment → Type 0
-Gains key at old new = (live_of new ≡ live_of old + one_at key at) × (bytes_of new ≡ bytes_of old)
+abbrev Gains : ℕ → ℕ → ℕ → Option Segment → Option Segment → Type 0
+Gains key count at old new = (live_of new ≡ live_of old + count_at key count at) × (bytes_of new ≡ bytes_of old)
 
-pub gained_with : (old new : Segments) (key : ℕ) (before after : Segment) → get old.table key ≡ Some before
-    → Updates old.table new.table key (Some after) → after.live ≡ before.live + 1
-    → used_bytes after ≡ used_bytes before → HasGained old new key
-gained_with old new key before after was up live bytes =
-    let gains : (at : ℕ) → Gains key at (get old.table at) (get new.table at) =
-    key_of old new key (Some after) up (Gains key)
-    (subst (λ (o : Option Segment). Gains key key o (Some after)) (sym was) (omega (arith, live, one_same key), bytes))
-    (λ at other. (omega (arith, one_other key at other), refl)) in
+pub gained_with : (old new : Segments) (key count : ℕ) (before after : Segment) → get old.table key ≡ Some before
+    → Updates old.table new.table key (Some after) → after.live ≡ before.live + count
+    → used_bytes after ≡ used_bytes before → HasGained old new key count
+gained_with old new key count before after was up live bytes =
+    let gains : (at : ℕ) → Gains key count at (get old.table at) (get new.table at) =
+    key_of old new key (Some after) up (Gains key count)
+    (subst (λ (o : Option Segment). Gains key count key o (Some after)) (sym was)
+    (omega (arith, live, count_same key count), bytes))
+    (λ at other. (omega (arith, count_other key count at other), refl)) in
     record { live = λ at. (gains at).0; bytes = λ at. (gains at).1 }
 
 -- The slots of the table decide what its keys have.

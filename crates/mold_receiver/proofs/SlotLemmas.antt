@@ -13,8 +13,8 @@ use Rattle.std.proofs.lemmas.Option.{slice_get_past}
 use Rattle.std.proofs.lemmas.List.{length-map, map-set, length-replicate, length-set, length-drop, drop-drop, drop-append-le, replicate_more}
 use Rattle.std.proofs.lemmas.List.{drop-replicate, replicate-append-replicate}
 use Rattle.mold_receiver.specs.Store.{Message, differs}
-use Rattle.mold_receiver.specs.Slots.{Slot, slot_at, slot_entries, store_of, count_held, flags_of, AreSlots, IsFirstHeld}
-use Rattle.mold_receiver.specs.Occupied.{IsFirstSet, flag_at}
+use Rattle.mold_receiver.specs.Slots.{Slot, slot_at, slot_entries, store_of, count_held, flags_of, AreEmpty, AreSlots, IsFirstHeld}
+use Rattle.mold_receiver.specs.Occupied.{AreUnset, IsFirstSet, flag_at}
 use Rattle.mold_receiver.proofs.StoreLemmas.{get_made, none_some}
 
 pub count_within : (slots : List Slot) → count_held slots ≤ length slots
@@ -59,7 +59,7 @@ slot_put_same [] i slot within = absurd (omega arith)
 slot_put_same (s ∷ slots) zero slot within = refl
 slot_put_same (s ∷ slots) (suc i) slot within = slot_put_same slots i slot (omega arith)
 
-slot_put_other : (slots : List Slot) (i : ℕ) (slot : Slot) (at : ℕ) → (at ≡ i → ⊥) →
+pub slot_put_other : (slots : List Slot) (i : ℕ) (slot : Slot) (at : ℕ) → (at ≡ i → ⊥) →
     slot_at (slice_set slots i slot) at ≡ slot_at slots at
 slot_put_other [] i slot at other = refl
 slot_put_other (s ∷ slots) zero slot zero other = absurd (other refl)
@@ -155,7 +155,7 @@ flags_moved : (slots : List Slot) → flags_of (drop 1 slots ++ None ∷ []) ≡
 flags_moved [] = refl
 flags_moved (slot ∷ slots) = flags_pushed slots
 
-flags_empty : (n : ℕ) → flags_of (replicate n None) ≡ replicate n false
+pub flags_empty : (n : ℕ) → flags_of (replicate n None) ≡ replicate n false
 flags_empty zero = refl
 flags_empty (suc n) = ap (λ (t : List Bool). false ∷ t) (flags_empty n)
 
@@ -171,6 +171,17 @@ none_from (Some m) none = absurd (cc none)
 
 none_flag : (slots : List Slot) (i : ℕ) → flag_at (flags_of slots) i ≡ false → slot_at slots i ≡ None
 none_flag slots i none = none_from (slot_at slots i) (sym (flag_is slots i) ∙ none)
+
+-- A range of slots is empty exactly if none of its flags is set.
+pub clear_slots : (slots : List Slot) (flags : List Bool) (from to : ℕ) → flags ≡ flags_of slots →
+    AreUnset flags from to → AreEmpty slots from to
+clear_slots slots flags from to same clear i low high =
+    none_flag slots i (sym (ap (λ (t : List Bool). flag_at t i) same) ∙ clear i low high)
+
+pub clear_flags : (slots : List Slot) (flags : List Bool) (from to : ℕ) → flags ≡ flags_of slots →
+    AreEmpty slots from to → AreUnset flags from to
+clear_flags slots flags from to same empty i low high =
+    ap (λ (t : List Bool). flag_at t i) same ∙ flag_is slots i ∙ ap is_some (empty i low high)
 
 -- The first slot with a message, from the first set flag.
 first_below : (slots : List Slot) (most first : ℕ) → IsFirstSet (flags_of slots) first → first < length slots →

@@ -1,13 +1,17 @@
 -- Definitions for the functions that put a packet's messages into the store.
-use Rattle.std.specs.Prelude.{ℕ, suc, Bool, ◌&&◌, nat_lt, is_none, List, [], ◌∷◌, length, Some, slice_set}
+use Rattle.std.specs.Prelude.{ℕ, suc, ◌+◌, ◌≤◌, Bool, ◌&&◌, nat_lt, is_none, List, [], ◌∷◌, length, Some, slice_set}
 use Rattle.std.specs.Prelude.{if◌then◌else◌}
 use Rattle.std.specs.List.{filter}
-use Rattle.mold_receiver.specs.Slots.{Slot, slot_at}
+use Rattle.mold_receiver.specs.Slots.{AreEmpty, Slot, slot_at}
 use Rattle.mold_receiver.specs.Store.{Message, numbered}
 
 -- The slot exists and is empty.
 abbrev pub is_fresh : List Slot → ℕ → Bool
 is_fresh slots slot = nat_lt slot (length slots) && is_none (slot_at slots slot)
+
+-- These `count` slots exist and are empty. The first one is `first`.
+abbrev pub AreFree : List Slot → ℕ → ℕ → Type 0
+AreFree slots first count = (first + count ≤ length slots) × AreEmpty slots first (first + count)
 
 -- The messages for which the slot exists and is empty, each with its slot. The slot of the first message is `first`.
 abbrev pub fresh : List Slot → ℕ → List Message → List (ℕ × Message)

@@ -16,3 +16,4 @@ pub mod Honest
 pub mod Gap
 pub mod Arbiter
 pub mod Fresh
+pub mod Run

@@ -1,14 +1,17 @@
 -- A ring of flags, kept as bits, and its first set flag.
-use Rattle.std.specs.Prelude.{◌≡◌, ◌≢◌, ℕ, ◌+◌, ◌-◌, ◌*◌, ◌/◌, ◌%◌, ◌<◌, ◌≤◌, ◌⊎◌, min, nat_eq, nat_lt, Bool, true}
-use Rattle.std.specs.Prelude.{false, List, length, map, slice_index, slice_index_or, Option, None, Some, if◌then◌else◌}
+use Rattle.std.specs.Prelude.{◌≡◌, ◌≢◌, ℕ, ◌+◌, ◌*◌, ◌/◌, ◌%◌, ◌<◌, ◌≤◌, ◌⊎◌, min, nat_eq, Bool, true}
+use Rattle.std.specs.Prelude.{false, List, length, slice_index, slice_index_or, Option, None, Some}
 use Rattle.std.specs.Int.{bit_at}
-use Rattle.std.specs.List.{range_with_len}
 use Rattle.mold_receiver.specs.declared.occupied.Levels.{Levels}
 use Rattle.mold_receiver.specs.Ring.{ring_in}
 
 -- The flag of a slot. It is false if the slot doesn't exist.
 abbrev pub flag_at : List Bool → ℕ → Bool
 flag_at flags slot = slice_index_or flags slot false
+
+-- No flag is set from slot `from` on and below slot `to`.
+abbrev pub AreUnset : List Bool → ℕ → ℕ → Type 0
+AreUnset flags from to = (i : ℕ) → from ≤ i → i < to → flag_at flags i ≡ false
 
 -- The slot is the first one whose flag is set. It is the number of flags if no flag is set.
 pub record IsFirstSet (flags : List Bool) (slot : ℕ) : Type 0 where
@@ -20,12 +23,21 @@ pub record IsFirstSet (flags : List Bool) (slot : ℕ) : Type 0 where
 unfoldable pub bit_of : List ℕ → ℕ → ℕ
 bit_of words i = bit_at (slice_index words (i / 64)) (i % 64)
 
--- Between the words `old` and the words `new`, only bit `i` may differ, which is `bit` in the new words.
-pub record Writes (old new : List ℕ) (i bit : ℕ) : Type 0 where
+-- Between the words `old` and the words `new`, only the bits from bit `from` on and below bit `to` may differ. They are
+-- `bit` in the new words.
+pub record AreWritten (old new : List ℕ) (from to bit : ℕ) : Type 0 where
   pub size : length new ≡ length old
-  pub written : bit_of new i ≡ bit
-  pub others : (j : ℕ) → j ≢ i → bit_of new j ≡ bit_of old j
-  pub words : (k : ℕ) → k ≢ i / 64 → slice_index new k ≡ slice_index old k
+  pub written : (i : ℕ) → from ≤ i → i < to → bit_of new i ≡ bit
+  pub before : (i : ℕ) → i < from → bit_of new i ≡ bit_of old i
+  pub after : (i : ℕ) → to ≤ i → bit_of new i ≡ bit_of old i
+
+-- The same for bits of one word. If it changed from 0 to another value, or from another value to 0, `turned` is true,
+-- and the word now has a set bit exactly if `bit` is 1.
+pub record IsWrite (old new : List ℕ) (from to bit : ℕ) (turned : Bool) : Type 0 where
+  pub bits : AreWritten old new from to bit
+  pub others : (k : ℕ) → k ≢ from / 64 → slice_index new k ≡ slice_index old k
+  pub turns : turned ≡ true → min 1 (slice_index new (from / 64)) ≡ bit
+  pub stays : turned ≡ false → min 1 (slice_index new (from / 64)) ≡ min 1 (slice_index old (from / 64))
 
 -- No bit is set from bit `from` on and below bit `to`.
 abbrev pub AreClear : List ℕ → ℕ → ℕ → Type 0

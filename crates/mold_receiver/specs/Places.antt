@@ -1,5 +1,5 @@
 -- The places of stored messages, and the ring that has them.
-use Rattle.std.specs.Prelude.{ℕ, ◌+◌, ◌≤◌, List, [], ◌∷◌, Option, None, Some, map, nat_lt, nat_eq, slice_get}
+use Rattle.std.specs.Prelude.{ℕ, zero, suc, ◌+◌, ◌≤◌, List, [], ◌∷◌, Option, None, Some, map, nat_lt, nat_eq, slice_get}
 use Rattle.std.specs.Prelude.{if◌then◌else◌, length, take, drop}
 use Rattle.std.specs.Option.{option_flatten}
 use Rattle.byteorder.specs.Endian.{big_number}
@@ -30,6 +30,17 @@ message_in bytes start = take (length_at bytes start) (drop (start + 2) bytes)
 -- A whole block starts at this offset of the bytes.
 abbrev pub IsBlockAt : List ℕ → ℕ → Type 0
 IsBlockAt bytes start = start + 2 + length_at bytes start ≤ length bytes
+
+-- The messages of `count` blocks that follow each other. The first block starts at this offset of the bytes.
+abbrev pub messages_from : List ℕ → ℕ → ℕ → List Message
+messages_from bytes start zero = []
+messages_from bytes start (suc count) =
+    message_in bytes start ∷ messages_from bytes (start + 2 + length_at bytes start) count
+
+-- The offset after these blocks.
+abbrev pub end_from : List ℕ → ℕ → ℕ → ℕ
+end_from bytes start zero = start
+end_from bytes start (suc count) = end_from bytes (start + 2 + length_at bytes start) count
 
 -- The number of places in this segment.
 abbrev pub count_in : ℕ → List (Option Place) → ℕ

@@ -1,8 +1,10 @@
 -- Rings: lists whose first slot may be at any index.
-use Rattle.std.specs.Prelude.{ℕ, ◌+◌, ◌-◌, nat_lt, List, length, map, slice_index_or, Option, None, if◌then◌else◌}
+use Rattle.std.specs.Prelude.{ℕ, suc, ◌+◌, ◌-◌, nat_lt, List, [], ◌∷◌, length, map, slice_index_or, slice_set, Option, None}
+use Rattle.std.specs.Prelude.{Some, if◌then◌else◌}
 use Rattle.std.specs.List.{range_with_len}
 use Rattle.mold_receiver.specs.declared.place.Place.{Place}
 use Rattle.mold_receiver.specs.Places.{places_of}
+use Rattle.mold_receiver.specs.Store.{Message}
 
 -- The index of a slot in a ring of `count` items whose first slot has the index `head`.
 abbrev pub index_of : ℕ → ℕ → ℕ → ℕ
@@ -15,3 +17,11 @@ ring_in item head count = map (λ slot. item (index_of head count slot)) (range_
 -- What the slots of a ring of places have. The first slot has the index `head`.
 abbrev pub ring_of : List Place → ℕ → List (Option Place)
 ring_of places head = ring_in (λ i. slice_index_or (places_of places) i None) head (length places)
+
+-- The slots of a ring after the places of blocks were written into the slots from `slot` on. The blocks have these
+-- messages, and follow each other in a segment. The first one starts at the offset `start`.
+abbrev pub placed : List (Option Place) → ℕ → ℕ → ℕ → List Message → List (Option Place)
+placed ring slot segment start [] = ring
+placed ring slot segment start (message ∷ messages) =
+    placed (slice_set ring slot (Some (record { segment = segment; start = start }))) (suc slot) segment
+    (start + 2 + length message) messages

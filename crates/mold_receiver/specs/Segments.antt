@@ -3,6 +3,7 @@ use Rattle.std.specs.Prelude.{◌≡◌, ℕ, ◌+◌, ◌-◌, ◌<◌, ◌≤�
 use Rattle.std.specs.Prelude.{drop, max, if◌then◌else◌, nat_eq, slice_get, vec_capacity, Vec}
 use Rattle.std.specs.Global.{Global}
 use Rattle.slab.specs.Slab.{get}
+use Rattle.mold_receiver.specs.Places.{count_in}
 use Rattle.mold_receiver.specs.declared.place.Place.{Place}
 use Rattle.mold_receiver.specs.declared.place.TheConstants.{NO_START}
 use Rattle.mold_receiver.specs.declared.segment.Segment.{Segment}
@@ -70,19 +71,28 @@ pub record AreSegments (segments : Segments) : Type 0 where
       (0 < segment.live) ⊎ (segments.current ≡ Some key)
   pub spare : AreSpare segments.spare
 
+-- The count for the key itself, zero for another one.
+abbrev pub count_at : ℕ → ℕ → ℕ → ℕ
+count_at segment count key = if nat_eq segment key then count else 0
+
 -- Segments with a stored message keep their bytes in use, and may have more bytes after them. No count changed.
 pub record AreMore (old new : Segments) : Type 0 where
   pub live : (key : ℕ) → live_at new key ≡ live_at old key
   pub bytes : (key : ℕ) → 0 < live_at old key → (more : List ℕ) × (bytes_at new key ≡ bytes_at old key ++ more)
 
--- The segment with this key lost one of its stored messages. Segments with a stored message keep their bytes.
-pub record HasLost (old new : Segments) (lost : ℕ) : Type 0 where
-  pub live : (key : ℕ) → live_at new key ≡ live_at old key - one_at lost key
+-- The segment with this key lost `count` of its stored messages. Segments with a stored message keep their bytes.
+pub record HasLost (old new : Segments) (lost count : ℕ) : Type 0 where
+  pub live : (key : ℕ) → live_at new key ≡ live_at old key - count_at lost count key
   pub bytes : (key : ℕ) → 0 < live_at new key → bytes_at new key ≡ bytes_at old key
 
--- The segment with this key got one more stored message. All segments keep their bytes.
-pub record HasGained (old new : Segments) (gained : ℕ) : Type 0 where
-  pub live : (key : ℕ) → live_at new key ≡ live_at old key + one_at gained key
+-- Each segment lost the messages at these places. Segments with a stored message keep their bytes.
+pub record AreLost (old new : Segments) (places : List (Option Place)) : Type 0 where
+  pub live : (key : ℕ) → live_at new key ≡ live_at old key - count_in key places
+  pub bytes : (key : ℕ) → 0 < live_at new key → bytes_at new key ≡ bytes_at old key
+
+-- The segment with this key got `count` more stored messages. All segments keep their bytes.
+pub record HasGained (old new : Segments) (gained count : ℕ) : Type 0 where
+  pub live : (key : ℕ) → live_at new key ≡ live_at old key + count_at gained count key
   pub bytes : (key : ℕ) → bytes_at new key ≡ bytes_at old key
 
 -- These bytes were appended: they are the last bytes in use of the place's segment, and begin at its start.

@@ -45,6 +45,10 @@ pub record AreSlots (slots : List Slot) (count : ℕ) (flags : List Bool) : Type
   pub counted : count ≡ count_held slots
   pub flagged : flags ≡ flags_of slots
 
+-- The slots from `from` up to, but not including, `to` have no message.
+abbrev pub AreEmpty : List Slot → ℕ → ℕ → Type 0
+AreEmpty slots from to = (i : ℕ) → from ≤ i → i < to → slot_at slots i ≡ None
+
 -- The slot is the first one with a message among the first `most` slots. It is `most` if these are empty.
 pub record IsFirstHeld (slots : List Slot) (most slot : ℕ) : Type 0 where
   pub within : slot ≤ most

@@ -8,8 +8,11 @@ ghost use Rattle.std.specs.Prelude.{IsTrue, OnOk, OnErr};
 ghost use Rattle.std.specs.Option.{option_copied};
 ghost use Rattle.mold_receiver.specs.Batch.{Handed, handed_from, first_of, after_of, Follows, followed_by};
 ghost use Rattle.mold_receiver.specs.Handing.{Grew, HasMore};
+ghost use Rattle.mold_receiver.specs.Run.{IsWhole, messages_in};
 ghost use Rattle.mold_wire.specs.Block.{blocks as packed};
 
+use crate::run::Run;
+use crate::segment::length_at;
 use mold_messages::{PartIterator, PartList};
 use mold_wire::{Blocks, LENGTH_BYTES};
 use std::alloc::{AllocError, Global};
@@ -174,6 +177,22 @@ impl Batch {
         }
         mark_blocks(&mut self.list, begin, blocks)
     }
+
+    /// Appends the messages of a run. The first of them has the number `next`. All their bytes are copied at once. If an
+    /// allocation fails, it returns an error, and the batch may end with some of the messages.
+    pub(crate) fn push_run(&mut self, next: u64, run: Run<'_>) -> Result<(), AllocError>
+        requires follows { Follows self.old next }
+        requires counted { next + length (messages_in run) < 2 ^ 64 }
+        requires whole { IsWhole run }
+        ensures added { OnOk result (self.new ≡ followed_by self.old next (messages_in run.entry)) }
+        ensures grew { OnErr result (Grew self.old self.new next) }
+    {
+        let begin = self.list.append(run.bytes)?;
+        if self.list.is_empty() {
+            self.first = next;
+        }
+        mark_run(&mut self.list, begin, run)
+    }
 }
 
 impl<'a> IntoIterator for &'a Batch {
@@ -203,6 +222,27 @@ fn mark_blocks(list: &mut PartList, begin: usize, blocks: &Blocks<'_>) -> Result
         let start = at + LENGTH_BYTES;
         at = start + message.len();
         list.mark(start, at)?;
+    }
+    Ok(())
+}
+
+// Appends to the list the messages of a run whose bytes start at the offset `begin` of the list.
+fn mark_run(list: &mut PartList, begin: usize, run: Run<'_>) -> Result<(), AllocError>
+    requires behind { list.old.end ≤ begin }
+    requires fits { length list.old.bytes < 2 ^ 64 }
+    requires there { drop begin list.old.bytes ≡ run.bytes.now }
+    requires whole { IsWhole run }
+    ensures added { OnOk result (list.new.messages ≡ list.old.messages ++ messages_in run.entry) }
+    ensures grew { OnErr result (HasMore list.old.messages list.new.messages (messages_in run.entry)) }
+{
+    let mut at = 0;
+    let mut left = run.count;
+    while left > 0 {
+        let start = at + LENGTH_BYTES;
+        let end = start + length_at(run.bytes, at);
+        list.mark(begin + start, begin + end)?;
+        at = end;
+        left -= 1;
     }
     Ok(())
 }

@@ -37,8 +37,8 @@ fn find_conflict(slots: &Slots, next: u64, first: u64, blocks: &Blocks<'_>) -> O
     None
 }
 
-/// Returns the least number from `next` on at which the packet and the store have different messages. If nothing is
-/// stored, or the packet is wholly below `next`, it doesn't look at the messages.
+/// Returns the least number from `next` on at which the packet and the store have different messages. If no number of
+/// the packet is stored, or the packet is wholly below `next`, it doesn't look at the messages.
 // This runs for each datagram. `receiver.rt` says why it is `inline(always)`.
 #[inline(always)]
 pub(crate) fn conflict_of(slots: &Slots, next: u64, packet: &Packet<'_>, top: u64) -> Option<u64>
@@ -53,6 +53,10 @@ pub(crate) fn conflict_of(slots: &Slots, next: u64, packet: &Packet<'_>, top: u6
         return None;
     }
     if slots.held() == 0 {
+        return None;
+    }
+    let first = packet.sequence.max(next) - next;
+    if slots.is_clear(first as usize, (top - next) as usize) {
         return None;
     }
     find_conflict(slots, next, packet.sequence, blocks)

@@ -64,9 +64,9 @@ fn push_held(batch: &mut Batch, next: u64, slots: &Slots, start: usize) -> Resul
     ensures grew { OnErr result (Grew batch.old batch.new (next + start)) }
 {
     let mut end = start;
-    while let Some(message) = slots.get(end) {
-        batch.push(next + end as u64, message)?;
-        end += 1;
+    while let Some(run) = slots.run(end) {
+        batch.push_run(next + end as u64, run)?;
+        end += run.count;
     }
     Ok(end)
 }

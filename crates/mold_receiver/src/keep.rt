@@ -75,6 +75,12 @@ pub(crate) fn keep_fresh(
     ensures needed { OnErr result (0 < length (fresh (slots_on shelf.old) first blocks.now)) }
     ensures same { OnErr result (slots_on shelf.new ≡ slots_on shelf.old) }
 {
+    let count = blocks.len();
+    if shelf.are_free(first, u64::from(count)) {
+        let begin = shelf.append(alloc, blocks.bytes())?;
+        shelf.mark_all(first as usize, begin, blocks);
+        return Ok(u32::from(count));
+    }
     if !has_fresh(shelf, first, blocks) {
         return Ok(0);
     }

@@ -1,8 +1,10 @@
 //! A ring of flags whose first set flag is found in constant time.
 
-ghost use Rattle.std.specs.Prelude.{◌≡◌, ℕ, ◌+◌, ◌*◌, ◌/◌, ◌^◌, ◌<◌, ◌≤◌, ◌++◌, ◌∷◌, [], length, drop, replicate};
-ghost use Rattle.std.specs.Prelude.{nat_eq, slice_index, slice_set, false, true, IfOk};
-ghost use Rattle.mold_receiver.specs.Occupied.{flag_at, bit_of, Writes, IsNext, IsNextInWord, IsNextSet};
+ghost use Rattle.std.specs.Prelude.{◌≡◌, ℕ, ◌+◌, ◌-◌, ◌*◌, ◌/◌, ◌%◌, ◌^◌, ◌<◌, ◌≤◌, ◌↔◌, ◌++◌, ◌∷◌, [], length, take};
+ghost use Rattle.std.specs.Prelude.{drop, replicate, nat_eq, slice_index, slice_set, false, true, IfOk, IsTrue};
+ghost use Rattle.std.specs.Prelude.{if◌then◌else◌};
+ghost use Rattle.mold_receiver.specs.Occupied.{flag_at, bit_of, AreWritten, IsWrite, IsNext, IsNextInWord, IsNextSet};
+ghost use Rattle.mold_receiver.specs.Occupied.{AreClear, AreUnset};
 ghost use Rattle.mold_wire.specs.declared.limits.TheConstants.{MAX_WIDE_WINDOW};
 ghost use Rattle.mold_receiver.specs.Occupied.{AreLevels, IsFirstSet};
 
@@ -26,26 +28,32 @@ fn is_bit_set(words: &[u64], i: usize) -> bool
     (words[i / 64] >> (i % 64)) & 1 == 1
 }
 
-// Sets bit `i`, and returns whether its word had no set bit before.
-fn set_bit(words: &mut [u64], i: usize) -> bool
-    requires { i / 64 < length words.old }
-    ensures set { Writes words.old words.new i 1 }
-    ensures first { result ≡ nat_eq (slice_index words.old (i / 64)) 0 }
+// Returns a word whose set bits are those from bit `from` on and below bit `to`, which are in one word.
+fn mask(from: usize, to: usize) -> u64
+    requires some { from < to }
+    requires one { to ≤ 64 * (from / 64 + 1) }
+    ensures { result ≡ 2 ^ (from % 64 + (to - from)) - 2 ^ (from % 64) }
 {
-    let first = words[i / 64] == 0;
-    words[i / 64] |= 1 << (i % 64);
-    first
+    (u64::MAX >> (64 - (to - from))) << (from % 64)
 }
 
-// Clears bit `i`, and returns whether its word has no set bit left.
-fn clear_bit(words: &mut [u64], i: usize) -> bool
-    requires { i / 64 < length words.old }
-    ensures cleared { Writes words.old words.new i 0 }
-    ensures less { slice_index words.new (i / 64) ≤ slice_index words.old (i / 64) }
-    ensures empty { result ≡ nat_eq (slice_index words.new (i / 64)) 0 }
+// Sets the bits from bit `from` on and below bit `to`, or clears them. They are in one word. Returns whether this word
+// was 0 and now isn't, or wasn't 0 and now is.
+fn write_bits(words: &mut [u64], from: usize, to: usize, set: bool) -> bool
+    requires there { from / 64 < length words.old }
+    requires some { from < to }
+    requires one { to ≤ 64 * (from / 64 + 1) }
+    ensures { IsWrite words.old words.new from to (if set then 1 else 0) result }
 {
-    words[i / 64] &= !(1 << (i % 64));
-    words[i / 64] == 0
+    let k = from / 64;
+    let old = words[k];
+    let new = if set {
+        old | mask(from, to)
+    } else {
+        old & !mask(from, to)
+    };
+    words[k] = new;
+    (old == 0) != (new == 0)
 }
 
 // Returns the first set bit of word `k`, which has one.
@@ -102,57 +110,44 @@ impl Levels {
         })
     }
 
-    // Sets bit `i`.
-    fn set(&mut self, i: usize)
+    // Sets the bits from bit `from` on and below bit `to`, or clears them. They are in one word.
+    fn write_part(&mut self, from: usize, to: usize, set: bool)
         requires levels { AreLevels self.old }
-        requires within { i < 64 * length self.old.bits.items }
+        requires within { from < 64 * length self.old.bits.items }
+        requires some { from < to }
+        requires one { to ≤ 64 * (from / 64 + 1) }
         ensures levels { AreLevels self.new }
-        ensures set { Writes self.old.bits.items self.new.bits.items i 1 }
+        ensures written { AreWritten self.old.bits.items self.new.bits.items from to (if set then 1 else 0) }
     {
-        if !set_bit(&mut self.bits, i) {
+        if !write_bits(&mut self.bits, from, to, set) {
             return;
         }
-        if !set_bit(&mut self.words, i / 64) {
+        let word = from / 64;
+        if !write_bits(&mut self.words, word, word + 1, set) {
             return;
         }
-        if !set_bit(&mut self.groups, i / 64 / 64) {
+        let group = word / 64;
+        if !write_bits(&mut self.groups, group, group + 1, set) {
             return;
         }
-        set_bit(&mut self.top, i / 64 / 64 / 64);
+        let top = group / 64;
+        write_bits(&mut self.top, top, top + 1, set);
     }
 
-    // Clears bit `i`.
-    fn clear(&mut self, i: usize)
+    // Sets the bits from bit `from` on and below bit `to`, or clears them.
+    fn write(&mut self, from: usize, to: usize, set: bool)
         requires levels { AreLevels self.old }
-        requires within { i < 64 * length self.old.bits.items }
+        requires order { from ≤ to }
+        requires within { to ≤ 64 * length self.old.bits.items }
         ensures levels { AreLevels self.new }
-        ensures cleared { Writes self.old.bits.items self.new.bits.items i 0 }
+        ensures written { AreWritten self.old.bits.items self.new.bits.items from to (if set then 1 else 0) }
     {
-        if !clear_bit(&mut self.bits, i) {
-            return;
+        let mut from = from;
+        while from < to {
+            let end = to.min((from / 64 + 1) * 64);
+            self.write_part(from, end, set);
+            from = end;
         }
-        if !clear_bit(&mut self.words, i / 64) {
-            return;
-        }
-        if !clear_bit(&mut self.groups, i / 64 / 64) {
-            return;
-        }
-        clear_bit(&mut self.top, i / 64 / 64 / 64);
-    }
-
-    // Clears bit `i`, and returns whether it was set.
-    fn take(&mut self, i: usize) -> bool
-        requires levels { AreLevels self.old }
-        requires within { i < 64 * length self.old.bits.items }
-        ensures levels { AreLevels self.new }
-        ensures cleared { Writes self.old.bits.items self.new.bits.items i 0 }
-        ensures was { result ≡ nat_eq (bit_of self.old.bits.items i) 1 }
-    {
-        if !is_bit_set(&self.bits, i) {
-            return false;
-        }
-        self.clear(i);
-        true
     }
 
     // Returns the first set bit of `groups` from bit `from` on.
@@ -194,6 +189,25 @@ impl Levels {
                 Some(k) => Some(first_in_word(&self.bits, k)),
                 None => None,
             },
+        }
+    }
+
+    // Returns whether no bit is set from bit `from` on and below bit `to`.
+    fn is_clear(&self, from: usize, to: usize) -> bool
+        requires levels { AreLevels self.now }
+        requires within { from < 64 * length self.now.bits.items }
+        ensures { IsTrue result ↔ AreClear self.now.bits.items from to }
+    {
+        if let Some(bit) = next_in_word(&self.bits, from) {
+            return to <= bit;
+        }
+        let end = (from / 64 + 1) * 64;
+        if to <= end {
+            return true;
+        }
+        match self.next(end) {
+            Some(bit) => to <= bit,
+            None => true,
         }
     }
 }
@@ -252,23 +266,58 @@ impl Occupied {
         is_bit_set(&self.levels.bits, ring_index(self.head, self.count, slot))
     }
 
+    /// Returns whether no flag is set from slot `from` up to, but not including, slot `to`. Slots that don't exist have
+    /// no flag set.
+    pub(crate) fn is_clear(&self, from: usize, to: usize) -> bool
+        ensures { IsTrue result ↔ AreUnset self.now from to }
+    {
+        let to = to.min(self.count);
+        if from >= to {
+            return true;
+        }
+        let start = ring_index(self.head, self.count, from);
+        let end = start + (to - from);
+        if end <= self.count {
+            return self.levels.is_clear(start, end);
+        }
+        self.levels.is_clear(start, self.count) && self.levels.is_clear(0, end - self.count)
+    }
+
+    // Sets the flags of `count` slots from `slot` on, or clears them.
+    fn write(&mut self, slot: usize, count: usize, set: bool)
+        requires { slot + count ≤ length self.old }
+        ensures { self.new ≡ take slot self.old ++ replicate count set ++ drop (slot + count) self.old }
+    {
+        let start = ring_index(self.head, self.count, slot);
+        let end = start + count;
+        self.levels.write(start, end.min(self.count), set);
+        self.levels.write(0, end.saturating_sub(self.count), set);
+    }
+
     /// Sets the flag of a slot.
     pub(crate) fn set(&mut self, slot: usize)
         requires { slot < length self.old }
         ensures { self.new ≡ slice_set self.old slot true }
     {
-        self.levels.set(ring_index(self.head, self.count, slot));
+        let bit = ring_index(self.head, self.count, slot);
+        self.levels.write_part(bit, bit + 1, true);
     }
 
-    /// Drops the first flag and appends one that is not set. Returns the dropped flag.
-    pub(crate) fn advance(&mut self) -> bool
-        requires { 0 < length self.old }
-        ensures moved { self.new ≡ drop 1 self.old ++ false ∷ [] }
-        ensures first { result ≡ flag_at self.old 0 }
+    /// Drops the first `count` flags and appends as many that are not set.
+    pub(crate) fn skip(&mut self, count: usize)
+        requires { count ≤ length self.old }
+        ensures { self.new ≡ drop count self.old ++ replicate count false }
     {
-        let first = self.levels.take(self.head);
-        self.head = ring_index(self.head, self.count, 1);
-        first
+        self.write(0, count, false);
+        self.head = ring_index(self.head, self.count, count);
+    }
+
+    /// Sets the flags of `count` slots from `slot` on.
+    pub(crate) fn set_range(&mut self, slot: usize, count: usize)
+        requires { slot + count ≤ length self.old }
+        ensures { self.new ≡ take slot self.old ++ replicate count true ++ drop (slot + count) self.old }
+    {
+        self.write(slot, count, true);
     }
 
     /// Returns the first slot whose flag is set, or the number of flags if none is set.

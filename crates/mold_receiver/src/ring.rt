@@ -1,11 +1,13 @@
 //! The ring of places. A slot is empty or has the place of its message.
 
-ghost use Rattle.std.specs.Prelude.{◌≡◌, ◌+◌, ◌<◌, ◌^◌, ◌++◌, ◌∷◌, [], length, drop, replicate, slice_set, IfOk, None, Some};
+ghost use Rattle.std.specs.Prelude.{◌≡◌, ◌+◌, ◌<◌, ◌≤◌, ◌^◌, ◌++◌, ◌∷◌, [], length, drop, replicate, slice_set, IfOk, None, Some};
 ghost use Rattle.mold_receiver.specs.Places.{place_at};
-ghost use Rattle.mold_receiver.specs.Ring.{index_of};
+ghost use Rattle.mold_receiver.specs.Ring.{index_of, placed};
+ghost use Rattle.mold_wire.specs.Block.{blocks as packed};
 ghost use Rattle.mold_receiver.specs.declared.place.TheConstants.{NO_START};
 
 use crate::place::Place;
+use mold_wire::{Blocks, LENGTH_BYTES};
 use std::alloc::{AllocError, Global};
 use std::marker::Model;
 
@@ -77,15 +79,38 @@ impl Ring {
         self.places[index] = place;
     }
 
-    /// Drops the first slot, appends an empty one, and returns what was in the first.
-    pub(crate) fn rotate(&mut self) -> Option<Place>
-        requires { 0 < length self.old }
-        ensures moved { self.new ≡ drop 1 self.old ++ None ∷ [] }
-        ensures first { result ≡ place_at self.old 0 }
+    /// Writes the places of a packet's blocks into the slots from `slot` on. The first block starts at the place
+    /// `begin`.
+    pub(crate) fn write_blocks(&mut self, slot: usize, begin: Place, blocks: &Blocks<'_>)
+        requires within { slot + length blocks.now ≤ length self.old }
+        requires few { length self.old < 2 ^ 32 }
+        requires fits { begin.start + length (packed blocks.now) ≤ NO_START }
+        ensures { self.new ≡ placed self.old slot begin.segment begin.start blocks.now }
     {
-        let first = self.places[self.head].held();
-        self.places[self.head] = Place::none();
-        self.head = ring_index(self.head, self.places.len(), 1);
-        first
+        let mut at = begin.start as usize;
+        let mut slot = slot;
+        for message in blocks.iter() {
+            let place = Place {
+                segment: begin.segment,
+                start: at as u32,
+            };
+            self.write(slot, place);
+            at += LENGTH_BYTES + message.len();
+            slot += 1;
+        }
+    }
+
+    /// Drops the first `count` slots and appends as many empty ones.
+    pub(crate) fn skip(&mut self, count: usize)
+        requires { count ≤ length self.old }
+        ensures { self.new ≡ drop count self.old ++ replicate count None }
+    {
+        let len = self.places.len();
+        let mut index = self.head;
+        for _ in 0..count {
+            self.places[index] = Place::none();
+            index = ring_index(index, len, 1);
+        }
+        self.head = index;
     }
 }

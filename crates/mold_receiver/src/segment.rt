@@ -1,7 +1,8 @@
 //! A segment of the store: memory of a fixed size with the blocks of stored messages.
 
-ghost use Rattle.std.specs.Prelude.{◌≡◌, ◌+◌, ◌≤◌, ◌<◌, ◌++◌, length, IfOk, vec_capacity};
-ghost use Rattle.mold_receiver.specs.Places.{IsBlockAt, message_in};
+ghost use Rattle.std.specs.Prelude.{◌≡◌, ◌+◌, ◌≤◌, ◌^◌, ◌<◌, ◌++◌, length, IfOk, vec_capacity};
+ghost use Rattle.mold_receiver.specs.Places.{IsBlockAt, length_at as stated_length, message_in};
+ghost use Rattle.mold_wire.specs.declared.block.TheConstants.{LENGTH_BYTES};
 ghost use Rattle.mold_receiver.specs.Segments.{IsFilled, IsMemory, IsSegment, used_bytes};
 ghost use Rattle.mold_receiver.specs.declared.segment.TheConstants.{SEGMENT_BYTES};
 
@@ -35,6 +36,15 @@ pub(crate) fn memory(alloc: Global, size: usize) -> Result<Vec<u8>, AllocError>
         return Err(AllocError);
     }
     Ok(bytes)
+}
+
+/// Returns the length of the message whose block starts at this offset of the bytes.
+pub(crate) fn length_at(bytes: &[u8], start: usize) -> usize
+    requires { start + LENGTH_BYTES ≤ length bytes.now }
+    ensures length { result ≡ stated_length bytes.now start }
+    ensures few { result < 2 ^ 16 }
+{
+    usize::from(BigEndian::read_u16(&bytes[start..start + LENGTH_BYTES]))
 }
 
 /// Returns the message whose block starts at this offset of the bytes.

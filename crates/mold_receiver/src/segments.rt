@@ -183,29 +183,32 @@ impl Segments {
         }
     }
 
-    /// Counts one more stored message of a segment.
-    pub(crate) fn hold(&mut self, key: u32)
+    /// Counts `count` more stored messages of a segment.
+    pub(crate) fn hold(&mut self, key: u32, count: u32)
         requires whole { AreSegments self.old }
         requires some { 0 < length (bytes_at self.old key) }
-        requires few { live_at self.old key + 1 < 2 ^ 32 }
+        requires few { live_at self.old key + count < 2 ^ 32 }
         ensures whole { AreSegments self.new }
-        ensures gained { HasGained self.old self.new key }
+        ensures gained { HasGained self.old self.new key count }
     {
         if let Some(segment) = self.table.get_mut(key as usize) {
-            segment.live += 1;
+            segment.live += count;
         }
     }
 
-    /// Counts one stored message of a segment less. After the last one, the segment is given back.
-    pub(crate) fn let_go(&mut self, key: u32)
+    /// Subtracts `count` from a segment's count of stored messages. After its last one, the segment is given back.
+    pub(crate) fn let_go(&mut self, key: u32, count: u32)
         requires whole { AreSegments self.old }
-        requires some { 0 < live_at self.old key }
+        requires some { count ≤ live_at self.old key }
         ensures whole { AreSegments self.new }
-        ensures lost { HasLost self.old self.new key }
+        ensures lost { HasLost self.old self.new key count }
     {
+        if count == 0 {
+            return;
+        }
         if let Some(segment) = self.table.get_mut(key as usize) {
-            if segment.live > 1 {
-                segment.live -= 1;
+            if segment.live > count {
+                segment.live -= count;
                 return;
             }
         }

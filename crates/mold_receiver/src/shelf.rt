@@ -1,22 +1,28 @@
 //! The store: a ring of slots, and the segments that have the stored messages.
 
-ghost use Rattle.std.specs.Prelude.{◌≡◌, ◌+◌, ◌<◌, ◌≤◌, ◌++◌, ◌∷◌, [], length, drop, replicate, ℕ};
-ghost use Rattle.std.specs.Prelude.{slice_set, is_some, if◌then◌else◌, IfOk, IsTrue, None, Some};
+ghost use Rattle.std.specs.Prelude.{◌≡◌, ◌↔◌, ◌^◌, ◌+◌, ◌<◌, ◌≤◌, ◌++◌, ◌∷◌, [], length, drop, replicate, ℕ};
+ghost use Rattle.std.specs.Prelude.{slice_set, is_some, if◌then◌else◌, IfOk, IfNone, IfSome, IsTrue, None, Some};
+ghost use Rattle.std.specs.List.{AllByRecursion};
 ghost use Rattle.std.specs.Option.{option_copied};
-ghost use Rattle.mold_receiver.specs.Keeping.{is_fresh, put_fresh};
-ghost use Rattle.mold_receiver.specs.Places.{IsBlockAt};
+ghost use Rattle.mold_wire.specs.Block.{IsMessage, blocks as packed};
+ghost use Rattle.mold_receiver.specs.Keeping.{AreFree, filled, is_fresh, put_fresh};
+ghost use Rattle.mold_receiver.specs.Places.{IsBlockAt, place_at};
 ghost use Rattle.mold_receiver.specs.Segments.{IsAppended, bytes_at};
-ghost use Rattle.mold_receiver.specs.Shelf.{IsKept, message_on, slots_on};
-ghost use Rattle.mold_receiver.specs.Slots.{slot_at, count_held, IsFirstHeld};
+ghost use Rattle.mold_receiver.specs.Run.{IsRunAt};
+ghost use Rattle.mold_receiver.specs.Shelf.{IsExtent, IsKept, message_on, slots_on};
+ghost use Rattle.mold_receiver.specs.Slots.{slot_at, count_held, AreEmpty, IsFirstHeld};
 ghost use Rattle.mold_receiver.specs.declared.place.TheConstants.{NO_START};
 ghost use Rattle.mold_receiver.specs.declared.segments.TheConstants.{MAX_SPARE};
 ghost use Rattle.mold_wire.specs.declared.limits.TheConstants.{MAX_WIDE_WINDOW};
 
 use crate::occupied::Occupied;
 use crate::place::Place;
+use crate::release::release;
 use crate::ring::Ring;
-use crate::segment::message_at;
+use crate::run::Run;
+use crate::segment::{length_at, message_at};
 use crate::segments::Segments;
+use mold_wire::{Blocks, LENGTH_BYTES};
 use std::alloc::{AllocError, Global};
 
 /// A ring with one slot for each number of a receiver's window. A slot is empty or has the place of a message. The
@@ -89,6 +95,53 @@ impl Shelf {
         }
     }
 
+    // Returns whether the slot exists and has this place.
+    fn is_at(&self, slot: usize, segment: u32, start: usize) -> bool
+        ensures same { IsTrue result ↔ (place_at self.now.ring slot ≡ Some (record { segment = segment; start = start })) }
+        ensures small { IsTrue result → start < 2 ^ 32 }
+    {
+        match self.ring.get(slot) {
+            Some(place) => place.segment == segment && place.start as usize == start,
+            None => false,
+        }
+    }
+
+    // Returns how many blocks follow each other from the place of the slot on, as long as the slots after it have
+    // their places. Returns the offset after the last of them too.
+    fn extent(&self, slot: usize, first: Place) -> (usize, usize)
+        requires kept { IsKept self.now }
+        requires there { place_at self.now.ring slot ≡ Some first }
+        ensures { IsExtent self.now slot first result.0 result.1 }
+    {
+        let bytes = self.segments.bytes(first.segment);
+        let mut end = first.start as usize;
+        let mut count = 0;
+        while self.is_at(slot + count, first.segment, end) {
+            end += LENGTH_BYTES + length_at(bytes, end);
+            count += 1;
+        }
+        (count, end)
+    }
+
+    /// Returns the messages from a slot on that follow each other in one segment, or `None` if the slot is empty or
+    /// doesn't exist.
+    pub(crate) fn run(&self, slot: usize) -> Option<Run<'_>>
+        requires { IsKept self.now }
+        ensures some { IfSome result (λ run. IsRunAt (slots_on self.now) slot run) }
+        ensures none { IfNone result (slot_at (slots_on self.now) slot ≡ None) }
+    {
+        match self.ring.get(slot) {
+            Some(first) => {
+                let (count, end) = self.extent(slot, first);
+                let start = first.start as usize;
+                let (_, from) = self.segments.bytes(first.segment).split_at(start);
+                let (bytes, _) = from.split_at(end - start);
+                Some(Run { bytes, count })
+            }
+            None => None,
+        }
+    }
+
     /// Returns whether the slot exists and has a message.
     pub(crate) fn has(&self, slot: usize) -> bool
         ensures { result ≡ is_some (slot_at (slots_on self.now) slot) }
@@ -127,7 +180,7 @@ impl Shelf {
     {
         self.held += 1;
         self.occupied.set(slot);
-        self.segments.hold(place.segment);
+        self.segments.hold(place.segment, 1);
         self.ring.write(slot, place);
     }
 
@@ -150,20 +203,21 @@ impl Shelf {
         true
     }
 
-    // Drops the first slot with its message and appends an empty slot.
-    fn advance(&mut self)
-        requires { IsKept self.old }
+    /// Puts the messages of a packet into the slots from `slot` on, which are empty. Their blocks start at the place
+    /// `begin`.
+    pub(crate) fn mark_all(&mut self, slot: usize, begin: Place, blocks: &Blocks<'_>)
+        requires kept { IsKept self.old }
+        requires free { AreFree (slots_on self.old) slot (length blocks.now) }
+        requires each { AllByRecursion IsMessage blocks.now }
+        requires there { IsAppended self.old.segments begin (packed blocks.now) }
         ensures kept { IsKept self.new }
-        ensures moved { slots_on self.new ≡ drop 1 (slots_on self.old) ++ None ∷ [] }
+        ensures filled { slots_on self.new ≡ filled (slots_on self.old) slot blocks.now }
     {
-        self.occupied.advance();
-        match self.ring.rotate() {
-            Some(place) => {
-                self.held -= 1;
-                self.segments.let_go(place.segment);
-            }
-            None => {}
-        }
+        let count = blocks.len();
+        self.ring.write_blocks(slot, begin, blocks);
+        self.occupied.set_range(slot, usize::from(count));
+        self.segments.hold(begin.segment, u32::from(count));
+        self.held += u32::from(count);
     }
 
     /// Drops the first `count` slots and appends as many empty ones. If no slot has a message, nothing needs to
@@ -181,16 +235,34 @@ impl Shelf {
         }
     }
 
-    // Drops the first `count` slots and appends as many empty ones, one at a time.
+    // Drops the first `count` slots with their messages, and appends as many empty ones.
     fn drop_first(&mut self, count: usize)
         requires kept { IsKept self.old }
         requires within { count ≤ length (slots_on self.old) }
         ensures kept { IsKept self.new }
         ensures moved { slots_on self.new ≡ drop count (slots_on self.old) ++ replicate count None }
     {
-        for _ in 0..count {
-            self.advance();
-        }
+        self.held -= release(&mut self.segments, &self.ring, count);
+        self.ring.skip(count);
+        self.occupied.skip(count);
+    }
+
+    /// Returns whether no slot from `from` up to, but not including, `to` has a message.
+    pub(crate) fn is_clear(&self, from: usize, to: usize) -> bool
+        requires { IsKept self.now }
+        ensures { IsTrue result ↔ AreEmpty (slots_on self.now) from to }
+    {
+        self.occupied.is_clear(from, to)
+    }
+
+    /// Returns whether `count` slots from `first` on exist and are empty.
+    pub(crate) fn are_free(&self, first: u64, count: u64) -> bool
+        requires kept { IsKept self.now }
+        requires numbered { first + count < 2 ^ 64 }
+        ensures { IsTrue result ↔ AreFree (slots_on self.now) first count }
+    {
+        let end = first + count;
+        end <= self.ring.len() as u64 && self.is_clear(first as usize, end as usize)
     }
 
     /// Returns the first slot that has a message among the first `most` slots, or `most` if they are empty.

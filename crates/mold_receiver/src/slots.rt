@@ -1,14 +1,16 @@
 //! The slots of the store, as the receiver uses them.
 
-ghost use Rattle.std.specs.Prelude.{◌≡◌, ◌+◌, ◌^◌, ◌<◌, ◌≤◌, ◌++◌, length, drop, replicate, IfOk, OnOk, OnErr, None};
+ghost use Rattle.std.specs.Prelude.{◌≡◌, ◌↔◌, IsTrue, ◌+◌, ◌^◌, ◌<◌, ◌≤◌, ◌++◌, length, drop, replicate, IfOk, IfNone, IfSome, OnOk, OnErr, None};
 ghost use Rattle.std.specs.Option.{option_copied};
 ghost use Rattle.mold_receiver.specs.Keeping.{filled, fresh};
-ghost use Rattle.mold_receiver.specs.Slots.{slot_at, count_held, IsFirstHeld};
+ghost use Rattle.mold_receiver.specs.Run.{IsRunAt};
+ghost use Rattle.mold_receiver.specs.Slots.{slot_at, count_held, AreEmpty, IsFirstHeld};
 ghost use Rattle.mold_receiver.specs.declared.segments.TheConstants.{MAX_SPARE};
 ghost use Rattle.mold_wire.specs.declared.limits.TheConstants.{MAX_WIDE_WINDOW};
 ghost use Rattle.mold_wire.specs.declared.header.TheConstants.{END_OF_SESSION};
 
 use crate::keep::keep_fresh;
+use crate::run::Run;
 use crate::shelf::Shelf;
 use mold_wire::Blocks;
 use std::alloc::{AllocError, Global};
@@ -78,6 +80,15 @@ impl Slots {
         self.shelf.get(slot)
     }
 
+    /// Returns the messages from a slot on that follow each other in one segment, or `None` if the slot is empty or
+    /// doesn't exist.
+    pub(crate) fn run(&self, slot: usize) -> Option<Run<'_>>
+        ensures some { IfSome result (λ run. IsRunAt self.now slot run) }
+        ensures none { IfNone result (slot_at self.now slot ≡ None) }
+    {
+        self.shelf.run(slot)
+    }
+
     /// Puts each of the packet's messages into its slot, if the slot exists and is empty. Returns how many it put.
     /// `first` is the slot of the packet's first message. If an allocation fails, it returns an error and the slots
     /// are unchanged. An allocation is only needed if there is a message to put.
@@ -106,6 +117,13 @@ impl Slots {
         ensures { self.new ≡ drop count self.old ++ replicate count None }
     {
         self.shelf.skip(count);
+    }
+
+    /// Returns whether no slot from `from` up to, but not including, `to` has a message.
+    pub(crate) fn is_clear(&self, from: usize, to: usize) -> bool
+        ensures { IsTrue result ↔ AreEmpty self.now from to }
+    {
+        self.shelf.is_clear(from, to)
     }
 
     /// Returns the first slot that has a message among the first `most` slots, or `most` if they are empty.

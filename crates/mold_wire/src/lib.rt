@@ -21,7 +21,8 @@ pub use buffer::{add_in, can_hold, end_in, fits_in, is_limit, start_in};
 pub use error::{DecodeError, PackerError, RequestError};
 pub use header::{END_OF_SESSION, HEADER_LENGTH};
 pub use limits::{
-    MAX_BURST, MAX_COUNT, MAX_LIMIT, MAX_NUMBER, MAX_WIDE_WINDOW, MAX_WINDOW, MESSAGE_OVERHEAD, MIN_LIMIT,
+    MAX_BURST, MAX_COUNT, MAX_LIMIT, MAX_NUMBER, MAX_WIDE_WINDOW, MAX_WINDOW, MESSAGE_OVERHEAD,
+    MIN_LIMIT,
 };
 pub use messages::Messages;
 pub use packer::Packer;

@@ -1,4 +1,4 @@
-use Rattle.std.proofs.Common.{◌≡◌, ◌<◌, ℕ, List, length, set, slice_set, sym, ap, ◌∙◌, arith}
+use Rattle.std.proofs.Common.{◌<◌, ℕ, List, length, set, slice_set, ap, ◌∙◌, arith}
 use Rattle.std.specs.Prelude.{Option, None, Some}
 use Rattle.std.proofs.lemmas.Bool.{cond-true, lt-ltb}
 use Rattle.mold_receiver.specs.declared.place.Place.{Place}
@@ -48,6 +48,6 @@ returns c =
     ) in
     ap (λ (i : ℕ). ring_of (set f.places.items i c.args.place) f.head) (c.ring_index-index.ensures
     ∙ ap (λ (n : ℕ). index_of f.head n c.args.slot) (c.len.ensures ∙ f.places.ok.0))
-    ∙ ring_written f.places.items f.head c.self.invariant.0 c.args.slot c.args.place inside
+    ∙ ring_written f.places.items f.head c.self.invariant.0 c.args.slot c.args.place (Some c.args.place) inside
     (cond-true _ (Some c.args.place) None (lt-ltb c.args.place.start 4294967295 c.requires.some))
     ∙ ap (λ (t : List (Option Place)). slice_set t c.args.slot (Some c.args.place)) c.self.view_is

@@ -1,12 +1,27 @@
-use Rattle.std.proofs.Common.{◌++◌, ◌∷◌, [], drop, ap, ◌∙◌, arith, None, List}
+use Rattle.std.proofs.Common.{◌≤◌, arith}
 use Rattle.mold_receiver.specs.Shelf.{slots_on}
-use Rattle.mold_receiver.specs.Slots.{Slot}
-use Rattle.mold_receiver.proofs.SlotLemmas.{moved_more}
+use Rattle.mold_receiver.proofs.SkipLemmas.{held_first, kept_skipped, skipped}
 use Rattle.mold_receiver.proofs.shelf.Shelf.drop_first.Goals as goal
 
-pub loop-preserved : goal.loop-preserved
-loop-preserved c = record {
-  kept = c.advance.ensures.kept;
-  moved = c.advance.ensures.moved ∙ ap (λ (slots : List Slot). drop 1 slots ++ None ∷ []) c.loop.invariant.moved
-      ∙ moved_more c.loop.counter (slots_on c.args.self.now) (omega (arith, c.requires.within));
-}
+pub overflow_sub-self : goal.overflow_sub-self
+overflow_sub-self c =
+    let old = c.args.self.now in
+    omega (
+      arith,
+      c.release.ensures.count,
+      c.requires.kept.slots.counted,
+      held_first old.segments old.ring c.args.count,
+    )
+
+pub returns-clause-kept : goal.returns-clause-kept
+returns-clause-kept c =
+    let old = c.args.self.now in
+    kept_skipped old c.skip.new.self c.release.new.segments c.args.count c.requires.kept c.requires.within
+    c.skip.ensures c.release.ensures.whole c.release.ensures.lost _ c.skip-2.new.self
+    (omega (arith, c.release.ensures.count)) c.skip-2.ensures
+
+pub returns-clause-moved : goal.returns-clause-moved
+returns-clause-moved c =
+    let old = c.args.self.now in
+    skipped old c.skip.new.self c.release.new.segments c.args.count c.requires.kept c.requires.within
+    c.skip.ensures c.release.ensures.whole c.release.ensures.lost
