@@ -149,6 +149,36 @@ fn receivers_are_refused_in_order(rt: HostRuntime) -> Result<(), Fail> {
     Ok(())
 }
 
+#[test]
+fn wide_receivers_are_refused_in_order(rt: HostRuntime) -> Result<(), Fail> {
+    for (next, window, want) in [
+        (0, 0, ReceiverError::NextZero),
+        (1, 0, ReceiverError::Window),
+        (1, 1048577, ReceiverError::Window),
+    ] {
+        let made = Receiver::wide(rt.alloc(), SESSION, next, window);
+        same_error(&rt, made.err(), want);
+    }
+    Ok(())
+}
+
+/// The last message of the widest window is stored, and the one after it is beyond the window.
+const WIDE: &[Step] = &[
+    Step::Taken(b"SESSION001\0\0\0\0\0\x10\0\0\0\x01\0\x01Y", (0, 1, 0)),
+    Step::Taken(b"SESSION001\0\0\0\0\0\x10\0\x01\0\x01\0\x01Z", (0, 0, 1)),
+    Step::Numbers(1, 1048578, 1),
+    Step::Taken(b"SESSION001\0\0\0\0\0\0\0\x01\0\x01\0\x01A", (1, 0, 0)),
+    Step::Numbers(2, 1048578, 1),
+];
+
+#[test]
+fn a_wide_receiver_stores_the_end_of_its_window(rt: HostRuntime) -> Result<(), Fail> {
+    let receiver = Receiver::wide(rt.alloc(), SESSION, 1, 1048576)?;
+    let mut reception = Reception::of(rt.alloc(), receiver);
+    reception.expect_steps(&rt, WIDE);
+    Ok(())
+}
+
 const BOUNDED: &[Step] = &[
     Step::Taken(END_3, (0, 0, 0)),
     Step::Numbers(1, 3, 0),
