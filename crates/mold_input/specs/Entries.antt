@@ -5,6 +5,7 @@ use Rattle.hex.specs.declared.error.FromHexError.{FromHexError}
 use Rattle.mold_devices.specs.Lines.{lines_of}
 use Rattle.mold_input.specs.declared.input_fault.InputFault.{InputFault}
 use Rattle.mold_input.specs.declared.input_fault.InputFault.TheVariants.{NotHex}
+use Rattle.mold_input.specs.declared.input_kind.InputKind.{InputKind}
 use Rattle.mold_input.specs.declared.next.Next.{Next}
 use Rattle.mold_input.specs.declared.next.Next.TheVariants.{Message, Fault, End}
 
@@ -29,6 +30,20 @@ line_entries input = map line_entry (lines_of input)
 abbrev pub known_entries : (List ℕ → List Entry) → Option (List ℕ) → Option (List Entry)
 known_entries entries None = None
 known_entries entries (Some input) = Some (entries input)
+
+-- An input: its kind, and its entries in order.
+pub record InputEntries : Type 0 where
+  pub kind : InputKind
+  pub entries : List Entry
+
+-- The input with these entries, if they are known.
+abbrev pub with_kind : InputKind → Option (List Entry) → Option InputEntries
+with_kind kind None = None
+with_kind kind (Some entries) = Some (record { kind = kind; entries = entries })
+
+-- The remaining input of this kind, if its bytes are known.
+abbrev pub known_input : InputKind → (List ℕ → List Entry) → Option (List ℕ) → Option InputEntries
+known_input kind entries input = with_kind kind (known_entries entries input)
 
 -- The entries before a reader moved to `next`, from the entries `left` after it. `message` is what it then holds.
 abbrev pub entries_before : Next → List ℕ → List Entry → List Entry

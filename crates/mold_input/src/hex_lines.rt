@@ -5,8 +5,10 @@ ghost use Rattle.std.specs.Io.KnownBytes.{prepend_known};
 ghost use Rattle.mold_devices.specs.Faults.{CountsRead};
 ghost use Rattle.mold_devices.specs.Lines.{work_left};
 ghost use Rattle.mold_input.specs.Entries.{line_entries};
+ghost use Rattle.mold_input.specs.declared.input_kind.InputKind.TheVariants as kind;
 
 use crate::input_fault::InputFault;
+use crate::input_kind::InputKind;
 use crate::message_reader::MessageReader;
 use crate::next::Next;
 use mold_devices::{Lines, ReadFault, Source};
@@ -31,6 +33,8 @@ impl Model for HexLines {
 impl MessageReader for HexLines {
     ghost entries = { line_entries };
 
+    ghost input_kind = { kind.Lines };
+
     ghost unread = { λ h. h.unread };
 
     ghost found = { λ h. h.message };
@@ -40,6 +44,10 @@ impl MessageReader for HexLines {
             lines: Lines::new(alloc)?,
             message: Vec::new(alloc),
         })
+    }
+
+    fn kind() -> InputKind {
+        InputKind::Lines
     }
 
     fn advance<S: Source>(&mut self, source: &mut S) -> Result<Next, ReadFault> {

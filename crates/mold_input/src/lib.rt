@@ -4,6 +4,7 @@
 
 mod hex_lines;
 mod input_fault;
+mod input_kind;
 pub mod laws;
 mod message_blocks;
 mod message_reader;
@@ -11,6 +12,7 @@ mod next;
 
 pub use hex_lines::HexLines;
 pub use input_fault::InputFault;
+pub use input_kind::InputKind;
 pub use message_blocks::MessageBlocks;
 pub use message_reader::MessageReader;
 pub use next::Next;

@@ -7,9 +7,11 @@ ghost use Rattle.mold_devices.specs.Faults.{CountsRead};
 ghost use Rattle.mold_devices.specs.Lines.{work_left};
 ghost use Rattle.mold_input.specs.Blocks.{IsCut, IsPartOfBlock, block_entries, missing_of};
 ghost use Rattle.mold_input.specs.Entries.{GivesNext, known_entries};
+ghost use Rattle.mold_input.specs.declared.input_kind.InputKind.TheVariants as kind;
 ghost use Rattle.mold_input.specs.declared.next.Next.TheVariants.{Message};
 
 use crate::input_fault::InputFault;
+use crate::input_kind::InputKind;
 use crate::message_reader::MessageReader;
 use crate::next::Next;
 use byteorder::{BigEndian, ByteOrder};
@@ -50,6 +52,8 @@ impl Model for MessageBlocks {
 impl MessageReader for MessageBlocks {
     ghost entries = { block_entries };
 
+    ghost input_kind = { kind.Blocks };
+
     ghost unread = { λ b. b.unread };
 
     ghost found = { λ b. b.message };
@@ -60,6 +64,10 @@ impl MessageReader for MessageBlocks {
             joined: Vec::new(alloc),
             inside: None,
         })
+    }
+
+    fn kind() -> InputKind {
+        InputKind::Blocks
     }
 
     fn advance<S: Source>(&mut self, source: &mut S) -> Result<Next, ReadFault> {

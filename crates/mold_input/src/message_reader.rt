@@ -6,8 +6,10 @@ ghost use Rattle.mold_devices.specs.Faults.{CountsRead};
 ghost use Rattle.mold_devices.specs.Lines.{work_left};
 ghost use Rattle.mold_input.specs.Entries.{GivesNext, known_entries};
 ghost use Rattle.mold_input.specs.declared.input_fault.InputFault.{InputFault};
+ghost use Rattle.mold_input.specs.declared.input_kind.InputKind.{InputKind};
 ghost use Rattle.mold_input.specs.declared.next.Next.TheVariants.{Message};
 
+use crate::input_kind::InputKind;
 use crate::next::Next;
 use mold_devices::{ReadFault, Source};
 use std::alloc::{AllocError, Global};
@@ -16,6 +18,9 @@ use std::alloc::{AllocError, Global};
 pub trait MessageReader: Drop {
     // The entries that the bytes of an input encode, in order.
     ghost entries: { List ℕ → List (Result (List ℕ) InputFault) };
+
+    // The kind of input that it reads.
+    ghost input_kind: { InputKind };
 
     // The bytes that were read from the source and belong to later entries.
     ghost unread: { Self → List ℕ };
@@ -26,6 +31,10 @@ pub trait MessageReader: Drop {
     /// Makes a reader that has read nothing yet. It fails if the allocation of its buffers fails.
     fn new(alloc: Global) -> Result<Self, AllocError>
         ensures { IfOk result (λ reader. unread reader ≡ []) };
+
+    /// Returns the kind of input that it reads.
+    fn kind() -> InputKind
+        ensures { result ≡ input_kind };
 
     /// Moves to the next entry. It reads only if the bytes read before do not contain the whole entry.
     fn advance<S: Source>(&mut self, source: &mut S) -> Result<Next, ReadFault>
