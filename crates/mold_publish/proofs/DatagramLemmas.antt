@@ -1,6 +1,6 @@
 -- The datagrams that a publisher sends of the messages of an input.
 use Rattle.std.proofs.Common.{arith, ◌≡◌, ◌∙◌, ℕ, ◌+◌, ◌-◌, ◌<◌, ◌≤◌, List, [], ◌∷◌, ◌++◌}
-use Rattle.std.proofs.Common.{length, length-append, drop, Option, None, Some, Result, Ok, Err, ap, refl, sym, subst}
+use Rattle.std.proofs.Common.{length, length-append, drop, map, Option, None, Some, Result, Ok, Err, ap, refl, sym, subst}
 use Rattle.std.proofs.Common.{append_assoc, inl, inr}
 use Rattle.std.proofs.lemmas.Bool.{eq-eqb, ne_eqb, cases_eq}
 use Rattle.std.proofs.lemmas.List.{append-nil, drop-append-le, drop-drop, drop_all, length-drop}
@@ -12,11 +12,13 @@ use Rattle.mold_session.specs.Datagrams.{data_packet, packing}
 use Rattle.mold_session.specs.Journal.{JournalState, appended}
 use Rattle.mold_session.specs.Publisher.{PublisherState, unsent_of, next_front, next_datagram, after_datagram}
 use Rattle.mold_publish.specs.Sending.{packets_after}
-use Rattle.mold_input.specs.Entries.{Entry, InputEntries}
+use Rattle.mold_input.specs.Entries.{Entry, InputEntries, line_entry}
 use Rattle.mold_input.specs.declared.input_kind.InputKind.{InputKind}
+use Rattle.mold_input.specs.declared.input_kind.InputKind.TheVariants.{Lines}
 use Rattle.mold_publish.specs.Publishing.{PublishedInput, published_from, entries_published, entry_outcome}
-use Rattle.mold_publish.specs.Publishing.{input_published}
+use Rattle.mold_publish.specs.Publishing.{input_published, lines_published}
 use Rattle.mold_publish.specs.Publishing.{HasRoom, IsJustFull}
+use Rattle.mold_publish.proofs.PublishingLemmas.{lines_same}
 use Rattle.mold_publish.specs.declared.message_refusal.MessageRefusal.{MessageRefusal}
 
 -- the laws of `mold_wire` and `mold_session` about prefixes and about the packing of messages
@@ -113,6 +115,11 @@ grown_entries kind (entry ∷ entries) journal =
 
 pub grown : (input : InputEntries) (journal : JournalState) → Grown journal (input_published journal input).journal
 grown input journal = grown_entries input.kind input.entries journal
+
+pub grown_lines : (lines : List (List ℕ)) (journal : JournalState) → Grown journal (lines_published journal lines).journal
+grown_lines lines journal =
+    subst (λ (after : PublishedInput). Grown journal after.journal) (lines_same journal lines)
+    (grown_entries Lines (map line_entry lines) journal)
 
 -- ---- the datagram of a publisher that is just full
 

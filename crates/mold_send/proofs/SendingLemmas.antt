@@ -321,7 +321,7 @@ last_before laws now Lines room =
 last_before laws now Blocks room =
     ap (λ (ps : List Packet). map spelling_of ps) (room_packets laws now room) ∙ spelled_list (next_datagram now)
 
-pub left_refused : PackingLaws → (start before now : PublisherState) (known left behind : Option InputEntries)
+left_refused : PackingLaws → (start before now : PublisherState) (known left behind : Option InputEntries)
     (refusal : MessageRefusal) (front : List (List ℕ)) → LeftToSend start before known left front →
     Fills before now left behind (Refused refusal) →
     IfSome known (AllSent start now.journal (Some refusal) (front ++ spelled_before refusal.kind now))
@@ -336,6 +336,26 @@ left_refused laws start before now (Some input) (Some xs) (Some ys) refusal fron
           ∙ last_before laws now refusal.kind filled.room),
       so_far.1 ∙ filled.input,
     )
+
+-- of an input of lines, nothing more is offered
+pub left_lines : PackingLaws → (start before now : PublisherState) (known left behind : Option InputEntries)
+    (refusal : MessageRefusal) (front : List (List ℕ)) → LeftToSend start before known left front →
+    Fills before now left behind (Refused refusal) → refusal.kind ≡ Lines →
+    IfSome known (AllSent start now.journal (Some refusal) front)
+left_lines laws start before now known left behind refusal front so_far filled lines =
+    subst (λ (ds : List (List ℕ)). IfSome known (AllSent start now.journal (Some refusal) ds))
+    (ap (λ (kind : InputKind). front ++ spelled_before kind now) lines ∙ append-nil front)
+    (left_refused laws start before now known left behind refusal front so_far filled)
+
+-- of an input of blocks, the last datagram is offered
+pub left_blocks : PackingLaws → (start before now : PublisherState) (known left behind : Option InputEntries)
+    (refusal : MessageRefusal) (front : List (List ℕ)) → LeftToSend start before known left front →
+    Fills before now left behind (Refused refusal) → refusal.kind ≡ Blocks →
+    IfSome known (AllSent start now.journal (Some refusal) (front ++ spelled_some (next_datagram now)))
+left_blocks laws start before now known left behind refusal front so_far filled blocks =
+    subst (λ (kind : InputKind).
+    IfSome known (AllSent start now.journal (Some refusal) (front ++ spelled_before kind now))) blocks
+    (left_refused laws start before now known left behind refusal front so_far filled)
 
 pub sent_end : {P E : Type 0} → PackingLaws → (a b : P) (start before now after : PublisherState)
     (known left behind : Option InputEntries) (old mid new : PublicationState P) (count counted : ℕ) →
@@ -362,11 +382,7 @@ pub sent_refused : {P E : Type 0} → PackingLaws → (a b : P) (start before no
     SentSoFar a b start before known left old new count → Fills before now left behind (Refused refusal) →
     refusal.kind ≡ Lines → SendsMessages {E = E} a b start now known (Ok (Some refusal)) old new count
 sent_refused {P} {E} laws a b start before now known left behind refusal old new count so_far filled lines =
-    let all = left_refused laws start before now known left behind refusal so_far.front so_far.behind filled in
-    let same : so_far.front ++ spelled_before refusal.kind now ≡ so_far.front =
-    ap (λ (kind : InputKind). so_far.front ++ spelled_before kind now) lines ∙ append-nil so_far.front in
-    let whole : IfSome known (AllSent start now.journal (Some refusal) so_far.front) =
-    subst (λ (front : List (List ℕ)). IfSome known (AllSent start now.journal (Some refusal) front)) same all in
+    let whole = left_lines laws start before now known left behind refusal so_far.front so_far.behind filled lines in
     record {
       front = so_far.front;
       sends = so_far.sends;
@@ -386,10 +402,7 @@ pub sent_before : {P E : Type 0} → PackingLaws → (a b : P) (start before now
 sent_before {P} {E} laws a b start before now after known left behind refusal old mid new count counted so_far filled
     blocks sent sends more =
     let front = so_far.front ++ spelled_some (next_datagram now) in
-    let all = left_refused laws start before now known left behind refusal so_far.front so_far.behind filled in
-    let whole : IfSome known (AllSent start now.journal (Some refusal) front) =
-    subst (λ (kind : InputKind).
-    IfSome known (AllSent start now.journal (Some refusal) (so_far.front ++ spelled_before kind now))) blocks all in
+    let whole = left_blocks laws start before now known left behind refusal so_far.front so_far.behind filled blocks in
     subst (λ (p : PublisherState). SendsMessages {E = E} a b start p known (Ok (Some refusal)) old new counted) (sym sent)
     (record {
       front = front;

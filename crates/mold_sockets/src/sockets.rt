@@ -128,7 +128,7 @@ fn publish_on(
         journal: IntoWrite::new(NewFile::new(rt, order.journal.as_str())),
     };
     let options = publish_options(order);
-    let outcome = publish(rt.alloc(), port, options, &mut publisher, &mut devices);
+    let outcome = publish::<HexLines, _, _, _, _>(rt.alloc(), port, options, &mut publisher, &mut devices);
     let PublishDevices { sink, .. } = devices;
     flushed(outcome, sink.into_inner().flush())
 }
