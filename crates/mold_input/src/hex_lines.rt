@@ -11,7 +11,7 @@ use crate::input_fault::InputFault;
 use crate::input_kind::InputKind;
 use crate::message_reader::MessageReader;
 use crate::next::Next;
-use mold_devices::{Lines, ReadFault, Source};
+use mold_devices::{InputReader, Lines, ReadFault, Source};
 use std::alloc::{AllocError, Global};
 use std::marker::Model;
 
@@ -30,14 +30,8 @@ impl Model for HexLines {
     ghost view = { λ h. record { message = h.message.items; unread = h.lines.rest } };
 }
 
-impl MessageReader for HexLines {
-    ghost entries = { line_entries };
-
-    ghost input_kind = { kind.Lines };
-
+impl InputReader for HexLines {
     ghost unread = { λ h. h.unread };
-
-    ghost found = { λ h. h.message };
 
     fn new(alloc: Global) -> Result<HexLines, AllocError> {
         Ok(HexLines {
@@ -45,6 +39,14 @@ impl MessageReader for HexLines {
             message: Vec::new(alloc),
         })
     }
+}
+
+impl MessageReader for HexLines {
+    ghost entries = { line_entries };
+
+    ghost input_kind = { kind.Lines };
+
+    ghost found = { λ h. h.message };
 
     fn kind() -> InputKind {
         InputKind::Lines

@@ -15,7 +15,7 @@ use crate::input_kind::InputKind;
 use crate::message_reader::MessageReader;
 use crate::next::Next;
 use byteorder::{BigEndian, ByteOrder};
-use mold_devices::{Piece, ReadFault, Source};
+use mold_devices::{InputReader, Piece, ReadFault, Source};
 use mold_wire::LENGTH_BYTES;
 use std::alloc::{AllocError, Global};
 use std::marker::Model;
@@ -49,14 +49,8 @@ impl Model for MessageBlocks {
     ghost invariant = { λ b. ForSome b.inside (λ len. (2 + len ≤ length b.piece.value) × (len < PIECE)) };
 }
 
-impl MessageReader for MessageBlocks {
-    ghost entries = { block_entries };
-
-    ghost input_kind = { kind.Blocks };
-
+impl InputReader for MessageBlocks {
     ghost unread = { λ b. b.unread };
-
-    ghost found = { λ b. b.message };
 
     fn new(alloc: Global) -> Result<MessageBlocks, AllocError> {
         Ok(MessageBlocks {
@@ -65,6 +59,14 @@ impl MessageReader for MessageBlocks {
             inside: None,
         })
     }
+}
+
+impl MessageReader for MessageBlocks {
+    ghost entries = { block_entries };
+
+    ghost input_kind = { kind.Blocks };
+
+    ghost found = { λ b. b.message };
 
     fn kind() -> InputKind {
         InputKind::Blocks

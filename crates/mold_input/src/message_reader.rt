@@ -1,6 +1,6 @@
 //! The trait of readers of messages.
 
-ghost use Rattle.std.specs.Prelude.{◌≡◌, ◌<◌, ℕ, List, [], Result, IfOk};
+ghost use Rattle.std.specs.Prelude.{◌≡◌, ◌<◌, ℕ, List, Result, IfOk};
 ghost use Rattle.std.specs.Io.KnownBytes.{prepend_known};
 ghost use Rattle.mold_devices.specs.Faults.{CountsRead};
 ghost use Rattle.mold_devices.specs.Lines.{work_left};
@@ -11,26 +11,18 @@ ghost use Rattle.mold_input.specs.declared.next.Next.TheVariants.{Message};
 
 use crate::input_kind::InputKind;
 use crate::next::Next;
-use mold_devices::{ReadFault, Source};
-use std::alloc::{AllocError, Global};
+use mold_devices::{InputReader, ReadFault, Source};
 
 /// A reader of the messages of a source. The type determines how bytes encode messages.
-pub trait MessageReader: Drop {
+pub trait MessageReader: InputReader {
     // The entries that the bytes of an input encode, in order.
     ghost entries: { List ℕ → List (Result (List ℕ) InputFault) };
 
     // The kind of input that it reads.
     ghost input_kind: { InputKind };
 
-    // The bytes that were read from the source and belong to later entries.
-    ghost unread: { Self → List ℕ };
-
     // The message that was found last.
     ghost found: { Self → List ℕ };
-
-    /// Makes a reader that has read nothing yet. It fails if the allocation of its buffers fails.
-    fn new(alloc: Global) -> Result<Self, AllocError>
-        ensures { IfOk result (λ reader. unread reader ≡ []) };
 
     /// Returns the kind of input that it reads.
     fn kind() -> InputKind
@@ -39,10 +31,10 @@ pub trait MessageReader: Drop {
     /// Moves to the next entry. It reads only if the bytes read before do not contain the whole entry.
     fn advance<S: Source>(&mut self, source: &mut S) -> Result<Next, ReadFault>
         ensures next { IfOk result (λ next. GivesNext
-            (known_entries entries (prepend_known (unread self.old) (S.left source.old)))
-            (known_entries entries (prepend_known (unread self.new) (S.left source.new))) next (found self.new)) }
+            (known_entries entries (prepend_known (Self.unread self.old) (S.left source.old)))
+            (known_entries entries (prepend_known (Self.unread self.new) (S.left source.new))) next (found self.new)) }
         ensures work { IfOk result (λ next. next ≡ Message →
-            work_left (S.bound source.new) (unread self.new) < work_left (S.bound source.old) (unread self.old)) }
+            work_left (S.bound source.new) (Self.unread self.new) < work_left (S.bound source.old) (Self.unread self.old)) }
         ensures failures { CountsRead (S.failed source.old) (S.failed source.new) result };
 
     /// Returns the message that `advance` found last. After anything but `Next::Message`, the bytes are unspecified.

@@ -10,13 +10,13 @@ abbrev pub invariant-messages : goal.invariant-messages
 invariant-messages g l = record {
   filled : FilledSoFar g.M.MessageReader.input_kind l.fn.publisher l.publisher
       (known_entries g.M.MessageReader.entries
-      (prepend_known (g.M.MessageReader.unread l.fn.messages) (g.S.Source.left l.fn.source)))
+      (prepend_known (g.M.InputReader.unread l.fn.messages) (g.S.Source.left l.fn.source)))
       (known_entries g.M.MessageReader.entries
-      (prepend_known (g.M.MessageReader.unread l.messages) (g.S.Source.left l.source)));
-  work : work_left (g.S.Source.bound l.source) (g.M.MessageReader.unread l.messages)
-      ≤ work_left (g.S.Source.bound l.fn.source) (g.M.MessageReader.unread l.fn.messages);
+      (prepend_known (g.M.InputReader.unread l.messages) (g.S.Source.left l.source)));
+  work : work_left (g.S.Source.bound l.source) (g.M.InputReader.unread l.messages)
+      ≤ work_left (g.S.Source.bound l.fn.source) (g.M.InputReader.unread l.fn.messages);
   failed : g.S.Source.failed l.source ≡ g.S.Source.failed l.fn.source;
 }
 
 abbrev pub decreases-messages : goal.decreases-messages
-decreases-messages g l = work_left (g.S.Source.bound l.source) (g.M.MessageReader.unread l.messages)
+decreases-messages g l = work_left (g.S.Source.bound l.source) (g.M.InputReader.unread l.messages)

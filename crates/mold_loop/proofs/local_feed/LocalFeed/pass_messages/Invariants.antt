@@ -19,7 +19,7 @@ invariant-passing g l = record {
       HeardSoFar l.fn.self.options.now.drops l.fn.self.options.now.peers.a l.fn.self.options.now.peers.b l.fn.publisher l.publisher
       (known_input g.M.MessageReader.input_kind g.M.MessageReader.entries (g.S.Source.left l.fn.source))
       (known_input g.M.MessageReader.input_kind g.M.MessageReader.entries
-      (prepend_known (g.M.MessageReader.unread l.messages) (g.S.Source.left l.source)))
+      (prepend_known (g.M.InputReader.unread l.messages) (g.S.Source.left l.source)))
       (lines g.D.Datagrams.port l.fn.self) (lines g.D.Datagrams.port l.self)
       (g.K.Sink.held l.fn.sink) (g.K.Sink.held l.sink) l.number;
   only : OnlyPasses g.D.Datagrams.modeled g.D.Datagrams.port l.fn.self l.self;
@@ -33,4 +33,4 @@ invariant-passing g l = record {
 }
 
 abbrev pub decreases-passing : goal.decreases-passing
-decreases-passing g l = work_left (g.S.Source.bound l.source) (g.M.MessageReader.unread l.messages)
+decreases-passing g l = work_left (g.S.Source.bound l.source) (g.M.InputReader.unread l.messages)

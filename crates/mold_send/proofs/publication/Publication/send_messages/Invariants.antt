@@ -17,7 +17,7 @@ invariant-publishing g l = record {
       SentSoFar l.fn.self.two_lines.a.now l.fn.self.two_lines.b.now l.fn.self.publisher.now l.self.publisher.now
       (known_input g.M.MessageReader.input_kind g.M.MessageReader.entries (g.S.Source.left l.fn.source))
       (known_input g.M.MessageReader.input_kind g.M.MessageReader.entries
-      (prepend_known (g.M.MessageReader.unread l.messages) (g.S.Source.left l.source)))
+      (prepend_known (g.M.InputReader.unread l.messages) (g.S.Source.left l.source)))
       (lines_state g.D.Datagrams.port l.fn.self.two_lines) (lines_state g.D.Datagrams.port l.self.two_lines)
       l.self.datagrams;
   same : IsSame l.fn.self l.self;
@@ -25,4 +25,4 @@ invariant-publishing g l = record {
 }
 
 abbrev pub decreases-publishing : goal.decreases-publishing
-decreases-publishing g l = work_left (g.S.Source.bound l.source) (g.M.MessageReader.unread l.messages)
+decreases-publishing g l = work_left (g.S.Source.bound l.source) (g.M.InputReader.unread l.messages)
