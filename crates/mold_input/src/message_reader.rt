@@ -34,7 +34,8 @@ pub trait MessageReader: InputReader {
             (known_entries entries (prepend_known (Self.unread self.old) (S.left source.old)))
             (known_entries entries (prepend_known (Self.unread self.new) (S.left source.new))) next (found self.new)) }
         ensures work { IfOk result (λ next. next ≡ Message →
-            work_left (S.bound source.new) (Self.unread self.new) < work_left (S.bound source.old) (Self.unread self.old)) }
+            work_left (S.bound source.new) (Self.unread self.new)
+            < work_left (S.bound source.old) (Self.unread self.old)) }
         ensures failures { CountsRead (S.failed source.old) (S.failed source.new) result };
 
     /// Returns the message that `advance` found last. After anything but `Next::Message`, the bytes are unspecified.

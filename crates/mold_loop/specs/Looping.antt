@@ -183,11 +183,11 @@ IsData start front journal refused input =
     (data_after start.limit start.sent (input_published start.journal input) ≡ front)
     × (input_published start.journal input ≡ record { journal = journal; refused = refused })
 
--- The loop passed data datagrams for its input. On success it passed all of them. Its text was written up
--- to some point, and the rest is still to be printed. After a fault, the datagrams passed and the text written are
--- prefixes.
-pub record ReceivesMessages {P E : Type 0} (drops : Drops) (a b : P) (start now : PublisherState) (known : Option InputEntries)
-    (result : Result (Option MessageRefusal) E) (before after : LineState P) (old new : Option (List ℕ)) : Type 0 where
+-- The loop passed data datagrams for its input. On success it passed all of them. Its text was written up to some
+-- point, and the rest is still to be printed. After a fault, the datagrams passed and the text written are prefixes.
+pub record ReceivesMessages {P E : Type 0} (drops : Drops) (a b : P) (start now : PublisherState)
+    (known : Option InputEntries) (result : Result (Option MessageRefusal) E) (before after : LineState P)
+    (old new : Option (List ℕ)) : Type 0 where
   -- The datagrams that were offered.
   pub front : List (List ℕ)
   -- The same datagrams with their outcomes.

@@ -26,8 +26,8 @@ pub enum Filled {
     Refused { refusal: MessageRefusal },
 }
 
-// Publishes a message of an input of this kind. Returns the refusal if the journal refuses it. An error means out of memory; nothing was then
-// published.
+// Publishes a message of an input of this kind. Returns the refusal if the journal refuses it. An error means out of
+// memory; nothing was then published.
 fn publish_message(
     publisher: &mut Publisher,
     kind: InputKind,

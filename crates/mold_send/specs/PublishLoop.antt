@@ -162,7 +162,8 @@ pub record SendsMessages {P E : Type 0} (a b : P) (start now : PublisherState) (
       (data_after start.limit start.sent (input_published start.journal input) ≡ front)
       × (input_published start.journal input ≡ record { journal = now.journal; refused = refused })))
 
--- A publisher at work published messages and offered their data (`SendsMessages`). `datagrams` counts the data datagrams.
+-- A publisher at work published messages and offered their data (`SendsMessages`). `datagrams` counts the data
+-- datagrams.
 abbrev pub SendsInput : {D P E : Type 0} → (D → Port P) → Option InputEntries → Result (Option MessageRefusal) E →
     Publication D P → Publication D P → Type 0
 SendsInput port known result old new =

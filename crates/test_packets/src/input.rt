@@ -1,7 +1,7 @@
 //! Inputs of lines and of blocks, read in pieces of any size.
 
 use crate::comparisons::same_bytes;
-use mold_devices::MemorySource;
+use mold_devices::{InputReader, MemorySource};
 use mold_input::{HexLines, InputFault, MessageBlocks, MessageReader, Next};
 use std::process::Abort;
 use std::test::Fail;

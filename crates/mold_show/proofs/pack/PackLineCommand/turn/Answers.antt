@@ -102,5 +102,5 @@ returns-in_ok-push_message_refused-in-Refused-clause-told g c =
     (c.next.ensures.value
     ∙ ap (λ (j : JournalState). length j.messages + 1)
     (c.journal.ensures ∙ ap (λ (p : PublisherState). p.journal) left ∙ journal_before c.in-Refused.refusal.kind now))
-    c.in_ok-push_before.ensures.text
+    c.in_ok-push_before-in-Refused.ensures.text
     c.in_ok-push_message_refused-in-Refused.ensures.text)
