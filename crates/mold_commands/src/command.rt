@@ -9,6 +9,7 @@ ghost use Rattle.mold_session.specs.Publisher.{fresh_publisher};
 
 use mold_check::check_lines;
 use mold_devices::{CommandFault, Sink, Source, run_lines};
+use mold_input::HexLines;
 use mold_show::{Pack, PackOptions, Show};
 use mold_sim::Sim;
 use mold_wire::Session;
@@ -55,7 +56,7 @@ pub fn run_command<S: Source, K: Sink>(
 }
 
 // Returns the `pack` command of an order.
-fn pack_of(alloc: Global, order: &PackOrder) -> Result<Pack, AllocError>
+fn pack_of(alloc: Global, order: &PackOrder) -> Result<Pack<HexLines>, AllocError>
     ensures { IfOk result (λ pack.
         pack ≡ fresh_publisher (record { 0 = order.now.session }) order.now.limit) }
 {

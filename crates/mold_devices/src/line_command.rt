@@ -1,4 +1,4 @@
-//! Commands that read the lines of a source and write text to a sink.
+//! Commands that read the parts of an input, such as lines, and write text to a sink.
 
 ghost use Rattle.std.specs.Prelude.{◌≡◌, ◌<◌, length, take, IfOk, IfSome, OnErr};
 ghost use Rattle.std.specs.Io.KnownBytes.{Appends, prepend_known};
@@ -9,38 +9,42 @@ ghost use Rattle.mold_devices.specs.Turns.{IsTurn, Printing};
 ghost use Rattle.mold_devices.specs.declared.turn.Turn.TheVariants.{More};
 
 use crate::fault::{CommandFault, ReadFault};
-use crate::lines::Lines;
+use crate::input_reader::InputReader;
 use crate::output::{LARGE, send};
 use crate::sink::Sink;
 use crate::source::Source;
 use crate::turn::Turn;
 use std::alloc::Global;
 
-/// A command that writes text for the lines of its input.
+/// A command that writes text for the parts of its input.
 pub trait LineCommand {
+    /// The reader that splits the input into parts.
+    type Reader: InputReader;
+
     // The text that it writes for the remaining input, and the status that it ends with.
     ghost prints: { Self → Printing };
 
-    /// Runs one turn: reads the next line or lines of the input and appends the text for them to `out`.
+    /// Runs one turn: reads the next part or parts of the input and appends the text for them to `out`.
     fn turn<S: Source>(
         &mut self,
-        lines: &mut Lines,
+        reader: &mut Self::Reader,
         source: &mut S,
         out: &mut Vec<u8>,
     ) -> Result<Turn, ReadFault>
         ensures told { IfOk result (λ turn. IsTurn (prints self.old) (prints self.new)
-            (prepend_known lines.old.rest (S.left source.old))
-            (prepend_known lines.new.rest (S.left source.new)) out.old.items out.new.items turn) }
+            (prepend_known (Self.Reader.unread reader.old) (S.left source.old))
+            (prepend_known (Self.Reader.unread reader.new) (S.left source.new)) out.old.items out.new.items turn) }
         ensures kept { OnErr result (take (length out.old.items) out.new.items ≡ out.old.items) }
         ensures work { IfOk result (λ turn. turn ≡ More →
-            work_left (S.bound source.new) lines.new.rest < work_left (S.bound source.old) lines.old.rest) }
+            work_left (S.bound source.new) (Self.Reader.unread reader.new)
+            < work_left (S.bound source.old) (Self.Reader.unread reader.old)) }
         ensures failures { CountsRead (S.failed source.old) (S.failed source.new) result };
 }
 
-/// Runs the command over all lines of the source and returns its status. It holds only the bytes of one read, the
-/// current line and what the command keeps. It writes the text in pieces of at least 65,536 bytes, and the rest at the
-/// end. After a fault of reading or of memory, it still writes the text of the earlier turns; if that fails, the fault
-/// is `Write`.
+/// Runs the command over the whole input and returns its status. Of the input, it holds only the bytes of one read,
+/// the current part and what the command keeps. It writes the text in pieces of at least 65,536
+/// bytes, and the rest at the end. After a fault of reading or of memory, it still writes the text of the
+/// earlier turns. If that write fails, the fault is `Write`.
 pub fn run_lines<C: LineCommand, S: Source, K: Sink>(
     alloc: Global,
     command: &mut C,
@@ -55,11 +59,11 @@ pub fn run_lines<C: LineCommand, S: Source, K: Sink>(
     ensures failures { CountsCommand (S.failed source.old) (S.failed source.new)
         (K.failed sink.old) (K.failed sink.new) result }
 {
-    let mut lines = Lines::new(alloc)?;
+    let mut reader = <C::Reader as InputReader>::new(alloc)?;
     let mut text = Vec::new(alloc);
     'turns: loop {
         let told = text.len();
-        match command.turn(&mut lines, source, &mut text) {
+        match command.turn(&mut reader, source, &mut text) {
             Ok(Turn::More) => {}
             Ok(Turn::Done { status }) => {
                 send(sink, &mut text)?;

@@ -6,6 +6,7 @@ ghost use Rattle.mold_devices.specs.Lines.{GivesLine, HasNoEnd, work_left};
 ghost use Rattle.mold_devices.specs.Faults.{CountsRead};
 
 use crate::fault::ReadFault;
+use crate::input_reader::InputReader;
 use crate::piece::Piece;
 use crate::source::Source;
 use memchr::memchr;
@@ -89,6 +90,14 @@ impl Lines {
             return Ok(true);
         }
         join_line(&mut self.piece, &mut self.joined, source)
+    }
+}
+
+impl InputReader for Lines {
+    ghost unread = { λ l. l.rest };
+
+    fn new(alloc: Global) -> Result<Lines, AllocError> {
+        Lines::new(alloc)
     }
 }
 

@@ -4,9 +4,9 @@ use Rattle.std.proofs.Common.{refl, sym, ap, subst, ◌∙◌, arith}
 use Rattle.mold_send.specs.PublishLoop.{closed_unless, left_journal}
 use Rattle.mold_feed.specs.Sent.{HasLines, IsOpening}
 use Rattle.mold_feed.proofs.LinesTextLemmas.{spelled_length}
-use Rattle.mold_publish.proofs.DatagramLemmas.{grown}
+use Rattle.mold_publish.proofs.DatagramLemmas.{grown_lines}
 use Rattle.mold_publish.specs.Publishing.{lines_published}
-use Rattle.mold_publish.specs.declared.line_refusal.LineRefusal.{LineRefusal}
+use Rattle.mold_publish.specs.declared.message_refusal.MessageRefusal.{MessageRefusal}
 use Rattle.mold_receiver.specs.Arbiter.{Arbitration}
 use Rattle.mold_receiver.specs.Honest.{IsHonest}
 use Rattle.mold_receiver.specs.Store.{Message}
@@ -23,12 +23,12 @@ abbrev pub left_by : JournalState → List (List ℕ) → JournalState
 left_by journal lines = left_journal (lines_published journal lines)
 
 -- closing a journal, or leaving it open, keeps its session and its messages
-unless_session : (refused : Option LineRefusal) (journal : JournalState) →
+unless_session : (refused : Option MessageRefusal) (journal : JournalState) →
     (closed_unless refused journal).session ≡ journal.session
 unless_session None journal = refl
 unless_session (Some why) journal = refl
 
-unless_messages : (refused : Option LineRefusal) (journal : JournalState) →
+unless_messages : (refused : Option MessageRefusal) (journal : JournalState) →
     (closed_unless refused journal).messages ≡ journal.messages
 unless_messages None journal = refl
 unless_messages (Some why) journal = refl
@@ -36,7 +36,7 @@ unless_messages (Some why) journal = refl
 pub left_session : (journal : JournalState) (lines : List (List ℕ)) → (left_by journal lines).session ≡ journal.session
 left_session journal lines =
     unless_session (lines_published journal lines).refused (lines_published journal lines).journal
-    ∙ (grown lines journal).session
+    ∙ (grown_lines lines journal).session
 
 pub left_messages : (journal : JournalState) (lines : List (List ℕ)) →
     (left_by journal lines).messages ≡ (lines_published journal lines).journal.messages

@@ -20,11 +20,14 @@ use Rattle.mold_session.specs.Journal.{IsJournal, IsWithin, JournalState, append
 use Rattle.mold_session.specs.Publisher.{MayPublish, PublisherState}
 use Rattle.mold_session.specs.Truthful.{MayAnswer, IsTrueDatagram}
 use Rattle.mold_session.specs.declared.error.AppendError.{AppendError}
-use Rattle.mold_publish.specs.Publishing.{PublishedLines, line_outcome, lines_published, published_from, unless_refused}
-use Rattle.mold_publish.specs.Sending.{all_but_last, end_packet, packets_after}
-use Rattle.mold_publish.specs.declared.line_refusal.LineRefusal.{LineRefusal}
-use Rattle.mold_publish.specs.declared.line_refusal.LineRefusal.TheVariants.{NotHex, NotTaken}
-use Rattle.mold_publish.proofs.DatagramLemmas.{grown}
+use Rattle.mold_publish.specs.Publishing.{PublishedInput, line_outcome, lines_published, published_from, unless_refused}
+use Rattle.mold_publish.specs.Sending.{all_but_last, end_packet, packets_after, packets_before}
+use Rattle.mold_publish.specs.declared.message_refusal.MessageRefusal.{MessageRefusal}
+use Rattle.mold_publish.specs.declared.refusal_reason.RefusalReason.TheVariants.{NotRead, NotTaken}
+use Rattle.mold_input.specs.declared.input_fault.InputFault.TheVariants.{NotHex}
+use Rattle.mold_input.specs.declared.input_kind.InputKind.{InputKind}
+use Rattle.mold_input.specs.declared.input_kind.InputKind.TheVariants.{Lines, Blocks}
+use Rattle.mold_publish.proofs.DatagramLemmas.{grown_lines}
 use Rattle.mold_turns.specs.Outgoing.{nothing_out}
 use Rattle.mold_send.specs.PublishLoop.{PublicationState, PublishRun, Sends, all_datagrams, beat_packet, both}
 use Rattle.mold_send.specs.PublishLoop.{close_datagrams, closed_unless, left_journal, offer, publication_of}
@@ -48,18 +51,18 @@ abbrev as_spelled : List (List ℕ) → List (Result (List ℕ) FromHexError)
 as_spelled messages = map Ok messages
 
 -- lines were published up to this one: all of them, or those before one that is refused
-record StopsAt (lines : List (List ℕ)) (count : ℕ) (why : LineRefusal) (journal : JournalState) : Type 0 where
+record StopsAt (lines : List (List ℕ)) (count : ℕ) (why : MessageRefusal) (journal : JournalState) : Type 0 where
   pub line : List ℕ
   pub found : slice_get lines count ≡ Some line
   pub refused : line_outcome journal (decode_of line) ≡ Err why
 
-abbrev EndsAt : List (List ℕ) → ℕ → JournalState → Option LineRefusal → Type 0
+abbrev EndsAt : List (List ℕ) → ℕ → JournalState → Option MessageRefusal → Type 0
 EndsAt lines count journal None = count ≡ length lines
 EndsAt lines count journal (Some why) = StopsAt lines count why journal
 
 -- the same with one more line before them
 ends_behind : (line : List ℕ) (lines : List (List ℕ)) (count : ℕ) (journal : JournalState)
-    (refused : Option LineRefusal) → EndsAt lines count journal refused →
+    (refused : Option MessageRefusal) → EndsAt lines count journal refused →
     EndsAt (line ∷ lines) (suc count) journal refused
 ends_behind line lines count journal None ends = ap suc ends
 ends_behind line lines count journal (Some why) ends =
@@ -67,7 +70,7 @@ ends_behind line lines count journal (Some why) ends =
 
 -- lines were published: the journal is still a journal with the same longest message; the messages of the first lines
 -- follow those that it had
-record HasTaken (journal : JournalState) (lines : List (List ℕ)) (after : PublishedLines) : Type 0 where
+record HasTaken (journal : JournalState) (lines : List (List ℕ)) (after : PublishedInput) : Type 0 where
   pub is : IsJournal after.journal
   pub longest : after.journal.max_message ≡ journal.max_message
   pub count : ℕ
@@ -89,7 +92,7 @@ module _ (laws : PublishedLaws) where
       }
 
   -- a line that is refused
-  line_refused : (journal : JournalState) (line : List ℕ) (lines : List (List ℕ)) (why : LineRefusal) →
+  line_refused : (journal : JournalState) (line : List ℕ) (lines : List (List ℕ)) (why : MessageRefusal) →
       IsJournal journal → line_outcome journal (decode_of line) ≡ Err why →
       HasTaken journal (line ∷ lines) (record { journal = journal; refused = Some why })
   line_refused journal line lines why is refused = record {
@@ -103,10 +106,10 @@ module _ (laws : PublishedLaws) where
 
   -- one more line, whose message is appended or refused
   message_taken : (journal : JournalState) (line : List ℕ) (lines : List (List ℕ)) (message : List ℕ)
-      (refusal : Option AppendError) (behind : JournalState → PublishedLines) → IsJournal journal →
+      (refusal : Option AppendError) (behind : JournalState → PublishedInput) → IsJournal journal →
       decode_of line ≡ Ok message → append_refusal journal message ≡ refusal →
       ((next : JournalState) → IsJournal next → HasTaken next lines (behind next)) →
-      HasTaken journal (line ∷ lines) (published_from journal (unless_refused message refusal) behind)
+      HasTaken journal (line ∷ lines) (published_from journal (unless_refused Lines message refusal) behind)
   message_taken journal line lines message None behind is digits none each =
       let next : JournalState = appended journal message in
       let rest = each next (journal_stays journal message is none) in
@@ -125,19 +128,19 @@ module _ (laws : PublishedLaws) where
         closed = rest.closed;
       }
   message_taken journal line lines message (Some why) behind is digits refused each =
-      line_refused journal line lines (NotTaken why) is
-      (ap (line_outcome journal) digits ∙ ap (unless_refused message) refused)
+      line_refused journal line lines (record { kind = Lines; why = NotTaken why }) is
+      (ap (line_outcome journal) digits ∙ ap (unless_refused Lines message) refused)
 
   -- one more line, whose digits encode a message or do not
   line_taken : (journal : JournalState) (line : List ℕ) (lines : List (List ℕ))
-      (digits : Result (List ℕ) FromHexError) (behind : JournalState → PublishedLines) →
+      (digits : Result (List ℕ) FromHexError) (behind : JournalState → PublishedInput) →
       IsJournal journal → decode_of line ≡ digits →
       ((next : JournalState) → IsJournal next → HasTaken next lines (behind next)) →
       HasTaken journal (line ∷ lines) (published_from journal (line_outcome journal digits) behind)
   line_taken journal line lines (Ok message) behind is digits each =
       message_taken journal line lines message (append_refusal journal message) behind is digits refl each
   line_taken journal line lines (Err _) behind is digits each =
-      line_refused journal line lines NotHex is (ap (line_outcome journal) digits)
+      line_refused journal line lines (record { kind = Lines; why = NotRead NotHex }) is (ap (line_outcome journal) digits)
 
   -- all lines
   lines_taken : (lines : List (List ℕ)) (journal : JournalState) → IsJournal journal →
@@ -165,7 +168,7 @@ opening_is journal limit is =
     }
 
 -- if the journal had no messages, the first lines encode the messages that it has now
-opening_spelled : (journal : JournalState) (lines : List (List ℕ)) (after : PublishedLines) (count : ℕ) →
+opening_spelled : (journal : JournalState) (lines : List (List ℕ)) (after : PublishedInput) (count : ℕ) →
     journal.messages ≡ [] →
     as_spelled journal.messages ++ map decode_of (take count lines) ≡ as_spelled after.journal.messages →
     map decode_of (take count lines) ≡ as_spelled after.journal.messages
@@ -173,7 +176,7 @@ opening_spelled journal lines after count empty spelled =
     ap (λ (messages : List (List ℕ)). as_spelled messages ++ map decode_of (take count lines)) (sym empty) ∙ spelled
 
 -- if no line is refused, these are all lines
-all_spelled : (lines : List (List ℕ)) (count : ℕ) (journal : JournalState) (refused : Option LineRefusal) →
+all_spelled : (lines : List (List ℕ)) (count : ℕ) (journal : JournalState) (refused : Option MessageRefusal) →
     map decode_of (take count lines) ≡ as_spelled journal.messages → EndsAt lines count journal refused →
     refused ≡ None → HasLines lines (closed_unless refused journal)
 all_spelled lines count journal None spelled ends whole = record {
@@ -195,7 +198,7 @@ lines_spelled laws limit journal lines is whole =
     (opening_spelled journal lines after taken.count is.empty taken.spelled) taken.ends whole
 
 -- if a line is refused, these are the lines before it
-some_spelled : (lines : List (List ℕ)) (count : ℕ) (journal : JournalState) (why : LineRefusal) →
+some_spelled : (lines : List (List ℕ)) (count : ℕ) (journal : JournalState) (why : MessageRefusal) →
     map decode_of (take count lines) ≡ as_spelled journal.messages → StopsAt lines count why journal →
     journal.closed ≡ false → HasLinesBefore lines why journal
 some_spelled lines count journal why spelled stops unclosed =
@@ -212,20 +215,20 @@ some_spelled lines count journal why spelled stops unclosed =
     }
 
 pub lines_spelled_before : (laws : PublishedLaws) (limit : ℕ) (journal : JournalState) (lines : List (List ℕ))
-    (why : LineRefusal) → IsOpening journal limit → (lines_published journal lines).refused ≡ Some why →
+    (why : MessageRefusal) → IsOpening journal limit → (lines_published journal lines).refused ≡ Some why →
     HasLinesBefore lines why (lines_published journal lines).journal
 lines_spelled_before laws limit journal lines why is stopped =
     let after = lines_published journal lines in
     let taken = lines_taken laws lines journal (opening_is journal limit is) in
     some_spelled lines taken.count after.journal why
     (opening_spelled journal lines after taken.count is.empty taken.spelled)
-    (subst (λ (refused : Option LineRefusal). EndsAt lines taken.count after.journal refused) stopped taken.ends)
+    (subst (λ (refused : Option MessageRefusal). EndsAt lines taken.count after.journal refused) stopped taken.ends)
     (taken.closed ∙ is.unclosed)
 
 -- ---- a server may answer from it
 
 -- a server may answer from a journal whether it is closed or not
-left_may : (refused : Option LineRefusal) (journal : JournalState) (limit : ℕ) → MayAnswer journal limit →
+left_may : (refused : Option MessageRefusal) (journal : JournalState) (limit : ℕ) → MayAnswer journal limit →
     MayAnswer (closed_unless refused journal) limit
 left_may None journal limit may = record {
   journaled = may.journaled;
@@ -242,7 +245,7 @@ taken_may laws limit other journal lines is limited room =
     let taken = lines_taken laws lines journal (opening_is journal limit is) in
     record {
       journaled = taken.is;
-      named = subst (λ (session : Session). length session.0 ≡ 10) (sym (grown lines journal).session) is.named;
+      named = subst (λ (session : Session). length session.0 ≡ 10) (sym (grown_lines lines journal).session) is.named;
       limited = limited;
       room = omega (arith, taken.longest, room);
     }
@@ -299,6 +302,13 @@ without_last Good [] each = tt
 without_last Good (packet ∷ []) each = tt
 without_last Good (packet ∷ (next ∷ packets)) each = (each.0, without_last Good (next ∷ packets) each.1)
 
+-- the same for what is sent of them before a refusal
+without_rest : (Good : List ℕ → Type 0) (kind : InputKind) (packets : List Packet) →
+    AllByRecursion Good (map spelling_of packets) →
+    AllByRecursion Good (map spelling_of (packets_before kind packets))
+without_rest Good Lines packets each = without_last Good packets each
+without_rest Good Blocks packets each = each
+
 each_replicated : {X : Type 0} (Good : X → Type 0) (count : ℕ) (x : X) → Good x →
     AllByRecursion Good (replicate count x)
 each_replicated Good zero x one = tt
@@ -330,7 +340,7 @@ end_true limit journal may closed = record {
 }
 
 -- all datagrams, whether a line is refused or not
-all_true : (laws : PublishedLaws) (limit beats ends : ℕ) (refused : Option LineRefusal) (journal : JournalState) →
+all_true : (laws : PublishedLaws) (limit beats ends : ℕ) (refused : Option MessageRefusal) (journal : JournalState) →
     MayAnswer journal limit → AllByRecursion (IsTrueDatagram (closed_unless refused journal))
     (all_datagrams limit beats ends (record { journal = journal; refused = refused }))
 all_true laws limit beats ends None journal may =
@@ -342,9 +352,11 @@ all_true laws limit beats ends None journal may =
     (replicate ends (spelling_of (end_packet left)))
     (each_replicated (IsTrueDatagram left) beats (spelling_of (beat_packet left)) (beat_true limit left shut))
     (each_replicated (IsTrueDatagram left) ends (spelling_of (end_packet left)) (end_true limit left shut refl)))
-all_true laws limit beats ends (Some why) journal may =
-    each_append (IsTrueDatagram journal) (map spelling_of (all_but_last (packets_after limit 0 journal))) []
-    (without_last (IsTrueDatagram journal) (packets_after limit 0 journal) (data_true laws limit journal may)) tt
+all_true laws limit beats ends (Some refusal) journal may =
+    each_append (IsTrueDatagram journal)
+    (map spelling_of (packets_before refusal.kind (packets_after limit 0 journal))) []
+    (without_rest (IsTrueDatagram journal) refusal.kind (packets_after limit 0 journal)
+    (data_true laws limit journal may)) tt
 
 -- all datagrams that are offered
 pub offered_true : (laws : PublishedLaws) (beats ends limit : ℕ) (journal : JournalState) (lines : List (List ℕ)) →

@@ -23,7 +23,7 @@ use Rattle.mold_feed.proofs.OpeningLemmas.{OpeningLaws, begins_at, begins_honest
 use Rattle.mold_feed.proofs.SentLemmas.{sent_one}
 use Rattle.mold_ports.specs.Ports.{Port, Receipt, Datagram, Quiet, Failure}
 use Rattle.mold_publish.specs.Publishing.{lines_published}
-use Rattle.mold_publish.specs.declared.line_refusal.LineRefusal.{LineRefusal}
+use Rattle.mold_publish.specs.declared.message_refusal.MessageRefusal.{MessageRefusal}
 use Rattle.mold_receiver.specs.Arbiter.{Arbitration}
 use Rattle.mold_receiver.specs.Honest.{IsHonest}
 use Rattle.mold_receiver.specs.Store.{Message}
@@ -43,7 +43,7 @@ pub record FeedLaws (P : Type 0) : Type 0 where
       PublishRun a b beats ends limit (lines_published journal lines) result before after text_old text_new file_old
       file_new → AllSent (IsTrueDatagram (left_by journal lines)) before.sent →
       AllSent (IsTrueDatagram (left_by journal lines)) after.sent
-  pub before : (limit : ℕ) (journal : JournalState) (lines : List (List ℕ)) (why : LineRefusal) →
+  pub before : (limit : ℕ) (journal : JournalState) (lines : List (List ℕ)) (why : MessageRefusal) →
       IsOpening journal limit → (lines_published journal lines).refused ≡ Some why →
       HasLinesBefore lines why (lines_published journal lines).journal
   pub served : (service : Service) (choices : List (List Bool)) (start : ResponderState P) →
@@ -219,7 +219,7 @@ module _ {P : Type 0} (laws : FeedLaws P) (limit : ℕ) (journal : JournalState)
 
       -- a line is refused
 
-      module _ (why : LineRefusal) (refused : (lines_published journal lines).refused ≡ Some why) where
+      module _ (why : MessageRefusal) (refused : (lines_published journal lines).refused ≡ Some why) where
         abbrev count : ℕ
         count = length (lines_published journal lines).journal.messages
 
@@ -231,7 +231,7 @@ module _ {P : Type 0} (laws : FeedLaws P) (limit : ℕ) (journal : JournalState)
 
         unclosed : (left_by journal lines).closed ≡ false
         unclosed =
-            ap (λ (r : Option LineRefusal). (closed_unless r (lines_published journal lines).journal).closed) refused
+            ap (λ (r : Option MessageRefusal). (closed_unless r (lines_published journal lines).journal).closed) refused
             ∙ before.unclosed
 
         unfinished : ReceivesOnly (IsHarmless (left_by journal lines)) start → is_finished ending.progress ≡ false

@@ -6,7 +6,7 @@ use Rattle.std.specs.List.{AllByRecursion, Contains, flat_map}
 use Rattle.mold_devices.specs.Devices.{AppendsPrefix}
 use Rattle.mold_ports.specs.Ports.{Port, Receipt, Datagram, Quiet, Failure}
 use Rattle.mold_publish.specs.Publishing.{refused_text}
-use Rattle.mold_publish.specs.declared.line_refusal.LineRefusal.{LineRefusal}
+use Rattle.mold_publish.specs.declared.message_refusal.MessageRefusal.{MessageRefusal}
 use Rattle.mold_receiver.specs.Honest.{IsHonest}
 use Rattle.mold_receiver.specs.Store.{Message, numbered}
 use Rattle.mold_receiver.specs.declared.line.LineReports.{LineReports}
@@ -211,9 +211,9 @@ pub record PrintsOpen {E : Type 0} (reporting : Bool) (lines : List (List ℕ)) 
       (lines_text first (between lines first next) ++ closing_lines reporting reports false next known failures)
 
 -- What a loop of publisher, server and listener has written, if its listener started at line `first` and line
--- `refused_at` is refused. Its text is published lines from `first` on and before `refused_at`, and then the line of
--- the refusal; the status is 2. After a fault, a prefix of such a text is written.
-pub record PrintsRefused {E : Type 0} (lines : List (List ℕ)) (refused_at : ℕ) (why : LineRefusal) (first : ℕ)
+-- `refused_at` is refused. Its text is published lines from `first` on, all of them before `refused_at`, and then the
+-- line of the refusal. The status is 2. After a fault, a prefix of such a text is written.
+pub record PrintsRefused {E : Type 0} (lines : List (List ℕ)) (refused_at : ℕ) (why : MessageRefusal) (first : ℕ)
     (result : Result ℕ E) (old new : Option (List ℕ)) : Type 0 where
   -- the number of the next message to deliver
   pub next : ℕ

@@ -7,7 +7,7 @@ use Rattle.hex.specs.Hex.{decode_of}
 use Rattle.mold_devices.specs.declared.fault.CommandFault.{CommandFault}
 use Rattle.mold_ports.specs.Ports.{Port}
 use Rattle.mold_publish.specs.Publishing.{line_outcome, lines_published}
-use Rattle.mold_publish.specs.declared.line_refusal.LineRefusal.{LineRefusal}
+use Rattle.mold_publish.specs.declared.message_refusal.MessageRefusal.{MessageRefusal}
 use Rattle.mold_session.specs.Journal.{JournalState}
 use Rattle.mold_session.specs.Truthful.{MayAnswer}
 use Rattle.mold_wire.specs.Packer.{IsLimit}
@@ -33,7 +33,7 @@ pub record HasLines (lines : List (List ℕ)) (journal : JournalState) : Type 0 
 
 -- The journal is open and has the messages of the first lines, in order. It refuses the line after them for the reason
 -- `why`.
-pub record HasLinesBefore (lines : List (List ℕ)) (why : LineRefusal) (journal : JournalState) : Type 0 where
+pub record HasLinesBefore (lines : List (List ℕ)) (why : MessageRefusal) (journal : JournalState) : Type 0 where
   -- the refused line
   pub line : List ℕ
   -- it is the first line that has no message in the journal

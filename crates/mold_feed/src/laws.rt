@@ -17,7 +17,7 @@ ghost use Rattle.mold_serve.specs.Serving.{ResponderState, Service, serving};
 ghost use Rattle.mold_listen.specs.Text.{handed_text};
 ghost use Rattle.mold_ports.specs.Ports.{Port};
 ghost use Rattle.mold_publish.specs.Publishing.{lines_published};
-ghost use Rattle.mold_publish.specs.declared.line_refusal.LineRefusal.{LineRefusal};
+ghost use Rattle.mold_publish.specs.declared.message_refusal.MessageRefusal.{MessageRefusal};
 ghost use Rattle.mold_receiver.specs.Arbiter.{Arbitration};
 ghost use Rattle.mold_receiver.specs.Honest.{IsHonest};
 ghost use Rattle.mold_receiver.specs.View.{fresh};
@@ -50,7 +50,7 @@ pub fn published_law<D: Datagrams>()
         AllSent (IsTrueDatagram (left_journal (lines_published journal lines))) after.sent }
     ensures lines { (limit : ℕ) (journal : JournalState) (lines : List (List ℕ)) → IsOpening journal limit →
         (lines_published journal lines).refused ≡ None → HasLines lines (left_journal (lines_published journal lines)) }
-    ensures before { (limit : ℕ) (journal : JournalState) (lines : List (List ℕ)) (why : LineRefusal) →
+    ensures before { (limit : ℕ) (journal : JournalState) (lines : List (List ℕ)) (why : MessageRefusal) →
         IsOpening journal limit → (lines_published journal lines).refused ≡ Some why →
         HasLinesBefore lines why (lines_published journal lines).journal }
     ensures answers { (limit other : ℕ) (journal : JournalState) (lines : List (List ℕ)) → IsOpening journal limit →
@@ -139,7 +139,7 @@ pub fn session_law<D: Datagrams>()
         PrintsAmong reporting journal.session (CanReceive (beginning a b requests arbitration))
         lines first result old new }
     ensures refused { (reporting : Bool) (limit first window turns burst : ℕ) (journal : JournalState)
-        (lines : List (List ℕ)) (why : LineRefusal) (server : D.Peer) (a b requests : Port D.Peer)
+        (lines : List (List ℕ)) (why : MessageRefusal) (server : D.Peer) (a b requests : Port D.Peer)
         (arbitration : Arbitration) (a_left b_left requests_left : Port D.Peer) (left : Arbitration)
         (result : Result ℕ CommandFault) (old new : Option (List ℕ)) (sent : List (D.Peer × List ℕ)) →
         IsOpening journal limit → (lines_published journal lines).refused ≡ Some why →

@@ -2,9 +2,9 @@
 use Rattle.std.proofs.Common.{◌≡◌, ◌∙◌, ℕ, Bool, List, Option, Result, ap, refl, subst, sym}
 use Rattle.std.specs.Borrow.{Bor}
 use Rattle.std.specs.Prelude.{IfSome}
-use Rattle.mold_devices.specs.Lines.{lines_of}
+use Rattle.mold_input.specs.Entries.{InputEntries}
 use Rattle.mold_ports.specs.Ports.{Port}
-use Rattle.mold_publish.specs.Publishing.{lines_published}
+use Rattle.mold_publish.specs.Publishing.{input_published}
 use Rattle.mold_receiver.specs.Arbiter.{Arbitration}
 use Rattle.mold_session.specs.Publisher.{PublisherState}
 use Rattle.mold_session.specs.Server.{ServerState}
@@ -168,16 +168,16 @@ rounds_so {D} {A} {P} port ports last listener server requests arbitration outgo
 
 -- so `LoopRun` of the left states is `LoopRun` of the final ones
 pub loop_so : {P E : Type 0} (reporting : Bool) (drops : Drops) (a b to : P) (turns : ℕ) (start : PublisherState) (server : ServerState)
-    (from : LineState P) (begun : RepairState P) (known : Option (List ℕ)) (result : Result ℕ E)
+    (from : LineState P) (begun : RepairState P) (known : Option InputEntries) (result : Result ℕ E)
     (old new : Option (List ℕ)) (lines_left lines_end : LineState P) (rounds_left rounds_end : RepairState P) →
     lines_end ≡ lines_left → rounds_end ≡ rounds_left →
     IfSome known (λ input. LoopRun reporting drops a b to turns start.limit start.sent
-    (lines_published start.journal (lines_of input)) server from begun result old new lines_left rounds_left) →
+    (input_published start.journal input) server from begun result old new lines_left rounds_left) →
     IfSome known (λ input. LoopRun reporting drops a b to turns start.limit start.sent
-    (lines_published start.journal (lines_of input)) server from begun result old new lines_end rounds_end)
+    (input_published start.journal input) server from begun result old new lines_end rounds_end)
 loop_so {P} reporting drops a b to turns start server from begun known result old new lines_left lines_end rounds_left rounds_end is_lines is_rounds ran =
     let leaves : LineState P → RepairState P → Type 0 =
     λ l r. IfSome known (λ input. LoopRun reporting drops a b to turns start.limit start.sent
-    (lines_published start.journal (lines_of input)) server from begun result old new l r) in
+    (input_published start.journal input) server from begun result old new l r) in
     subst (λ (l : LineState P). leaves l rounds_end) (sym is_lines)
     (subst (λ (r : RepairState P). leaves lines_left r) (sym is_rounds) ran)

@@ -6,10 +6,10 @@ use Rattle.std.proofs.KnownBytes.{Appends-nil}
 use Rattle.std.specs.Prelude.{IfSome, IfOk, IsErr, OnOk}
 use Rattle.std.specs.Io.KnownBytes.{Appends}
 use Rattle.mold_devices.specs.Devices.{AppendsPrefix}
-use Rattle.mold_devices.specs.Lines.{lines_of}
+use Rattle.mold_input.specs.Entries.{InputEntries}
 use Rattle.mold_ports.specs.Ports.{Port}
-use Rattle.mold_publish.specs.Publishing.{PublishedLines, lines_published, refused_text}
-use Rattle.mold_publish.specs.declared.line_refusal.LineRefusal.{LineRefusal}
+use Rattle.mold_publish.specs.Publishing.{PublishedInput, input_published, refused_text}
+use Rattle.mold_publish.specs.declared.message_refusal.MessageRefusal.{MessageRefusal}
 use Rattle.mold_receiver.specs.Arbiter.{Arbitration}
 use Rattle.mold_session.specs.Journal.{JournalState}
 use Rattle.mold_session.specs.Publisher.{PublisherState}
@@ -19,7 +19,7 @@ use Rattle.mold_send.proofs.SendingLemmas.{any_known}
 use Rattle.mold_turns.proofs.RunLemmas.{begins_more, begins_none, begins_trans, begins_whole}
 use Rattle.mold_turns.specs.Outgoing.{OutgoingState, written_out}
 use Rattle.mold_listen.specs.Listening.{progress, last_lines, listener_status}
-use Rattle.mold_loop.specs.Looping.{IsData, LineState, LoopRun, PassRests, ReceivesLines}
+use Rattle.mold_loop.specs.Looping.{IsData, LineState, LoopRun, PassRests, ReceivesMessages}
 use Rattle.mold_loop.specs.Looping.{with_progress}
 use Rattle.mold_loop.specs.Passing.{all_routed, routed, routed_end}
 use Rattle.mold_send.specs.PublishLoop.{closed_unless, data_after, left_journal}
@@ -32,23 +32,23 @@ use Rattle.mold_loop.proofs.LoopLemmas.{LoopStands, run_cut, run_end, run_unrepa
 
 -- the run of the published lines is the run to prove
 run_from : {P E : Type 0} {reporting : Bool} (drops : Drops) (a b to : P) (turns : ℕ) (start : PublisherState) (server : ServerState)
-    (lines : LineState P) (rounds : RepairState P) (known : Option (List ℕ)) (journal : JournalState)
-    (refused : Option LineRefusal) (front : List (List ℕ)) (result : Result ℕ E) (old new : Option (List ℕ))
+    (lines : LineState P) (rounds : RepairState P) (known : Option InputEntries) (journal : JournalState)
+    (refused : Option MessageRefusal) (front : List (List ℕ)) (result : Result ℕ E) (old new : Option (List ℕ))
     (lines_left : LineState P) (rounds_left : RepairState P) → IfSome known (IsData start front journal refused) →
     (data_after start.limit start.sent (record { journal = journal; refused = refused }) ≡ front →
     LoopRun reporting drops a b to turns start.limit start.sent (record { journal = journal; refused = refused }) server lines
     rounds result old new lines_left rounds_left) →
     IfSome known (λ input. LoopRun reporting drops a b to turns start.limit start.sent
-    (lines_published start.journal (lines_of input)) server lines rounds result old new lines_left rounds_left)
+    (input_published start.journal input) server lines rounds result old new lines_left rounds_left)
 run_from {P} {E} {reporting} drops a b to turns start server lines rounds None journal refused front result old new lines_left rounds_left all ran = tt
 run_from {P} {E} {reporting} drops a b to turns start server lines rounds (Some input) journal refused front result old new lines_left rounds_left all ran =
     subst
-    (λ (p : PublishedLines). LoopRun reporting drops a b to turns start.limit start.sent p server lines rounds result old new
+    (λ (p : PublishedInput). LoopRun reporting drops a b to turns start.limit start.sent p server lines rounds result old new
     lines_left rounds_left)
     (sym all.1)
-    (ran (ap (λ (p : PublishedLines). data_after start.limit start.sent p) (sym all.1) ∙ all.0))
+    (ran (ap (λ (p : PublishedInput). data_after start.limit start.sent p) (sym all.1) ∙ all.0))
 
-begins_routed : (drops : Drops) (limit sent : ℕ) (published : PublishedLines) (front : List (List ℕ)) →
+begins_routed : (drops : Drops) (limit sent : ℕ) (published : PublishedInput) (front : List (List ℕ)) →
     Begins front (data_after limit sent published) →
     Begins (routed drops 1 front) (all_routed drops limit sent published)
 begins_routed drops limit sent published front begins =
@@ -63,15 +63,15 @@ begins_routed drops limit sent published front begins =
 
 -- a fault before anything is passed
 pub loop_unbegun : {P E : Type 0} (reporting : Bool) (drops : Drops) (a b to : P) (turns : ℕ) (start : PublisherState) (server : ServerState)
-    (lines : LineState P) (rounds : RepairState P) (known : Option (List ℕ)) (result : Result ℕ E)
+    (lines : LineState P) (rounds : RepairState P) (known : Option InputEntries) (result : Result ℕ E)
     (held : Option (List ℕ)) → IsErr result →
     IfSome known (λ input. LoopRun reporting drops a b to turns start.limit start.sent
-    (lines_published start.journal (lines_of input)) server lines rounds result held held lines rounds)
+    (input_published start.journal input) server lines rounds result held held lines rounds)
 unfolding run
 loop_unbegun reporting drops a b to turns start server lines rounds known result held failed =
     any_known known _
     (λ input.
-    run_cut drops a b to turns start.limit start.sent (lines_published start.journal (lines_of input)) server lines
+    run_cut drops a b to turns start.limit start.sent (input_published start.journal input) server lines
     rounds result {xs = []} lines rounds held held
     (record {
       passes = [];
@@ -85,15 +85,15 @@ loop_unbegun reporting drops a b to turns start server lines rounds known result
 
 -- a fault while lines are read
 pub loop_unreceived : {P E F : Type 0} (reporting : Bool) (drops : Drops) (a b to : P) (turns : ℕ) (start last : PublisherState)
-    (server : ServerState) (lines : LineState P) (rounds : RepairState P) (known : Option (List ℕ))
-    (found : Result (Option LineRefusal) F) (result : Result ℕ E) (old new : Option (List ℕ)) (lines_left : LineState P)
+    (server : ServerState) (lines : LineState P) (rounds : RepairState P) (known : Option InputEntries)
+    (found : Result (Option MessageRefusal) F) (result : Result ℕ E) (old new : Option (List ℕ)) (lines_left : LineState P)
     (rounds_left : RepairState P) → IsErr result → rounds_left.server ≡ rounds.server →
-    rounds_left.requests ≡ rounds.requests → ReceivesLines drops a b start last known found lines lines_left old new →
+    rounds_left.requests ≡ rounds.requests → ReceivesMessages drops a b start last known found lines lines_left old new →
     IfSome known (λ input. LoopRun reporting drops a b to turns start.limit start.sent
-    (lines_published start.journal (lines_of input)) server lines rounds result old new lines_left rounds_left)
+    (input_published start.journal input) server lines rounds result old new lines_left rounds_left)
 loop_unreceived reporting drops a b to turns start last server lines rounds None found result old new lines_left rounds_left failed kept same hears = tt
 loop_unreceived reporting drops a b to turns start last server lines rounds (Some input) found result old new lines_left rounds_left failed kept same hears =
-    let published : PublishedLines = lines_published start.journal (lines_of input) in
+    let published : PublishedInput = input_published start.journal input in
     run_cut drops a b to turns start.limit start.sent published server lines rounds result lines_left rounds_left old new
     (record {
       passes = hears.passes;
@@ -105,9 +105,9 @@ loop_unreceived reporting drops a b to turns start last server lines rounds (Som
     })
     (begins_routed drops start.limit start.sent published hears.front hears.begins) failed kept same
 
-received_of : {P E : Type 0} (drops : Drops) (a b : P) (start now : PublisherState) (known : Option (List ℕ))
-    (refused : Option LineRefusal) (first here : LineState P) (old new : Option (List ℕ)) →
-    (hears : ReceivesLines {E = E} drops a b start now known (Ok refused) first here old new) →
+received_of : {P E : Type 0} (drops : Drops) (a b : P) (start now : PublisherState) (known : Option InputEntries)
+    (refused : Option MessageRefusal) (first here : LineState P) (old new : Option (List ℕ)) →
+    (hears : ReceivesMessages {E = E} drops a b start now known (Ok refused) first here old new) →
     Heard a b (routed drops 1 hears.front) first here old new
 received_of drops a b start now known refused first here old new hears = record {
   passes = hears.passes;
@@ -119,20 +119,20 @@ received_of drops a b start now known refused first here old new hears = record 
 
 -- a line is refused
 pub loop_stopped : {P E F : Type 0} (reporting : Bool) (drops : Drops) (a b to : P) (turns : ℕ) (start now : PublisherState)
-    (server : ServerState) (lines : LineState P) (rounds : RepairState P) (known : Option (List ℕ))
-    (why : LineRefusal) (number : ℕ) (result : Result ℕ E) (old mid new : Option (List ℕ)) (here lines_left : LineState P)
+    (server : ServerState) (lines : LineState P) (rounds : RepairState P) (known : Option InputEntries)
+    (why : MessageRefusal) (number : ℕ) (result : Result ℕ E) (old mid new : Option (List ℕ)) (here lines_left : LineState P)
     (rounds_left : RepairState P) →
-    ReceivesLines {E = F} drops a b start now known (Ok (Some why)) lines here old mid →
+    ReceivesMessages {E = F} drops a b start now known (Ok (Some why)) lines here old mid →
     number ≡ length now.journal.messages + 1 →
     AppendsPrefix mid new (here.progress.outgoing.text ++ refused_text number why) →
     IfOk result (λ status. Appends mid new (here.progress.outgoing.text ++ refused_text number why) × (status ≡ 2)) →
     LoopStands lines_left here rounds_left (with_progress here.progress rounds) →
     OnOk result (rounds_left.progress.outgoing ≡ written_out here.progress.outgoing) →
     IfSome known (λ input. LoopRun reporting drops a b to turns start.limit start.sent
-    (lines_published start.journal (lines_of input)) server lines rounds result old new lines_left rounds_left)
+    (input_published start.journal input) server lines rounds result old new lines_left rounds_left)
 loop_stopped {P} reporting drops a b to turns start now server lines rounds known why number result old mid new here left asked
     hears numbered cut done agrees out =
-    let published : PublishedLines = record { journal = now.journal; refused = Some why } in
+    let published : PublishedInput = record { journal = now.journal; refused = Some why } in
     let text : List ℕ = here.progress.outgoing.text in
     let choice : Bool × List Bool = (false, []) in
     run_from drops a b to turns start server lines rounds known now.journal (Some why) hears.front result old new
@@ -158,16 +158,16 @@ all_are drops start journal front whole =
 
 -- a fault while the end packet is passed, or in the write after it
 pub loop_unended : {P T E F G : Type 0} (reporting : Bool) (drops : Drops) (a b to : P) (turns : ℕ) (start now : PublisherState)
-    (server : ServerState) (lines : LineState P) (rounds : RepairState P) (known : Option (List ℕ))
+    (server : ServerState) (lines : LineState P) (rounds : RepairState P) (known : Option InputEntries)
     (ended : Result T G) (result : Result ℕ E) (old mid new : Option (List ℕ)) (here lines_left : LineState P)
     (rounds_left : RepairState P) →
-    ReceivesLines {E = F} drops a b start now known (Ok None) lines here old mid →
+    ReceivesMessages {E = F} drops a b start now known (Ok None) lines here old mid →
     PassRests a b (routed_end now.journal None) ended here lines_left mid new → IsErr result →
     rounds_left.server ≡ rounds.server → rounds_left.requests ≡ rounds.requests →
     IfSome known (λ input. LoopRun reporting drops a b to turns start.limit start.sent
-    (lines_published start.journal (lines_of input)) server lines rounds result old new lines_left rounds_left)
+    (input_published start.journal input) server lines rounds result old new lines_left rounds_left)
 loop_unended {P} reporting drops a b to turns start now server lines rounds known ended result old mid new here left asked hears has failed kept same =
-    let published : PublishedLines = record { journal = now.journal; refused = None } in
+    let published : PublishedInput = record { journal = now.journal; refused = None } in
     run_from drops a b to turns start server lines rounds known now.journal None hears.front result old new
     left asked hears.all
     (λ whole.
@@ -200,9 +200,9 @@ rests_from {P} to server turns journal other port requests arbitration printer r
     ∙ ap (λ (n : ℕ). of rounds.server rounds.requests n) answered)
     rests)
 
-received_all : {P T F G : Type 0} (drops : Drops) (a b : P) (start now : PublisherState) (known : Option (List ℕ))
+received_all : {P T F G : Type 0} (drops : Drops) (a b : P) (start now : PublisherState) (known : Option InputEntries)
     (lines here there : LineState P) (old mid new : Option (List ℕ)) (value : T) →
-    (hears : ReceivesLines {E = F} drops a b start now known (Ok None) lines here old mid) →
+    (hears : ReceivesMessages {E = F} drops a b start now known (Ok None) lines here old mid) →
     PassRests {T = T} {E = G} a b (routed_end now.journal None) (Ok value) here there mid new →
     data_after start.limit start.sent (record { journal = now.journal; refused = None }) ≡ hears.front →
     Heard a b (all_routed drops start.limit start.sent (record { journal = now.journal; refused = None })) lines there old
@@ -214,16 +214,16 @@ received_all {P} drops a b start now known lines here there old mid new value he
 
 -- a fault in a round
 pub loop_unrepaired : {P T U E F G H : Type 0} (reporting : Bool) (drops : Drops) (a b to : P) (turns : ℕ) (start now : PublisherState)
-    (server : ServerState) (lines : LineState P) (rounds : RepairState P) (known : Option (List ℕ)) (value : T)
+    (server : ServerState) (lines : LineState P) (rounds : RepairState P) (known : Option InputEntries) (value : T)
     (asked : Result U H) (result : Result ℕ E) (old first mid new : Option (List ℕ)) (here there lines_left : LineState P)
     (rounds_left : RepairState P) →
-    ReceivesLines {E = F} drops a b start now known (Ok None) lines here old first →
+    ReceivesMessages {E = F} drops a b start now known (Ok None) lines here old first →
     PassRests {T = T} {E = G} a b (routed_end now.journal None) (Ok value) here there first mid →
     RestsOfTwo (repairing to (service_of (record now.journal { closed = true }) server)) answers_sent text_before turns
     (with_progress there.progress rounds) asked mid new rounds_left →
     IsErr result → lines_left.publisher ≡ there.publisher →
     IfSome known (λ input. LoopRun reporting drops a b to turns start.limit start.sent
-    (lines_published start.journal (lines_of input)) server lines rounds result old new lines_left rounds_left)
+    (input_published start.journal input) server lines rounds result old new lines_left rounds_left)
 loop_unrepaired reporting drops a b to turns start now server lines rounds known value asked result old first mid new here there left
     made hears has rests failed same =
     run_from drops a b to turns start server lines rounds known now.journal None hears.front result old new
@@ -235,10 +235,10 @@ loop_unrepaired reporting drops a b to turns start now server lines rounds known
 
 -- the last line is printed, or a prefix of the remaining text
 pub loop_done : {P T U E F G H : Type 0} (reporting : Bool) (drops : Drops) (a b to : P) (turns : ℕ) (start now : PublisherState)
-    (server : ServerState) (lines : LineState P) (rounds : RepairState P) (known : Option (List ℕ)) (value : T)
+    (server : ServerState) (lines : LineState P) (rounds : RepairState P) (known : Option InputEntries) (value : T)
     (done : U) (result : Result ℕ E) (old first mid second new : Option (List ℕ)) (here there lines_left : LineState P)
     (behind rounds_left : RepairState P) →
-    ReceivesLines {E = F} drops a b start now known (Ok None) lines here old first →
+    ReceivesMessages {E = F} drops a b start now known (Ok None) lines here old first →
     PassRests {T = T} {E = G} a b (routed_end now.journal None) (Ok value) here there first mid →
     RestsOfTwo {E = H} (repairing to (service_of (record now.journal { closed = true }) server)) answers_sent text_before
     turns (with_progress there.progress rounds) (Ok done) mid second behind →
@@ -248,7 +248,7 @@ pub loop_done : {P T U E F G H : Type 0} (reporting : Bool) (drops : Drops) (a b
     LoopStands lines_left there rounds_left behind →
     OnOk result (rounds_left.progress.outgoing ≡ written_out behind.progress.outgoing) →
     IfSome known (λ input. LoopRun reporting drops a b to turns start.limit start.sent
-    (lines_published start.journal (lines_of input)) server lines rounds result old new lines_left rounds_left)
+    (input_published start.journal input) server lines rounds result old new lines_left rounds_left)
 loop_done reporting drops a b to turns start now server lines rounds known v done result old first mid next new here there left made
     rest hears has rests cut printed is out =
     run_from drops a b to turns start server lines rounds known now.journal None hears.front result old new
@@ -260,11 +260,11 @@ loop_done reporting drops a b to turns start now server lines rounds known v don
     rests.rests.appended rests.rests.whole cut printed is out)
 
 -- the journal that the publisher ends with
-pub journal_left : {P E : Type 0} (drops : Drops) (a b : P) (start now : PublisherState) (known : Option (List ℕ))
-    (refused : Option LineRefusal) (lines here : LineState P) (old new : Option (List ℕ)) (journal : JournalState) →
-    ReceivesLines {E = E} drops a b start now known (Ok refused) lines here old new →
+pub journal_left : {P E : Type 0} (drops : Drops) (a b : P) (start now : PublisherState) (known : Option InputEntries)
+    (refused : Option MessageRefusal) (lines here : LineState P) (old new : Option (List ℕ)) (journal : JournalState) →
+    ReceivesMessages {E = E} drops a b start now known (Ok refused) lines here old new →
     journal ≡ closed_unless refused now.journal →
-    IfSome known (λ input. journal ≡ left_journal (lines_published start.journal (lines_of input)))
+    IfSome known (λ input. journal ≡ left_journal (input_published start.journal input))
 journal_left drops a b start now None refused lines here old new journal hears is = tt
 journal_left drops a b start now (Some input) refused lines here old new journal hears is =
-    is ∙ sym (ap (λ (p : PublishedLines). left_journal p) hears.all.1)
+    is ∙ sym (ap (λ (p : PublishedInput). left_journal p) hears.all.1)

@@ -9,8 +9,8 @@ use Rattle.std.specs.Prelude.{IfOk, IsErr, OnOk}
 use Rattle.std.specs.Io.KnownBytes.{Appends}
 use Rattle.mold_devices.specs.Devices.{AppendsPrefix}
 use Rattle.mold_ports.specs.Ports.{Port}
-use Rattle.mold_publish.specs.Publishing.{PublishedLines}
-use Rattle.mold_publish.specs.declared.line_refusal.LineRefusal.{LineRefusal}
+use Rattle.mold_publish.specs.Publishing.{PublishedInput}
+use Rattle.mold_publish.specs.declared.message_refusal.MessageRefusal.{MessageRefusal}
 use Rattle.mold_session.specs.Journal.{JournalState}
 use Rattle.mold_session.specs.Server.{ServerState}
 use Rattle.mold_loop.proofs.HeardLemmas.{Heard, HeardFront, lines_grow, passes_are, run_behind}
@@ -58,7 +58,7 @@ all_sent_are (x ∷ xs) =
 
 -- ---- text that precedes the text of a state
 
-rounds_front : {P : Type 0} (refused : Option LineRefusal) (to : P) (service : Service)
+rounds_front : {P : Type 0} (refused : Option MessageRefusal) (to : P) (service : Service)
     (choices : List (Bool × List Bool)) (front : List ℕ) (s : RepairState P) →
     rounds_made refused to service choices (text_before front s)
     ≡ text_before front (rounds_made refused to service choices s)
@@ -66,33 +66,33 @@ rounds_front None to service choices front s =
     run_behind (repairing to service) text_before (rounds_are to service) choices front s
 rounds_front (Some why) to service choices front s = refl
 
-rounds_print : {P : Type 0} (refused : Option LineRefusal) (to : P) (service : Service)
+rounds_print : {P : Type 0} (refused : Option MessageRefusal) (to : P) (service : Service)
     (choices : List (Bool × List Bool)) (s : RepairState P) →
     Begins s.progress.outgoing.text (rounds_made refused to service choices s).progress.outgoing.text
 rounds_print None to service choices s =
     grows_in (repairing to service) (repairing to service).text (rounds_are to service).prints choices s
 rounds_print (Some why) to service choices s = begins_whole s.progress.outgoing.text
 
-rounds_send : {P : Type 0} (refused : Option LineRefusal) (to : P) (service : Service)
+rounds_send : {P : Type 0} (refused : Option MessageRefusal) (to : P) (service : Service)
     (choices : List (Bool × List Bool)) (s : RepairState P) →
     Begins s.requests.sent (rounds_made refused to service choices s).requests.sent
 rounds_send None to service choices s =
     grows_in (repairing to service) (repairing to service).sent (rounds_are to service).sends choices s
 rounds_send (Some why) to service choices s = begins_whole s.requests.sent
 
-rounds_answer : {P : Type 0} (refused : Option LineRefusal) (to : P) (service : Service)
+rounds_answer : {P : Type 0} (refused : Option MessageRefusal) (to : P) (service : Service)
     (choices : List (Bool × List Bool)) (s : RepairState P) →
     Begins s.server.sent (rounds_made refused to service choices s).server.sent
 rounds_answer None to service choices s =
     grows_in (repairing to service) answers_sent (round_answers to service) choices s
 rounds_answer (Some why) to service choices s = begins_whole s.server.sent
 
-line_front : (reporting : Bool) (journal : JournalState) (refused : Option LineRefusal) (front : List ℕ) (e : Progress) →
+line_front : (reporting : Bool) (journal : JournalState) (refused : Option MessageRefusal) (front : List ℕ) (e : Progress) →
     loop_lines reporting journal refused (hearing_before front e) ≡ loop_lines reporting journal refused e
 line_front reporting journal None front e = refl
 line_front reporting journal (Some why) front e = refl
 
-status_front : (refused : Option LineRefusal) (front : List ℕ) (e : Progress) →
+status_front : (refused : Option MessageRefusal) (front : List ℕ) (e : Progress) →
     loop_status refused (hearing_before front e) ≡ loop_status refused e
 status_front None front e = refl
 status_front (Some why) front e = refl
@@ -100,7 +100,7 @@ status_front (Some why) front e = refl
 -- ---- the end
 
 -- the end of the run has all the written text before its own
-end_is : {P : Type 0} (a b to : P) (published : PublishedLines) (server : ServerState) (passes : List Pass)
+end_is : {P : Type 0} (a b to : P) (published : PublishedInput) (server : ServerState) (passes : List Pass)
     (choices : List (Bool × List Bool)) (lines mid : LineState P) (rounds now : RepairState P) (front back : List ℕ) →
     lines_after a b passes lines ≡ text_front front mid →
     rounds_after to published server choices mid.progress rounds ≡ text_before back now →
@@ -113,7 +113,7 @@ end_is {P} a b to published server passes choices lines mid rounds now front bac
     ∙ ap (text_before front) made
     ∙ (rounds_are to service).twice front back now
 
-text_is : (reporting : Bool) (published : PublishedLines) (front : List ℕ) (e : Progress) →
+text_is : (reporting : Bool) (published : PublishedInput) (front : List ℕ) (e : Progress) →
     loop_text reporting published (hearing_before front e) ≡ front ++ loop_text reporting published e
 text_is reporting published front e =
     ap (λ (l : List ℕ). (front ++ e.outgoing.text) ++ l) (line_front reporting published.journal published.refused front e)
@@ -140,7 +140,7 @@ pub record LoopStands {P : Type 0} (lines line_end : LineState P) (rounds round_
   pub arbiter_left : rounds.progress.arbitration ≡ round_end.progress.arbitration
 
 module _ {P : Type 0} {reporting : Bool} (drops : Drops) (a b to : P) (turns limit sent : ℕ)
-    (published : PublishedLines) (server : ServerState) (lines : LineState P) (rounds : RepairState P) where
+    (published : PublishedInput) (server : ServerState) (lines : LineState P) (rounds : RepairState P) where
   -- a fault while the data datagrams or the end packet are passed
   pub run_cut : {E : Type 0} (result : Result ℕ E) {xs : List (Routes × List ℕ)} (lines_left : LineState P)
       (rounds_left : RepairState P) (old new : Option (List ℕ)) → HeardFront a b xs lines lines_left old new →
@@ -262,7 +262,7 @@ pub run_unrepaired : {P T E F : Type 0} {reporting : Bool} (drops : Drops) (a b 
     new lines_left now
 run_unrepaired {P} {T} {E} {F} {reporting} drops a b to turns limit sent journal server lines rounds asked result mid lines_left now
     old first new with_receipt two failed same =
-    let published : PublishedLines = record { journal = journal; refused = None } in
+    let published : PublishedInput = record { journal = journal; refused = None } in
     let service : Service = service_of (left_journal published) server in
     let rests = two.rests in
     let end : RepairState P =

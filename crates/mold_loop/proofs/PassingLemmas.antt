@@ -3,9 +3,9 @@ use Rattle.std.proofs.Common.{◌≡◌, ◌∙◌, ℕ, Bool, List, [], ◌∷�
 use Rattle.std.proofs.Common.{Option, None, Some, Result, Ok, Err, ap, refl, sym, subst, append_assoc}
 use Rattle.std.proofs.lemmas.List.{map-append}
 use Rattle.std.specs.Prelude.{IfSome}
-use Rattle.mold_devices.specs.Lines.{lines_of}
+use Rattle.mold_input.specs.Entries.{InputEntries}
 use Rattle.mold_ports.specs.Ports.{Port, offered}
-use Rattle.mold_publish.specs.Publishing.{PublishedLines, lines_published}
+use Rattle.mold_publish.specs.Publishing.{PublishedInput, input_published}
 use Rattle.mold_session.specs.Publisher.{PublisherState}
 use Rattle.mold_session.specs.Server.{ServerState}
 use Rattle.mold_loop.specs.Looping.{LineState, LoopRun, Outcome, LeftOut, Failed, Sent, Pass}
@@ -67,7 +67,7 @@ first_sends a b {front} {passes} all begins are = record {
       ∙ sends_more a b (map routed_by front) (map routed_by begins.rest);
 }
 
-module _ {P E : Type 0} {reporting : Bool} (drops : Drops) (a b to : P) (turns limit sent : ℕ) (published : PublishedLines)
+module _ {P E : Type 0} {reporting : Bool} (drops : Drops) (a b to : P) (turns limit sent : ℕ) (published : PublishedInput)
     (server : ServerState) (lines : LineState P) (rounds : RepairState P) (old new : Option (List ℕ))
     (lines_left : LineState P) (rounds_left : RepairState P) where
   run_sends : (result : Result ℕ E) →
@@ -92,13 +92,13 @@ module _ {P E : Type 0} {reporting : Bool} (drops : Drops) (a b to : P) (turns l
 
 -- the publisher's port after the loop's run determines which datagrams were sent
 pub loop_sends : {P E : Type 0} (reporting : Bool) (drops : Drops) (a b to : P) (turns : ℕ) (start : PublisherState) (server : ServerState)
-    (lines : LineState P) (rounds : RepairState P) (known : Option (List ℕ)) (result : Result ℕ E)
+    (lines : LineState P) (rounds : RepairState P) (known : Option InputEntries) (result : Result ℕ E)
     (old new : Option (List ℕ)) (lines_left : LineState P) (rounds_left : RepairState P) →
     IfSome known (λ input. LoopRun reporting drops a b to turns start.limit start.sent
-    (lines_published start.journal (lines_of input)) server lines rounds result old new lines_left rounds_left) →
+    (input_published start.journal input) server lines rounds result old new lines_left rounds_left) →
     IfSome known (λ input. LoopSends drops a b start.limit start.sent
-    (lines_published start.journal (lines_of input)) result lines.publisher lines_left.publisher)
+    (input_published start.journal input) result lines.publisher lines_left.publisher)
 loop_sends reporting drops a b to turns start server lines rounds None result old new lines_left rounds_left ran = tt
 loop_sends reporting drops a b to turns start server lines rounds (Some input) result old new lines_left rounds_left ran =
-    run_sends drops a b to turns start.limit start.sent (lines_published start.journal (lines_of input)) server lines rounds
+    run_sends drops a b to turns start.limit start.sent (input_published start.journal input) server lines rounds
     old new lines_left rounds_left result ran

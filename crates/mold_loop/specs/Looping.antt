@@ -4,10 +4,10 @@ use Rattle.std.specs.Prelude.{◌≡◌, ℕ, ◌+◌, Bool, true, false, List, 
 use Rattle.std.specs.Prelude.{Option, None, Some, Result, IfOk, IfSome, OnOk}
 use Rattle.std.specs.Io.KnownBytes.{Appends}
 use Rattle.mold_devices.specs.Devices.{AppendsPrefix}
-use Rattle.mold_devices.specs.Lines.{lines_of}
+use Rattle.mold_input.specs.Entries.{InputEntries}
 use Rattle.mold_ports.specs.Ports.{Port, offered, received}
-use Rattle.mold_publish.specs.Publishing.{PublishedLines, lines_published, refused_text}
-use Rattle.mold_publish.specs.declared.line_refusal.LineRefusal.{LineRefusal}
+use Rattle.mold_publish.specs.Publishing.{PublishedInput, input_published, refused_text}
+use Rattle.mold_publish.specs.declared.message_refusal.MessageRefusal.{MessageRefusal}
 use Rattle.mold_receiver.specs.Arbiter.{Arbitration}
 use Rattle.mold_receiver.specs.declared.line.Line.{Line}
 use Rattle.mold_receiver.specs.declared.line.Line.TheVariants.{A, B}
@@ -171,23 +171,23 @@ pub record PassRests {P T E : Type 0} (a b : P) (datagrams : List (Routes × Lis
   pub text : Begins written (run (passing a b) passes before).progress.outgoing.text
   pub offered : after.publisher ≡ (run (passing a b) passes before).publisher
 
--- The datagrams `front` are a prefix of the data datagrams for the lines of `input`. The publisher starts as `start`.
-abbrev pub BeginsData : PublisherState → List (List ℕ) → List ℕ → Type 0
+-- The datagrams `front` are a prefix of the data datagrams for `input`. The publisher starts as `start`.
+abbrev pub BeginsData : PublisherState → List (List ℕ) → InputEntries → Type 0
 BeginsData start front input =
-    Begins front (data_after start.limit start.sent (lines_published start.journal (lines_of input)))
+    Begins front (data_after start.limit start.sent (input_published start.journal input))
 
--- The datagrams `front` are all data datagrams for the lines of `input`. Publishing them leaves `journal`, and
--- `refused` is the reason why the next line is refused, if one is.
-abbrev pub IsData : PublisherState → List (List ℕ) → JournalState → Option LineRefusal → List ℕ → Type 0
+-- The datagrams `front` are all data datagrams for `input`. Publishing them leaves `journal`, and
+-- `refused` is the reason why the next entry is refused, if one is.
+abbrev pub IsData : PublisherState → List (List ℕ) → JournalState → Option MessageRefusal → InputEntries → Type 0
 IsData start front journal refused input =
-    (data_after start.limit start.sent (lines_published start.journal (lines_of input)) ≡ front)
-    × (lines_published start.journal (lines_of input) ≡ record { journal = journal; refused = refused })
+    (data_after start.limit start.sent (input_published start.journal input) ≡ front)
+    × (input_published start.journal input ≡ record { journal = journal; refused = refused })
 
--- The loop passed data datagrams for the lines of its input. On success it passed all of them. Its text was written up
--- to some point, and the rest is still to be printed. After a fault, the datagrams passed and the text written are
--- prefixes.
-pub record ReceivesLines {P E : Type 0} (drops : Drops) (a b : P) (start now : PublisherState) (known : Option (List ℕ))
-    (result : Result (Option LineRefusal) E) (before after : LineState P) (old new : Option (List ℕ)) : Type 0 where
+-- The loop passed data datagrams for its input. On success it passed all of them. Its text was written up to some
+-- point, and the rest is still to be printed. After a fault, the datagrams passed and the text written are prefixes.
+pub record ReceivesMessages {P E : Type 0} (drops : Drops) (a b : P) (start now : PublisherState)
+    (known : Option InputEntries) (result : Result (Option MessageRefusal) E) (before after : LineState P)
+    (old new : Option (List ℕ)) : Type 0 where
   -- The datagrams that were offered.
   pub front : List (List ℕ)
   -- The same datagrams with their outcomes.
@@ -207,23 +207,23 @@ abbrev pub with_progress : {P : Type 0} → Progress → RepairState P → Repai
 with_progress e s = record { server = s.server; requests = s.requests; answered = s.answered; progress = e }
 
 -- The state after the rounds. If a line is refused, no round is made.
-abbrev pub rounds_made : {P : Type 0} → Option LineRefusal → P → Service → List (Bool × List Bool) → RepairState P →
+abbrev pub rounds_made : {P : Type 0} → Option MessageRefusal → P → Service → List (Bool × List Bool) → RepairState P →
     RepairState P
 rounds_made None to service choices s = run (repairing to service) choices s
 rounds_made (Some why) to service choices s = s
 
 -- The last lines of a loop: those of a listener or, if a line is refused, the line that reports the refusal.
-abbrev pub loop_lines : Bool → JournalState → Option LineRefusal → Progress → List ℕ
+abbrev pub loop_lines : Bool → JournalState → Option MessageRefusal → Progress → List ℕ
 loop_lines reporting journal None e = last_lines reporting e
 loop_lines reporting journal (Some why) e = refused_text (length journal.messages + 1) why
 
 -- The status of a loop: that of a listener, or 2 if a line is refused.
-abbrev pub loop_status : Option LineRefusal → Progress → ℕ
+abbrev pub loop_status : Option MessageRefusal → Progress → ℕ
 loop_status None e = listener_status e
 loop_status (Some why) e = 2
 
 -- All text that a loop prints: the listener's text and the last lines.
-abbrev pub loop_text : Bool → PublishedLines → Progress → List ℕ
+abbrev pub loop_text : Bool → PublishedInput → Progress → List ℕ
 loop_text reporting published e = e.outgoing.text ++ loop_lines reporting published.journal published.refused e
 
 -- The ports, the arbiter and the count of failures are those of `line_end` and `round_end`. All text is written.
@@ -242,14 +242,14 @@ abbrev pub lines_after : {P : Type 0} → P → P → List Pass → LineState P 
 lines_after a b passes lines = run (passing a b) passes lines
 
 -- The state of the rounds after all rounds, if the listener's progress before them is `with_receipt`.
-abbrev pub rounds_after : {P : Type 0} → P → PublishedLines → ServerState → List (Bool × List Bool) → Progress →
+abbrev pub rounds_after : {P : Type 0} → P → PublishedInput → ServerState → List (Bool × List Bool) → Progress →
     RepairState P → RepairState P
 rounds_after to published server choices with_receipt rounds =
     rounds_made published.refused to (service_of (left_journal published) server) choices
     (with_progress with_receipt rounds)
 
 -- The state at the end of a loop: after the datagrams of `passes` and then after all rounds.
-abbrev pub loop_end : {P : Type 0} → P → P → P → PublishedLines → ServerState → List Pass → List (Bool × List Bool) →
+abbrev pub loop_end : {P : Type 0} → P → P → P → PublishedInput → ServerState → List Pass → List (Bool × List Bool) →
     LineState P → RepairState P → RepairState P
 loop_end a b to published server passes choices lines rounds =
     rounds_after to published server choices (lines_after a b passes lines).progress rounds
@@ -265,7 +265,7 @@ pub record IsPortAfter {P : Type 0} (a b : P) (passes : List Pass) (lines : Line
 -- fault, the text written and the requests and responses sent are prefixes of the run's. A prefix of the run's
 -- datagrams was offered to the publisher's port.
 pub record LoopRun {P E : Type 0} (reporting : Bool) (drops : Drops) (a b to : P) (turns limit sent : ℕ)
-    (published : PublishedLines) (server : ServerState) (lines : LineState P) (rounds : RepairState P)
+    (published : PublishedInput) (server : ServerState) (lines : LineState P) (rounds : RepairState P)
     (result : Result ℕ E) (old new : Option (List ℕ)) (lines_left : LineState P) (rounds_left : RepairState P) :
     Type 0 where
   -- The publisher's datagrams with their outcomes.

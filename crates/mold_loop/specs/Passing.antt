@@ -3,9 +3,9 @@ use Rattle.std.specs.Prelude.{◌≡◌, ℕ, ◌+◌, ◌%◌, ◌==◌, ◌||�
 use Rattle.std.specs.Prelude.{Option, None, Some, Result, OnOk}
 use Rattle.mold_ports.specs.Ports.{Port, offered}
 use Rattle.mold_send.specs.PublishLoop.{data_after}
-use Rattle.mold_publish.specs.Publishing.{PublishedLines}
+use Rattle.mold_publish.specs.Publishing.{PublishedInput}
 use Rattle.mold_publish.specs.Sending.{end_packet}
-use Rattle.mold_publish.specs.declared.line_refusal.LineRefusal.{LineRefusal}
+use Rattle.mold_publish.specs.declared.message_refusal.MessageRefusal.{MessageRefusal}
 use Rattle.mold_session.specs.Journal.{JournalState}
 use Rattle.mold_turns.specs.Runs.{Begins}
 use Rattle.mold_wire.specs.Packet.{spelling_of}
@@ -31,13 +31,13 @@ routed drops number [] = []
 routed drops number (datagram ∷ datagrams) = (routes_of drops number, datagram) ∷ routed drops (number + 1) datagrams
 
 -- The end packet of the journal's session, on both lines. If a line is refused, there is none.
-abbrev pub routed_end : JournalState → Option LineRefusal → List (Routes × List ℕ)
+abbrev pub routed_end : JournalState → Option MessageRefusal → List (Routes × List ℕ)
 routed_end journal None = (both_routes, spelling_of (end_packet journal)) ∷ []
 routed_end journal (Some why) = []
 
 -- All datagrams that the publisher passes, each with its lines: the data datagrams for the messages after the first
 -- `sent`, then the end packet. If a line is refused, neither the last data datagram nor the end packet is sent.
-abbrev pub all_routed : Drops → ℕ → ℕ → PublishedLines → List (Routes × List ℕ)
+abbrev pub all_routed : Drops → ℕ → ℕ → PublishedInput → List (Routes × List ℕ)
 all_routed drops limit sent published =
     routed drops 1 (data_after limit sent published) ++ routed_end published.journal published.refused
 
@@ -60,9 +60,9 @@ abbrev pub Offers : {P : Type 0} → List (P × List ℕ) → Port P → Port P 
 Offers [] old new = new ≡ old
 Offers (one ∷ others) old new = (fails : Bool) × Offers others (offered fails one.0 one.1 old) new
 
--- The sends of a loop's publisher: the datagrams of `front` were offered, and any send may have failed. On success
--- these are all datagrams that the lines determine, and after a fault a prefix of them.
-pub record LoopSends {P E : Type 0} (drops : Drops) (a b : P) (limit sent : ℕ) (published : PublishedLines)
+-- The sends of a loop's publisher. The datagrams of `front` are offered, and any send may fail. On success they are
+-- all datagrams that the lines determine. After a fault they are a prefix.
+pub record LoopSends {P E : Type 0} (drops : Drops) (a b : P) (limit sent : ℕ) (published : PublishedInput)
     (result : Result ℕ E) (before after : Port P) : Type 0 where
   pub front : List (P × List ℕ)
   pub offers : Offers front before after

@@ -3,12 +3,12 @@
 ghost use Rattle.std.specs.Prelude.{◌≡◌, ◌+◌, ◌≤◌, [], ◌∷◌, true, None, Some, Bool, List, length, IfErr, IfOk};
 ghost use Rattle.std.specs.Prelude.{IfSome, OnOk};
 ghost use Rattle.mold_devices.specs.Faults.{CountsCommand, CountsSink};
-ghost use Rattle.mold_devices.specs.Lines.{lines_of};
+ghost use Rattle.mold_input.specs.Entries.{known_input};
 ghost use Rattle.mold_listen.specs.Listening.{receive_responses};
 ghost use Rattle.std.specs.Io.KnownBytes.{Appends};
 ghost use Rattle.mold_loop.specs.LocalFeed.{HasBuffer, IsSame, OnlyPasses, OnlyRepairs, Passes, PassesAndWrites};
 ghost use Rattle.mold_loop.specs.LocalFeed.{asking_state, lines, rounds, unwritten};
-ghost use Rattle.mold_loop.specs.Looping.{ReceivesLines, LoopRun, after_routes};
+ghost use Rattle.mold_loop.specs.Looping.{ReceivesMessages, LoopRun, after_routes};
 ghost use Rattle.mold_loop.specs.Passing.{routed, routed_end};
 ghost use Rattle.mold_send.specs.PublishLoop.{left_journal, spelled_some};
 ghost use Rattle.mold_loop.specs.Repairing.{HasRepaired, answers_sent, repaired, repairing, requested, text_before};
@@ -16,16 +16,17 @@ ghost use Rattle.mold_turns.specs.Outgoing.{IsBounded};
 ghost use Rattle.mold_receiver.specs.Wanted.{wanted};
 ghost use Rattle.mold_turns.specs.Runs.{Begins, RestsOfTwo, TurnRestsOfTwo};
 ghost use Rattle.mold_serve.specs.Serving.{service_of};
-ghost use Rattle.mold_publish.specs.Publishing.{HasRoom, lines_published};
+ghost use Rattle.mold_publish.specs.Publishing.{HasRoom, input_published};
 ghost use Rattle.mold_session.specs.Publisher.{after_datagram, closed, next_datagram};
 
 use crate::loop_parts::{Listener, LoopOptions, LoopPorts, Routes};
 use crate::looping::{print_last, print_refused};
 use crate::passing::{routes_of, send_on};
 use crate::receiving::receive_once;
-use mold_devices::{CommandFault, Lines, Sink, Source};
+use mold_devices::{CommandFault, Sink, Source};
+use mold_input::{InputKind, MessageReader};
 use mold_ports::Datagrams;
-use mold_publish::{Filled, LineRefusal, fill};
+use mold_publish::{Filled, MessageRefusal, fill};
 use mold_receiver::{Line, Origin};
 use mold_send::publisher_holds;
 use mold_serve::{Responder, Tally};
@@ -132,20 +133,22 @@ impl<'a, 'p, D: Datagrams + Drop> LocalFeed<'a, 'p, D> {
         Ok(())
     }
 
-    // Publishes the lines of the source. Passes a datagram each time the publisher is full, and the rest after the
-    // last line. After each datagram, writes the text if it has at least 65,536 bytes or the sink is live. Returns why
-    // a line is refused, if one is. If reading fails or memory runs out, writes the text of the datagrams before that.
-    fn pass_lines<S: Source, K: Sink>(
+    // Publishes the messages of the source. Passes a datagram each time the publisher is full, and the rest after the
+    // last message. After each datagram, writes the text if it has at least 65,536 bytes or the sink is live. Returns
+    // the refusal if an entry is refused. The rest is then passed unless the input is of lines. If reading fails or
+    // memory runs out, writes the text of the datagrams before that.
+    fn pass_messages<M: MessageReader, S: Source, K: Sink>(
         &mut self,
         publisher: &mut Publisher,
         source: &mut S,
         sink: &mut K,
-    ) -> Result<Option<LineRefusal>, CommandFault>
+    ) -> Result<Option<MessageRefusal>, CommandFault>
         requires room { HasRoom publisher.old }
         requires buffer { HasBuffer self.old }
-        ensures received { D.modeled ≡ true → ReceivesLines self.old.options.now.drops
+        ensures received { D.modeled ≡ true → ReceivesMessages self.old.options.now.drops
             self.old.options.now.peers.a self.old.options.now.peers.b
-            publisher.old publisher.new (S.left source.old) result (lines D.port self.old) (lines D.port self.new)
+            publisher.old publisher.new (known_input M.input_kind M.entries (S.left source.old)) result
+            (lines D.port self.old) (lines D.port self.new)
             (K.held sink.old) (K.held sink.new) }
         ensures only { OnlyPasses D.modeled D.port self.old self.new }
         ensures all { IfOk result (λ refused. refused ≡ None →
@@ -159,17 +162,22 @@ impl<'a, 'p, D: Datagrams + Drop> LocalFeed<'a, 'p, D> {
     {
         front_law();
         packing_law();
-        let mut lines = Lines::new(self.alloc)?;
-        let mut message = Vec::new(self.alloc);
+        let mut messages = M::new(self.alloc)?;
         let mut number = 0;
         'passing: loop {
-            match fill(publisher, &mut lines, source, &mut message) {
+            match fill(publisher, &mut messages, source) {
                 Ok(Filled::Full) => self.write_next(publisher, &mut number, sink)?,
                 Ok(Filled::End) => {
                     self.write_next(publisher, &mut number, sink)?;
                     return Ok(None);
                 }
-                Ok(Filled::Refused { why }) => return Ok(Some(why)),
+                Ok(Filled::Refused { refusal }) => match refusal.kind {
+                    InputKind::Lines => return Ok(Some(refusal)),
+                    InputKind::Blocks => {
+                        self.write_next(publisher, &mut number, sink)?;
+                        return Ok(Some(refusal));
+                    }
+                },
                 Err(fault) => {
                     let met = CommandFault::from(fault);
                     let outgoing = &mut self.listener.printer.outgoing;
@@ -365,7 +373,7 @@ impl<'a, 'p, D: Datagrams + Drop> LocalFeed<'a, 'p, D> {
 
     /// Passes all datagrams, repairs what is missing then, and prints the last line. The reports of the lines precede
     /// the last line if the options ask for them. Returns the status.
-    pub(crate) fn run<S: Source, K: Sink>(
+    pub(crate) fn run<M: MessageReader, S: Source, K: Sink>(
         &mut self,
         publisher: &mut Publisher,
         server: &mut Server,
@@ -375,17 +383,18 @@ impl<'a, 'p, D: Datagrams + Drop> LocalFeed<'a, 'p, D> {
         requires buffer { HasBuffer self.old }
         requires room { HasRoom publisher.old }
         requires longest { publisher.old.journal.max_message ≤ server.old.max_message }
-        ensures run { D.modeled ≡ true → IfSome (S.left source.old) (λ input.
+        ensures run { D.modeled ≡ true → IfSome (known_input M.input_kind M.entries (S.left source.old)) (λ input.
             LoopRun self.old.options.now.reporting self.old.options.now.drops
             self.old.options.now.peers.a self.old.options.now.peers.b self.old.options.now.peers.server
             self.old.options.now.turns publisher.old.limit publisher.old.sent
-            (lines_published publisher.old.journal (lines_of input))
+            (input_published publisher.old.journal input)
             server.old (lines D.port self.old) (rounds D.port server.old self.old) result
             (K.held sink.old) (K.held sink.new) (lines D.port self.new) (rounds D.port server.new self.new)) }
         ensures a { D.modeled ≡ true → (D.port self.new.ports.now.a).sent ≡ (D.port self.old.ports.now.a).sent }
         ensures b { D.modeled ≡ true → (D.port self.new.ports.now.b).sent ≡ (D.port self.old.ports.now.b).sent }
-        ensures journal { D.modeled ≡ true → OnOk result (IfSome (S.left source.old) (λ input.
-            publisher.new.journal ≡ left_journal (lines_published publisher.old.journal (lines_of input)))) }
+        ensures journal { D.modeled ≡ true → OnOk result (IfSome (known_input M.input_kind M.entries
+            (S.left source.old)) (λ input.
+            publisher.new.journal ≡ left_journal (input_published publisher.old.journal input))) }
         ensures limit { OnOk result (publisher.new.limit ≡ publisher.old.limit) }
         ensures server { server.new ≡ record server.old { answered = server.new.answered } }
         ensures same { IsSame self.old self.new }
@@ -394,10 +403,10 @@ impl<'a, 'p, D: Datagrams + Drop> LocalFeed<'a, 'p, D> {
     {
         publisher_holds(publisher);
         let options = self.options;
-        let refused = self.pass_lines(publisher, source, sink)?;
-        if let Some(why) = refused {
+        let refused = self.pass_messages::<M, S, K>(publisher, source, sink)?;
+        if let Some(refusal) = refused {
             let number = publisher.journal().next();
-            return print_refused(&mut self.listener.printer.outgoing, number, why, sink);
+            return print_refused(&mut self.listener.printer.outgoing, number, refusal, sink);
         }
         self.write_end(publisher, sink)?;
         publisher_holds(publisher);

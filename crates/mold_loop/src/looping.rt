@@ -4,43 +4,45 @@ ghost use Rattle.std.specs.Prelude.{◌≡◌, ◌≤◌, ◌++◌, true, IfErr,
 ghost use Rattle.std.specs.Io.KnownBytes.{Appends};
 ghost use Rattle.mold_devices.specs.Devices.{AppendsPrefix};
 ghost use Rattle.mold_devices.specs.Faults.{CountsCommand, CountsSink};
-ghost use Rattle.mold_devices.specs.Lines.{lines_of};
+ghost use Rattle.mold_input.specs.Entries.{known_input};
 ghost use Rattle.mold_listen.specs.Listening.{progress, last_lines, listener_status};
 ghost use Rattle.mold_loop.specs.Looping.{LoopRun, lines_at};
 ghost use Rattle.mold_turns.specs.Outgoing.{IsBounded, written_out};
 ghost use Rattle.mold_loop.specs.Passing.{LoopSends};
 ghost use Rattle.mold_send.specs.PublishLoop.{left_journal};
 ghost use Rattle.mold_loop.specs.Repairing.{rounds_at};
-ghost use Rattle.mold_publish.specs.Publishing.{HasRoom, lines_published, refused_text};
+ghost use Rattle.mold_publish.specs.Publishing.{HasRoom, input_published, refused_text};
 
 use crate::local_feed::LocalFeed;
 use crate::loop_parts::{Listener, LoopOptions, LoopParts, LoopPorts};
 use mold_devices::{CommandFault, Sink, Source};
+use mold_input::MessageReader;
 use mold_listen::push_end;
 use mold_ports::Datagrams;
-use mold_publish::LineRefusal;
-use mold_send::print_line_refused;
+use mold_publish::MessageRefusal;
+use mold_send::print_message_refused;
 use mold_turns::Outgoing;
 use mold_wire::MAX_LIMIT;
 
-// Prints the text that is still unwritten, and then why the line of message `number` is refused. Returns the status. If
+// Prints the text that is still unwritten, and then why the entry `number` is refused. Returns the status. If
 // memory runs out, the text that is still unwritten is written.
 pub(crate) fn print_refused<K: Sink>(
     outgoing: &mut Outgoing,
     number: u64,
-    why: LineRefusal,
+    refusal: MessageRefusal,
     sink: &mut K,
 ) -> Result<u8, CommandFault>
     ensures whole { IfOk result (λ status.
-        Appends (K.held sink.old) (K.held sink.new) (outgoing.old.text ++ refused_text number why) × (status ≡ 2)) }
-    ensures front { AppendsPrefix (K.held sink.old) (K.held sink.new) (outgoing.old.text ++ refused_text number why) }
+        Appends (K.held sink.old) (K.held sink.new) (outgoing.old.text ++ refused_text number refusal) × (status ≡ 2)) }
+    ensures front { AppendsPrefix (K.held sink.old) (K.held sink.new)
+        (outgoing.old.text ++ refused_text number refusal) }
     ensures left { OnOk result (outgoing.new ≡ written_out outgoing.old) }
     ensures kept { IfErr result (λ fault. fault ≡ CommandFault.Memory →
         Appends (K.held sink.old) (K.held sink.new) outgoing.old.text) }
     ensures sink { CountsSink (K.failed sink.old) (K.failed sink.new) result }
 {
     outgoing.send(sink)?;
-    print_line_refused(outgoing, number, why)?;
+    print_message_refused(outgoing, number, refusal)?;
     outgoing.send(sink)?;
     Ok(2)
 }
@@ -76,27 +78,29 @@ pub(crate) fn print_last<K: Sink>(
     Ok(status)
 }
 
-/// Publishes the lines of the source as messages, listens to them in the same process, and returns the status.
+/// Publishes the messages of the source, and listens to them in the same process. Returns the status.
 ///
-/// - Each datagram is sent on both lines, except where `options.drops` leaves it out. The listener makes one receive on
-///   each line where the send succeeded.
-/// - After the last line the session is closed, and its end packet is sent on both lines. Then the listener requests
+/// - Each datagram is sent on both lines, except where `options.drops` leaves it out. The listener makes one receive
+///   on each line where the send succeeded.
+/// - After the last message the session is closed, and its end packet is sent on both lines. Then the listener requests
 ///   the missing messages, in at most `options.turns` rounds.
 /// - The text, the last line and the status are those of `mold listen`. If `options.reporting` is set, the reports of
 ///   both lines precede the last line.
-/// - A refused line ends the publication. The refusal follows the delivered messages, without reports or a last line,
-///   and the status is 2.
-/// - A failed send or receive is counted and does not end the loop.
+/// - A refused entry ends the publication. The delivered messages stay printed, and the refusal follows them. There are
+///   no reports and no last line, and the status is 2. Of an input of blocks, all messages before the entry are sent.
+///   Of an input of lines, the last datagram is not sent.
+/// - A failed send or receive is counted. It does not end the loop.
 ///
-/// The publisher may already have messages. The unsent ones must fit one datagram, and are sent before the messages of
-/// the lines or together with them. A refused line is reported with the sequence number that its message would have.
+/// The publisher may already have messages. Those that it has not sent yet must fit one datagram. They are sent before
+/// the messages of the source or together with them. A refused entry is reported with the sequence number that its
+/// message would have.
 ///
 /// The publisher's maximum message length must not exceed the server's, so that the server can respond to each request.
 ///
 /// After a fault, the text written and the datagrams sent are prefixes of those of a complete run. If reading fails or
 /// memory runs out, the text before that is written first. The ports of the lines send nothing. `Read` is returned only
 /// if the source failed, `Write` only if the sink failed.
-pub fn session_loop<D: Datagrams + Drop, S: Source, K: Sink>(
+pub fn session_loop<M: MessageReader, D: Datagrams + Drop, S: Source, K: Sink>(
     ports: &mut LoopPorts<D>,
     options: &LoopOptions<D::Peer>,
     parts: &mut LoopParts,
@@ -105,23 +109,24 @@ pub fn session_loop<D: Datagrams + Drop, S: Source, K: Sink>(
 ) -> Result<u8, CommandFault>
     requires room { HasRoom parts.old.publisher }
     requires longest { parts.old.publisher.journal.max_message ≤ parts.old.server.max_message }
-    ensures sends { D.modeled ≡ true → IfSome (S.left source.old) (λ input.
+    ensures sends { D.modeled ≡ true → IfSome (known_input M.input_kind M.entries (S.left source.old)) (λ input.
         LoopSends options.now.drops options.now.peers.a options.now.peers.b
         parts.old.publisher.limit parts.old.publisher.sent
-        (lines_published parts.old.publisher.journal (lines_of input)) result
+        (input_published parts.old.publisher.journal input) result
         (D.port ports.old.publisher) (D.port ports.new.publisher)) }
-    ensures run { D.modeled ≡ true → IfSome (S.left source.old) (λ input.
+    ensures run { D.modeled ≡ true → IfSome (known_input M.input_kind M.entries (S.left source.old)) (λ input.
         LoopRun options.now.reporting options.now.drops options.now.peers.a options.now.peers.b
         options.now.peers.server options.now.turns parts.old.publisher.limit parts.old.publisher.sent
-        (lines_published parts.old.publisher.journal (lines_of input)) parts.old.server
+        (input_published parts.old.publisher.journal input) parts.old.server
         (lines_at D.port ports.old parts.old.listener) (rounds_at D.port ports.old parts.old.server parts.old.listener)
         result (K.held sink.old) (K.held sink.new)
         (lines_at D.port ports.new parts.new.listener)
         (rounds_at D.port ports.new parts.new.server parts.new.listener)) }
     ensures a { D.modeled ≡ true → (D.port ports.new.a).sent ≡ (D.port ports.old.a).sent }
     ensures b { D.modeled ≡ true → (D.port ports.new.b).sent ≡ (D.port ports.old.b).sent }
-    ensures journal { D.modeled ≡ true → OnOk result (IfSome (S.left source.old) (λ input.
-        parts.new.publisher.journal ≡ left_journal (lines_published parts.old.publisher.journal (lines_of input)))) }
+    ensures journal { D.modeled ≡ true → OnOk result (IfSome (known_input M.input_kind M.entries
+        (S.left source.old)) (λ input.
+        parts.new.publisher.journal ≡ left_journal (input_published parts.old.publisher.journal input))) }
     ensures limit { OnOk result (parts.new.publisher.limit ≡ parts.old.publisher.limit) }
     ensures server { parts.new.server ≡ record parts.old.server { answered = parts.new.server.answered } }
     ensures failures { CountsCommand (S.failed source.old) (S.failed source.new) (K.failed sink.old) (K.failed sink.new)
@@ -142,5 +147,5 @@ pub fn session_loop<D: Datagrams + Drop, S: Source, K: Sink>(
         listener,
         alloc,
     };
-    feed.run(publisher, server, source, sink)
+    feed.run::<M, S, K>(publisher, server, source, sink)
 }

@@ -4,6 +4,7 @@ use crate::loop_parts::{LoopPeers, LoopPorts};
 use crate::looping::session_loop;
 use crate::ordered::{loop_options, make_parts};
 use mold_devices::{CommandFault, FromRead, IntoWrite};
+use mold_input::HexLines;
 use mold_ports::UdpPort;
 use mold_wiring::{ProgramFault, flushed, open_port};
 use mold_words::{Address, LoopOrder};
@@ -47,6 +48,12 @@ fn loop_on(
     let mut parts = make_parts(rt.alloc(), order)?;
     let mut source = FromRead::new(rt.stdin());
     let mut sink = IntoWrite::new(rt.stdout());
-    let outcome = session_loop(ports, &options, &mut parts, &mut source, &mut sink);
+    let outcome = session_loop::<HexLines, _, _, _>(
+        ports,
+        &options,
+        &mut parts,
+        &mut source,
+        &mut sink,
+    );
     flushed(outcome, sink.into_inner().flush())
 }

@@ -32,8 +32,8 @@ use Rattle.mold_feed.proofs.SentLemmas.{each_append, each_begun, each_front, eac
 use Rattle.mold_feed.proofs.OpeningLemmas.{OpeningLaws, begins_at, begins_honest, begins_in, left_by, left_messages}
 use Rattle.mold_feed.proofs.SessionLawLemmas.{none_sent, port_weaker}
 use Rattle.mold_ports.specs.Ports.{Port, offered}
-use Rattle.mold_publish.specs.Publishing.{PublishedLines, lines_published, refused_text}
-use Rattle.mold_publish.specs.declared.line_refusal.LineRefusal.{LineRefusal}
+use Rattle.mold_publish.specs.Publishing.{PublishedInput, lines_published, refused_text}
+use Rattle.mold_publish.specs.declared.message_refusal.MessageRefusal.{MessageRefusal}
 use Rattle.mold_receiver.specs.Store.{Message}
 use Rattle.mold_receiver.specs.View.{fresh}
 use Rattle.mold_receiver.specs.Wanted.{wanted}
@@ -55,7 +55,7 @@ pub record LoopLaws (P : Type 0) : Type 0 where
   pub offered : (beats ends limit : ℕ) (journal : JournalState) (lines : List (List ℕ)) → IsOpening journal limit →
       AllByRecursion (IsTrueDatagram (left_by journal lines))
       (all_datagrams limit beats ends (lines_published journal lines))
-  pub before : (limit : ℕ) (journal : JournalState) (lines : List (List ℕ)) (why : LineRefusal) →
+  pub before : (limit : ℕ) (journal : JournalState) (lines : List (List ℕ)) (why : MessageRefusal) →
       IsOpening journal limit → (lines_published journal lines).refused ≡ Some why →
       HasLinesBefore lines why (lines_published journal lines).journal
   pub progress : HearingLaws
@@ -76,12 +76,12 @@ data_routed Good drops number (datagram ∷ datagrams) each =
     (each.0, data_routed Good drops (number + 1) datagrams each.1)
 
 -- a loop sends no heartbeat, and one end packet
-end_routed : (Good : List ℕ → Type 0) (refused : Option LineRefusal) (journal : JournalState) →
+end_routed : (Good : List ℕ → Type 0) (refused : Option MessageRefusal) (journal : JournalState) →
     AllByRecursion Good (after_data 0 1 journal refused) → AllRouted Good (routed_end journal refused)
 end_routed Good None journal each = (each.0, tt)
 end_routed Good (Some why) journal each = tt
 
-published_routed : (Good : List ℕ → Type 0) (drops : Drops) (limit : ℕ) (published : PublishedLines) →
+published_routed : (Good : List ℕ → Type 0) (drops : Drops) (limit : ℕ) (published : PublishedInput) →
     AllByRecursion Good (all_datagrams limit 0 1 published) → AllRouted Good (all_routed drops limit 0 published)
 published_routed Good drops limit published each =
     let front : List (List ℕ) = data_after limit 0 published in
@@ -140,7 +140,7 @@ module _ {P : Type 0} (Good : List ℕ → Type 0) (to : P) (service : Service)
       (requested_sends (wanted s.progress.arbitration.view) choice s all)
 
 -- no round is made if a line is refused
-made_sends : {P : Type 0} (Good : List ℕ → Type 0) (to : P) (service : Service) (refused : Option LineRefusal)
+made_sends : {P : Type 0} (Good : List ℕ → Type 0) (to : P) (service : Service) (refused : Option MessageRefusal)
     (choices : List (Bool × List Bool)) (s : RepairState P) →
     (refused ≡ None → (fails : List Bool) (responder : ResponderState P) → AllSent Good responder.port.sent →
     AllSent Good (serve_turn service fails responder).port.sent) → AllSent Good s.server.sent →
@@ -271,7 +271,7 @@ module _ (journal : JournalState) (Plain : Type 0) (Good : List ℕ → Type 0) 
       one.received
       (rounds_received to service choices after one.received.sound one.gives)
 
-  made_received : {P : Type 0} (refused : Option LineRefusal) (to : P) (service : Service)
+  made_received : {P : Type 0} (refused : Option MessageRefusal) (to : P) (service : Service)
       (choices : List (Bool × List Bool)) (s : RepairState P) → IsSound journal s.progress → GivesOnly Good s.requests →
       HasHeard journal Plain Good s.progress (rounds_made refused to service choices s).progress
   made_received None to service choices s sound gives = rounds_received to service choices s sound gives
@@ -300,7 +300,7 @@ module _ {P : Type 0} (laws : LoopLaws P) (reporting : Bool) (drops : Drops) (a 
     (own : OwnPorts start start_left rounds rounds_left)
     (ran : LoopRun reporting drops a b to turns limit 0 (lines_published journal lines) server start rounds result old new
     start_left rounds_left) where
-  abbrev published : PublishedLines
+  abbrev published : PublishedInput
   published = lines_published journal lines
 
   abbrev left : JournalState
@@ -385,7 +385,7 @@ module _ {P : Type 0} (laws : LoopLaws P) (reporting : Bool) (drops : Drops) (a 
 
     -- if a line is refused
 
-    module _ (why : LineRefusal) (refused : published.refused ≡ Some why) where
+    module _ (why : MessageRefusal) (refused : published.refused ≡ Some why) where
       abbrev count : ℕ
       count = length published.journal.messages
 
@@ -409,11 +409,11 @@ module _ {P : Type 0} (laws : LoopLaws P) (reporting : Bool) (drops : Drops) (a 
           ≡ lines_text first (between lines first end.arbitration.view.next) ++ refused_text (count + 1) why
       all_is =
           ap (λ (text : List ℕ). text ++ loop_lines reporting published.journal published.refused end) refused_is
-          ∙ ap (λ (r : Option LineRefusal).
+          ∙ ap (λ (r : Option MessageRefusal).
           lines_text first (between lines first end.arbitration.view.next) ++ loop_lines reporting published.journal r end) refused
 
       two_is : loop_status published.refused end ≡ 2
-      two_is = ap (λ (r : Option LineRefusal). loop_status r end) refused
+      two_is = ap (λ (r : Option MessageRefusal). loop_status r end) refused
 
       pub loop_prints_refused : PrintsRefused lines (count + 1) why first result old new
       loop_prints_refused = record {
@@ -436,10 +436,10 @@ module _ {P : Type 0} (laws : LoopLaws P) (reporting : Bool) (drops : Drops) (a 
 
       -- the last lines and the status are those of a listener
       line_is : loop_lines reporting published.journal published.refused end ≡ last_lines reporting end
-      line_is = ap (λ (refused : Option LineRefusal). loop_lines reporting published.journal refused end) unrefused
+      line_is = ap (λ (refused : Option MessageRefusal). loop_lines reporting published.journal refused end) unrefused
 
       status_is : loop_status published.refused end ≡ listener_status end
-      status_is = ap (λ (refused : Option LineRefusal). loop_status refused end) unrefused
+      status_is = ap (λ (refused : Option MessageRefusal). loop_status refused end) unrefused
 
       abbrev ending : ListenerState P
       ending = record { a = start.a; b = start.b; requests = rounds.requests; progress = end }

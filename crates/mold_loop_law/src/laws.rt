@@ -10,7 +10,7 @@ ghost use Rattle.mold_loop.specs.Repairing.{RepairState};
 ghost use Rattle.mold_loop.specs.declared.loop_parts.Drops.{Drops};
 ghost use Rattle.mold_loop_law.specs.Own.{OwnPorts};
 ghost use Rattle.mold_publish.specs.Publishing.{lines_published};
-ghost use Rattle.mold_publish.specs.declared.line_refusal.LineRefusal.{LineRefusal};
+ghost use Rattle.mold_publish.specs.declared.message_refusal.MessageRefusal.{MessageRefusal};
 ghost use Rattle.mold_receiver.specs.View.{fresh};
 ghost use Rattle.mold_session.specs.Journal.{JournalState};
 ghost use Rattle.mold_session.specs.Server.{IsServer, ServerState};
@@ -44,7 +44,7 @@ pub fn loop_law<D: Datagrams>()
         LoopRun reporting drops a b to turns limit 0 (lines_published journal lines) server start rounds result old new
         start_left rounds_left → PrintsLines reporting lines first result old new }
     ensures refused { (reporting : Bool) (drops : Drops) (a b to : D.Peer) (turns limit first window : ℕ)
-        (journal : JournalState) (lines : List (List ℕ)) (why : LineRefusal) (server : ServerState)
+        (journal : JournalState) (lines : List (List ℕ)) (why : MessageRefusal) (server : ServerState)
         (start start_left : LineState D.Peer) (rounds rounds_left : RepairState D.Peer)
         (result : Result ℕ CommandFault) (old new : Option (List ℕ)) →
         IsOpening journal limit → (lines_published journal lines).refused ≡ Some why →

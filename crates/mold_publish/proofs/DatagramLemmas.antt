@@ -1,11 +1,10 @@
--- The datagrams that a publisher sends of the messages that lines were published as.
+-- The datagrams that a publisher sends of the messages of an input.
 use Rattle.std.proofs.Common.{arith, ◌≡◌, ◌∙◌, ℕ, ◌+◌, ◌-◌, ◌<◌, ◌≤◌, List, [], ◌∷◌, ◌++◌}
-use Rattle.std.proofs.Common.{length, length-append, drop, Option, None, Some, Result, Ok, Err, ap, refl, sym, subst}
+use Rattle.std.proofs.Common.{length, length-append, drop, map, Option, None, Some, Result, Ok, Err, ap, refl, sym, subst}
 use Rattle.std.proofs.Common.{append_assoc, inl, inr}
 use Rattle.std.proofs.lemmas.Bool.{eq-eqb, ne_eqb, cases_eq}
 use Rattle.std.proofs.lemmas.List.{append-nil, drop-append-le, drop-drop, drop_all, length-drop}
 use Rattle.std.proofs.Math.Seq.{drop-append_seam}
-use Rattle.hex.specs.Hex.{decode_of}
 use Rattle.mold_wire.specs.declared.session.Session.{Session}
 use Rattle.mold_wire.specs.declared.packet.Packet.{Packet}
 use Rattle.mold_wire.specs.Packing.{packet_length, Fits, IsFront, front}
@@ -13,9 +12,14 @@ use Rattle.mold_session.specs.Datagrams.{data_packet, packing}
 use Rattle.mold_session.specs.Journal.{JournalState, appended}
 use Rattle.mold_session.specs.Publisher.{PublisherState, unsent_of, next_front, next_datagram, after_datagram}
 use Rattle.mold_publish.specs.Sending.{packets_after}
-use Rattle.mold_publish.specs.Publishing.{PublishedLines, published_from, lines_published, line_outcome}
+use Rattle.mold_input.specs.Entries.{Entry, InputEntries, line_entry}
+use Rattle.mold_input.specs.declared.input_kind.InputKind.{InputKind}
+use Rattle.mold_input.specs.declared.input_kind.InputKind.TheVariants.{Lines}
+use Rattle.mold_publish.specs.Publishing.{PublishedInput, published_from, entries_published, entry_outcome}
+use Rattle.mold_publish.specs.Publishing.{input_published, lines_published}
 use Rattle.mold_publish.specs.Publishing.{HasRoom, IsJustFull}
-use Rattle.mold_publish.specs.declared.line_refusal.LineRefusal.{LineRefusal}
+use Rattle.mold_publish.proofs.PublishingLemmas.{lines_same}
+use Rattle.mold_publish.specs.declared.message_refusal.MessageRefusal.{MessageRefusal}
 
 -- the laws of `mold_wire` and `mold_session` about prefixes and about the packing of messages
 pub record PackingLaws : Type 0 where
@@ -78,7 +82,7 @@ some_packed laws limit session sequence message messages alone =
           some is.parts),
     )
 
--- ---- what further lines add
+-- ---- what further entries add
 
 -- messages were appended to those of a journal
 pub record Grown (old new : JournalState) : Type 0 where
@@ -93,7 +97,7 @@ grown_by journal new message grown = record {
   session = grown.session;
 }
 
-grown_from : (journal : JournalState) (outcome : Result (List ℕ) LineRefusal) (behind : JournalState → PublishedLines) →
+grown_from : (journal : JournalState) (outcome : Result (List ℕ) MessageRefusal) (behind : JournalState → PublishedInput) →
     ((next : JournalState) → Grown next (behind next).journal) →
     Grown journal (published_from journal outcome behind).journal
 grown_from journal (Ok message) behind each =
@@ -101,11 +105,21 @@ grown_from journal (Ok message) behind each =
 grown_from journal (Err why) behind each =
     record { more = []; messages = sym (append-nil journal.messages); session = refl }
 
-pub grown : (lines : List (List ℕ)) (journal : JournalState) → Grown journal (lines_published journal lines).journal
-unfolding lines_published
-grown [] journal = record { more = []; messages = sym (append-nil journal.messages); session = refl }
-grown (line ∷ lines) journal =
-    grown_from journal (line_outcome journal (decode_of line)) (λ next. lines_published next lines) (grown lines)
+grown_entries : (kind : InputKind) (entries : List Entry) (journal : JournalState) →
+    Grown journal (entries_published kind journal entries).journal
+unfolding entries_published
+grown_entries kind [] journal = record { more = []; messages = sym (append-nil journal.messages); session = refl }
+grown_entries kind (entry ∷ entries) journal =
+    grown_from journal (entry_outcome kind journal entry) (λ next. entries_published kind next entries)
+    (grown_entries kind entries)
+
+pub grown : (input : InputEntries) (journal : JournalState) → Grown journal (input_published journal input).journal
+grown input journal = grown_entries input.kind input.entries journal
+
+pub grown_lines : (lines : List (List ℕ)) (journal : JournalState) → Grown journal (lines_published journal lines).journal
+grown_lines lines journal =
+    subst (λ (after : PublishedInput). Grown journal after.journal) (lines_same journal lines)
+    (grown_entries Lines (map line_entry lines) journal)
 
 -- ---- the datagram of a publisher that is just full
 

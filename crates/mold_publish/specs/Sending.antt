@@ -1,5 +1,7 @@
--- The packets that a publisher puts the messages of its lines in.
+-- The packets that a publisher puts the messages of its input in.
 use Rattle.std.specs.Prelude.{ℕ, ◌+◌, List, [], ◌∷◌, length, drop}
+use Rattle.mold_input.specs.declared.input_kind.InputKind.{InputKind}
+use Rattle.mold_input.specs.declared.input_kind.InputKind.TheVariants.{Lines, Blocks}
 use Rattle.mold_wire.specs.declared.packet.Packet.{Packet}
 use Rattle.mold_wire.specs.declared.packet.Body.TheVariants.{End}
 use Rattle.mold_session.specs.Datagrams.{packing}
@@ -18,3 +20,9 @@ end_packet journal = record { session = journal.session; sequence = length journ
 -- The data packets of the journal's messages after the first `sent` messages.
 abbrev pub packets_after : ℕ → ℕ → JournalState → List Packet
 packets_after limit sent journal = packing limit journal.session (sent + 1) (drop sent journal.messages)
+
+-- The packets that are sent of those of all messages before an entry that is refused. An input of lines leaves the last
+-- packet out.
+abbrev pub packets_before : InputKind → List Packet → List Packet
+packets_before Lines packets = all_but_last packets
+packets_before Blocks packets = packets

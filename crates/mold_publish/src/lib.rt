@@ -1,8 +1,11 @@
-//! Lines of hexadecimal digits that a publisher publishes as messages. No port is needed.
+//! Publishing the messages of an input. No port is needed.
 #![tactic(auto)]
 
 mod filling;
-mod line_refusal;
+pub mod laws;
+mod message_refusal;
+mod refusal_reason;
 
 pub use filling::{Filled, fill};
-pub use line_refusal::{LineRefusal, push_line_refused};
+pub use message_refusal::{MessageRefusal, push_message_refused};
+pub use refusal_reason::RefusalReason;

@@ -8,8 +8,8 @@ use Rattle.std.proofs.KnownBytes.{Appends-nil}
 use Rattle.mold_devices.specs.Devices.{AppendsPrefix}
 use Rattle.mold_devices.specs.declared.fault.CommandFault.{CommandFault}
 use Rattle.mold_session.specs.File.{AppendsFile}
-use Rattle.hex.specs.Hex.{decode_of}
-use Rattle.mold_devices.specs.Lines.{lines_of}
+use Rattle.mold_input.specs.Entries.{Entry, InputEntries}
+use Rattle.mold_input.specs.declared.input_kind.InputKind.{InputKind}
 use Rattle.mold_ports.specs.Ports.{Port}
 use Rattle.mold_wire.specs.Packing.{Fits}
 use Rattle.mold_session.specs.Journal.{JournalState, appended}
@@ -18,54 +18,60 @@ use Rattle.mold_turns.specs.Runs.{Begins}
 use Rattle.mold_turns.proofs.RunLemmas.{begins_more, begins_trans, begins_whole, none_answered, none_ok, on_ok}
 use Rattle.mold_send.proofs.SendingLemmas.{AllSent, ended, sends_more}
 use Rattle.mold_publish.specs.Publishing.{packed_status}
-use Rattle.mold_send.specs.PublishLoop.{PublicationState, PublishRun, Saves, Sends, SendsLines, all_datagrams, after_data, both, close_datagrams}
+use Rattle.mold_send.specs.PublishLoop.{PublicationState, PublishRun, Saves, Sends, SendsMessages, all_datagrams, after_data, both, close_datagrams}
 use Rattle.mold_turns.specs.Outgoing.{OutgoingState, nothing_out, with_more}
 use Rattle.mold_send.specs.PublishLoop.{data_after, failed_after, published_line, offer, publication_of, published_text}
 use Rattle.mold_send.specs.PublishLoop.{closed_unless, left_journal, saved_bytes}
-use Rattle.mold_publish.specs.Publishing.{PublishedLines, lines_published, published_from, line_outcome, refused_text, HasRoom}
-use Rattle.mold_publish.specs.declared.line_refusal.LineRefusal.{LineRefusal}
+use Rattle.mold_publish.specs.Publishing.{PublishedInput, published_from, entry_outcome, refused_text, HasRoom}
+use Rattle.mold_publish.specs.Publishing.{entries_published, input_published}
+use Rattle.mold_publish.specs.declared.message_refusal.MessageRefusal.{MessageRefusal}
 
-closed_from : (journal : JournalState) (outcome : Result (List ℕ) LineRefusal) (behind : JournalState → PublishedLines) →
+closed_from : (journal : JournalState) (outcome : Result (List ℕ) MessageRefusal) (behind : JournalState → PublishedInput) →
     ((next : JournalState) → (behind next).journal.closed ≡ next.closed) →
     (published_from journal outcome behind).journal.closed ≡ journal.closed
 closed_from journal (Ok message) behind each = each (appended journal message)
 closed_from journal (Err why) behind each = refl
 
--- publishing a line does not close the session
-still_open : (lines : List (List ℕ)) (journal : JournalState) →
-    (lines_published journal lines).journal.closed ≡ journal.closed
-unfolding lines_published
-still_open [] journal = refl
-still_open (line ∷ lines) journal =
-    closed_from journal (line_outcome journal (decode_of line)) (λ next. lines_published next lines) (still_open lines)
+-- publishing does not close the session
+open_after : (kind : InputKind) (entries : List Entry) (journal : JournalState) →
+    (entries_published kind journal entries).journal.closed ≡ journal.closed
+unfolding entries_published
+open_after kind [] journal = refl
+open_after kind (entry ∷ entries) journal =
+    closed_from journal (entry_outcome kind journal entry) (λ next. entries_published kind next entries)
+    (open_after kind entries)
 
--- if the lines are known and published, a run is what has to be proved
-pub run_from : {P : Type 0} (a b : P) (beats ends : ℕ) (start : PublisherState) (known : Option (List ℕ))
-    (journal : JournalState) (refused : Option LineRefusal) (front : List (List ℕ)) (result : Result ℕ CommandFault)
+still_open : (input : InputEntries) (journal : JournalState) →
+    (input_published journal input).journal.closed ≡ journal.closed
+still_open input journal = open_after input.kind input.entries journal
+
+-- if the input is known and published, a run is what has to be proved
+pub run_from : {P : Type 0} (a b : P) (beats ends : ℕ) (start : PublisherState) (known : Option InputEntries)
+    (journal : JournalState) (refused : Option MessageRefusal) (front : List (List ℕ)) (result : Result ℕ CommandFault)
     (before after : Port P) (text_old text_new file_old file_new : Option (List ℕ)) → start.sent ≡ 0 →
     start.journal.closed ≡ false → IfSome known (AllSent start journal refused front) →
     (data_after start.limit 0 (record { journal = journal; refused = refused }) ≡ front → journal.closed ≡ false →
     PublishRun a b beats ends start.limit (record { journal = journal; refused = refused }) result before after text_old
     text_new file_old file_new) →
-    IfSome known (λ input. PublishRun a b beats ends start.limit (lines_published start.journal (lines_of input)) result
+    IfSome known (λ input. PublishRun a b beats ends start.limit (input_published start.journal input) result
     before after text_old text_new file_old file_new)
 run_from a b beats ends start None journal refused front result before after text_old text_new file_old file_new none unclosed all run = tt
 run_from {P} a b beats ends start (Some input) journal refused front result before after text_old text_new file_old file_new none unclosed all run =
     subst
-    (λ (p : PublishedLines).
+    (λ (p : PublishedInput).
     PublishRun a b beats ends start.limit p result before after text_old text_new file_old file_new)
     (sym all.1)
     (run
-    (ap (λ (p : PublishedLines). data_after start.limit 0 p) (sym all.1)
-    ∙ ap (λ (n : ℕ). data_after start.limit n (lines_published start.journal (lines_of input))) (sym none)
+    (ap (λ (p : PublishedInput). data_after start.limit 0 p) (sym all.1)
+    ∙ ap (λ (n : ℕ). data_after start.limit n (input_published start.journal input)) (sym none)
     ∙ all.0)
-    (ap (λ (p : PublishedLines). p.journal.closed) (sym all.1) ∙ still_open (lines_of input) start.journal ∙ unclosed))
+    (ap (λ (p : PublishedInput). p.journal.closed) (sym all.1) ∙ still_open input start.journal ∙ unclosed))
 
 pub no_front : (known : Option (List ℕ)) (text : List ℕ) → AppendsPrefix known known text
 no_front known text = record { front = []; rest = text; parts = refl; appended = Appends-nil known }
 
 -- after a fault
-pub run_cut : {P : Type 0} (a b : P) (beats ends limit : ℕ) (published : PublishedLines) (result : Result ℕ CommandFault)
+pub run_cut : {P : Type 0} (a b : P) (beats ends limit : ℕ) (published : PublishedInput) (result : Result ℕ CommandFault)
     (before : Port P) (mid : PublicationState P) (text_old text_new file_old file_new : Option (List ℕ))
     (front : List (List ℕ)) → IsErr result → Sends (both a b front) (publication_of before nothing_out) mid →
     Begins front (all_datagrams limit beats ends published) →
@@ -88,15 +94,15 @@ run_cut {P} a b beats ends limit published result before mid text_old text_new f
     }
 
 -- a fault while lines were read
-pub run_unread : {P E : Type 0} (a b : P) (beats ends : ℕ) (start now : PublisherState) (known : Option (List ℕ))
-    (report : Result (Option LineRefusal) E) (result : Result ℕ CommandFault) (before : Port P) (none failed : OutgoingState)
+pub run_unread : {P E : Type 0} (a b : P) (beats ends : ℕ) (start now : PublisherState) (known : Option InputEntries)
+    (report : Result (Option MessageRefusal) E) (result : Result ℕ CommandFault) (before : Port P) (none failed : OutgoingState)
     (count : ℕ) (after : Port P) (text file : Option (List ℕ)) → none ≡ nothing_out → start.sent ≡ 0 → IsErr result →
-    SendsLines a b start now known report (publication_of before none) (publication_of after failed) count →
-    IfSome known (λ input. PublishRun a b beats ends start.limit (lines_published start.journal (lines_of input)) result
+    SendsMessages a b start now known report (publication_of before none) (publication_of after failed) count →
+    IfSome known (λ input. PublishRun a b beats ends start.limit (input_published start.journal input) result
     before after text text file file)
 run_unread a b beats ends start now None report result before none failed count after text file zeroed unsent bad sent = tt
 run_unread {P} {E} a b beats ends start now (Some input) report result before none failed count after text file zeroed unsent bad sent =
-    let published = lines_published start.journal (lines_of input) in
+    let published = input_published start.journal input in
     let begins =
     subst (λ (n : ℕ). Begins sent.front (data_after start.limit n published)) unsent sent.begins in
     run_cut a b beats ends start.limit published result before (publication_of after failed) text text file file sent.front bad
@@ -107,7 +113,7 @@ run_unread {P} {E} a b beats ends start now (Some input) report result before no
     (no_front file (saved_bytes published.journal published.refused))
 
 -- all datagrams were offered
-pub run_whole : {P : Type 0} (a b : P) (beats ends limit : ℕ) (published : PublishedLines)
+pub run_whole : {P : Type 0} (a b : P) (beats ends limit : ℕ) (published : PublishedInput)
     (result : Result ℕ CommandFault) (before : Port P) (end : PublicationState P)
     (text_old text_new file_old file_new : Option (List ℕ)) →
     Sends (both a b (all_datagrams limit beats ends published)) (publication_of before nothing_out) end →
@@ -144,7 +150,7 @@ all_sends {P} a b beats ends limit journal front before none mid end zeroed whol
     (sym whole_data)
     (sends_more a b front (close_datagrams beats ends journal) (publication_of before none) mid end sends closes))
 
-pub refused_sends : {P : Type 0} (a b : P) (beats ends limit : ℕ) (journal : JournalState) (why : LineRefusal)
+pub refused_sends : {P : Type 0} (a b : P) (beats ends limit : ℕ) (journal : JournalState) (why : MessageRefusal)
     (front : List (List ℕ)) (before : Port P) (none : OutgoingState) (end : PublicationState P) → none ≡ nothing_out →
     data_after limit 0 (record { journal = journal; refused = Some why }) ≡ front →
     Sends (both a b front) (publication_of before none) end →
@@ -181,15 +187,15 @@ no_text a b front before after none failed zeroed sends =
     ∙ ap (λ (o : OutgoingState). o.text) zeroed
 
 -- a line is refused, and the refusal is printed
-pub run_refused : {P E : Type 0} (a b : P) (beats ends : ℕ) (start now : PublisherState) (known : Option (List ℕ))
-    (why : LineRefusal) (result : Result ℕ CommandFault) (before : Port P) (none failed out : OutgoingState)
+pub run_refused : {P E : Type 0} (a b : P) (beats ends : ℕ) (start now : PublisherState) (known : Option InputEntries)
+    (why : MessageRefusal) (result : Result ℕ CommandFault) (before : Port P) (none failed out : OutgoingState)
     (count : ℕ) (after : Port P) (text_old text_new file : Option (List ℕ)) (number : ℕ) →
     none ≡ nothing_out → start.sent ≡ 0 → start.journal.closed ≡ false →
-    SendsLines {E = E} a b start now known (Ok (Some why)) (publication_of before none) (publication_of after failed) count →
+    SendsMessages {E = E} a b start now known (Ok (Some why)) (publication_of before none) (publication_of after failed) count →
     number ≡ length now.journal.messages + 1 → out ≡ with_more (refused_text number why) failed →
     AppendsPrefix text_old text_new out.text →
     IfOk result (λ status. Appends text_old text_new out.text × (status ≡ 2)) →
-    IfSome known (λ input. PublishRun a b beats ends start.limit (lines_published start.journal (lines_of input)) result
+    IfSome known (λ input. PublishRun a b beats ends start.limit (input_published start.journal input) result
     before after text_old text_new file file)
 run_refused {P} {E} a b beats ends start now known why result before none failed out count after text_old text_new file
     number zeroed unsent unclosed sent numbered is text report =
@@ -211,11 +217,11 @@ run_refused {P} {E} a b beats ends start now known why result before none failed
     (no_front file []))
 
 -- The session was closed, and its journal is saved. What is printed is known because there was no text before it.
-run_closed : {P E : Type 0} (a b : P) (beats ends : ℕ) (start now : PublisherState) (known : Option (List ℕ))
+run_closed : {P E : Type 0} (a b : P) (beats ends : ℕ) (start now : PublisherState) (known : Option InputEntries)
     (result : Result ℕ CommandFault) (before : Port P) (none failed lost : OutgoingState) (count : ℕ)
     (mid after : Port P) (text_old text_new file_old file_new : Option (List ℕ)) (saved : JournalState) →
     none ≡ nothing_out → start.sent ≡ 0 → start.journal.closed ≡ false →
-    SendsLines {E = E} a b start now known (Ok None) (publication_of before none) (publication_of mid failed) count →
+    SendsMessages {E = E} a b start now known (Ok None) (publication_of before none) (publication_of mid failed) count →
     (now.journal.closed ≡ false →
     Sends (both a b (close_datagrams beats ends now.journal)) (publication_of mid failed) (publication_of after lost)) →
     (lost.text ≡ [] → IfOk result (λ status.
@@ -225,7 +231,7 @@ run_closed : {P E : Type 0} (a b : P) (beats ends : ℕ) (start now : PublisherS
     saved ≡ closed_unless None now.journal →
     OnOk result (AppendsFile file_old file_new saved.session saved.messages saved.closed) →
     (saved.closed ≡ true → AppendsPrefix file_old file_new (saved_bytes saved None)) →
-    IfSome known (λ input. PublishRun a b beats ends start.limit (lines_published start.journal (lines_of input)) result
+    IfSome known (λ input. PublishRun a b beats ends start.limit (input_published start.journal input) result
     before after text_old text_new file_old file_new)
 run_closed {P} {E} a b beats ends start now known result before none failed lost count mid after text_old text_new
     file_old file_new saved zeroed unsent unclosed sent closes report text is file front =
@@ -252,16 +258,16 @@ run_closed {P} {E} a b beats ends start now known result before none failed lost
     (front (ap (λ (j : JournalState). j.closed) is))))
 
 -- a fault before anything was printed
-pub run_unsaved : {P E : Type 0} (a b : P) (beats ends : ℕ) (start now : PublisherState) (known : Option (List ℕ))
+pub run_unsaved : {P E : Type 0} (a b : P) (beats ends : ℕ) (start now : PublisherState) (known : Option InputEntries)
     (result : Result ℕ CommandFault) (before : Port P) (none failed lost : OutgoingState) (count : ℕ)
     (mid after : Port P) (text file_old file_new : Option (List ℕ)) (saved : JournalState) →
     none ≡ nothing_out → start.sent ≡ 0 → start.journal.closed ≡ false →
-    SendsLines {E = E} a b start now known (Ok None) (publication_of before none) (publication_of mid failed) count →
+    SendsMessages {E = E} a b start now known (Ok None) (publication_of before none) (publication_of mid failed) count →
     (now.journal.closed ≡ false →
     Sends (both a b (close_datagrams beats ends now.journal)) (publication_of mid failed) (publication_of after lost)) →
     saved ≡ closed_unless None now.journal → IsErr result →
     (saved.closed ≡ true → AppendsPrefix file_old file_new (saved_bytes saved None)) →
-    IfSome known (λ input. PublishRun a b beats ends start.limit (lines_published start.journal (lines_of input)) result
+    IfSome known (λ input. PublishRun a b beats ends start.limit (input_published start.journal input) result
     before after text text file_old file_new)
 run_unsaved {P} {E} a b beats ends start now known result before none failed lost count mid after text file_old file_new
     saved zeroed unsent unclosed sent closes is bad front =
@@ -274,11 +280,11 @@ run_unsaved {P} {E} a b beats ends start now known result before none failed los
     front
 
 -- the last line was still to be printed
-pub run_printed : {P E : Type 0} (a b : P) (beats ends : ℕ) (start now : PublisherState) (known : Option (List ℕ))
+pub run_printed : {P E : Type 0} (a b : P) (beats ends : ℕ) (start now : PublisherState) (known : Option InputEntries)
     (result : Result ℕ CommandFault) (before : Port P) (none failed lost out : OutgoingState) (count many : ℕ)
     (mid after : Port P) (text_old text_new file_old file_new : Option (List ℕ)) (saved : JournalState) →
     none ≡ nothing_out → start.sent ≡ 0 → start.journal.closed ≡ false →
-    SendsLines {E = E} a b start now known (Ok None) (publication_of before none) (publication_of mid failed) count →
+    SendsMessages {E = E} a b start now known (Ok None) (publication_of before none) (publication_of mid failed) count →
     (now.journal.closed ≡ false →
     Sends (both a b (close_datagrams beats ends now.journal)) (publication_of mid failed) (publication_of after lost)) →
     saved ≡ closed_unless None now.journal → many ≡ length now.journal.messages →
@@ -287,7 +293,7 @@ pub run_printed : {P E : Type 0} (a b : P) (beats ends : ℕ) (start now : Publi
     AppendsPrefix text_old text_new out.text →
     OnOk result (AppendsFile file_old file_new saved.session saved.messages saved.closed) →
     (saved.closed ≡ true → AppendsPrefix file_old file_new (saved_bytes saved None)) →
-    IfSome known (λ input. PublishRun a b beats ends start.limit (lines_published start.journal (lines_of input)) result
+    IfSome known (λ input. PublishRun a b beats ends start.limit (input_published start.journal input) result
     before after text_old text_new file_old file_new)
 run_printed {P} {E} a b beats ends start now known result before none failed lost out count many mid after text_old
     text_new file_old file_new saved zeroed unsent unclosed sent closes is all printed report text file front =
@@ -305,13 +311,13 @@ run_printed {P} {E} a b beats ends start now known result before none failed los
     front
 
 -- the journal that is left
-pub left_behind : {P E : Type 0} (a b : P) (start now : PublisherState) (known : Option (List ℕ))
-    (refused : Option LineRefusal) (old new : PublicationState P) (count : ℕ) (journal : JournalState) →
-    SendsLines {E = E} a b start now known (Ok refused) old new count → journal ≡ closed_unless refused now.journal →
-    IfSome known (λ input. journal ≡ left_journal (lines_published start.journal (lines_of input)))
+pub left_behind : {P E : Type 0} (a b : P) (start now : PublisherState) (known : Option InputEntries)
+    (refused : Option MessageRefusal) (old new : PublicationState P) (count : ℕ) (journal : JournalState) →
+    SendsMessages {E = E} a b start now known (Ok refused) old new count → journal ≡ closed_unless refused now.journal →
+    IfSome known (λ input. journal ≡ left_journal (input_published start.journal input))
 left_behind a b start now None refused old new count journal sent is = tt
 left_behind a b start now (Some input) refused old new count journal sent is =
-    is ∙ sym (ap (λ (p : PublishedLines). left_journal p) sent.whole.1)
+    is ∙ sym (ap (λ (p : PublishedInput). left_journal p) sent.whole.1)
 
 -- an empty publisher
 pub none_sent : (p : PublisherState) → p.sent ≤ length p.journal.messages → p.journal.messages ≡ [] → p.sent ≡ 0
@@ -336,28 +342,28 @@ many_messages next one other is same =
 
 -- what was published, if the port is at the end as it was left
 pub published_so : {D P : Type 0} (known : D → Port P) (a b : P) (beats ends : ℕ) (start : PublisherState)
-    (input : Option (List ℕ)) (result : Result ℕ CommandFault) (before : Port P) (port end : D)
+    (input : Option InputEntries) (result : Result ℕ CommandFault) (before : Port P) (port end : D)
     (text_old text_new file_old file_new : Option (List ℕ)) → end ≡ port →
-    IfSome input (λ bytes. PublishRun a b beats ends start.limit (lines_published start.journal (lines_of bytes)) result
+    IfSome input (λ bytes. PublishRun a b beats ends start.limit (input_published start.journal bytes) result
     before (known port) text_old text_new file_old file_new) →
-    IfSome input (λ bytes. PublishRun a b beats ends start.limit (lines_published start.journal (lines_of bytes)) result
+    IfSome input (λ bytes. PublishRun a b beats ends start.limit (input_published start.journal bytes) result
     before (known end) text_old text_new file_old file_new)
 published_so {D} known a b beats ends start input result before port end text_old text_new file_old file_new same run =
     subst
     (λ (d : D).
-    IfSome input (λ bytes. PublishRun a b beats ends start.limit (lines_published start.journal (lines_of bytes)) result
+    IfSome input (λ bytes. PublishRun a b beats ends start.limit (input_published start.journal bytes) result
     before (known d) text_old text_new file_old file_new))
     (sym same)
     run
 
 -- the journal of the publisher at the end
-pub left_so : {T E : Type 0} (start : PublisherState) (input : Option (List ℕ)) (result : Result T E) (Tells : Type 0)
+pub left_so : {T E : Type 0} (start : PublisherState) (input : Option InputEntries) (result : Result T E) (Tells : Type 0)
     (journal left : JournalState) → left ≡ journal →
-    IfOk result (λ _. Tells → IfSome input (λ bytes. journal ≡ left_journal (lines_published start.journal (lines_of bytes)))) →
-    IfOk result (λ _. Tells → IfSome input (λ bytes. left ≡ left_journal (lines_published start.journal (lines_of bytes))))
+    IfOk result (λ _. Tells → IfSome input (λ bytes. journal ≡ left_journal (input_published start.journal bytes))) →
+    IfOk result (λ _. Tells → IfSome input (λ bytes. left ≡ left_journal (input_published start.journal bytes)))
 left_so start input result Tells journal left same is =
     subst
     (λ (j : JournalState). IfOk result (λ _. Tells → IfSome input (λ bytes.
-    j ≡ left_journal (lines_published start.journal (lines_of bytes)))))
+    j ≡ left_journal (input_published start.journal bytes))))
     (sym same)
     is

@@ -5,7 +5,9 @@ use Rattle.std.specs.Borrow.{Bor}
 use Rattle.std.specs.Prelude.{IfSome, IsErr, OnOk, OnErr}
 use Rattle.std.specs.Io.KnownBytes.{prepend_known}
 use Rattle.std.proofs.KnownBytes.{prepend_known-nil}
-use Rattle.mold_devices.specs.Lines.{lines_of}
+use Rattle.mold_input.specs.Entries.{Entry, InputEntries, known_input}
+use Rattle.mold_input.specs.declared.input_kind.InputKind.{InputKind}
+use Rattle.mold_input.specs.declared.input_kind.InputKind.TheVariants.{Lines, Blocks}
 use Rattle.mold_wire.specs.Packet.{spelling_of}
 use Rattle.mold_wire.specs.Packing.{Fits}
 use Rattle.mold_wire.specs.declared.packet.Packet.{Packet}
@@ -14,15 +16,15 @@ use Rattle.mold_session.specs.Journal.{JournalState}
 use Rattle.mold_session.specs.Publisher.{Lends, PublisherState, next_datagram, after_datagram}
 use Rattle.mold_turns.specs.Runs.{Begins}
 use Rattle.mold_turns.proofs.RunLemmas.{begins_more, begins_trans, begins_whole, none_answered, none_ok}
-use Rattle.mold_publish.specs.Sending.{all_but_last, packets_after}
+use Rattle.mold_publish.specs.Sending.{all_but_last, packets_after, packets_before}
 use Rattle.mold_ports.specs.Ports.{Port}
-use Rattle.mold_send.specs.PublishLoop.{IsSame, IsSameLines, PublicationState, Sends, SendsBoth, SendsLines, both, lines_state}
+use Rattle.mold_send.specs.PublishLoop.{IsSame, IsSameLines, PublicationState, Sends, SendsBoth, SendsMessages, both, lines_state}
 use Rattle.mold_send.specs.declared.publication.Publication.{Publication}
 use Rattle.mold_send.specs.declared.sending.TwoLines.{TwoLines}
 use Rattle.mold_send.specs.PublishLoop.{data_after, offer, packets_to_send}
 use Rattle.mold_send.specs.PublishLoop.{spelled_some}
-use Rattle.mold_publish.specs.Publishing.{PublishedLines, lines_published, HasRoom, IsJustFull, Fills}
-use Rattle.mold_publish.specs.declared.line_refusal.LineRefusal.{LineRefusal}
+use Rattle.mold_publish.specs.Publishing.{PublishedInput, input_published, HasRoom, IsJustFull, Fills}
+use Rattle.mold_publish.specs.declared.message_refusal.MessageRefusal.{MessageRefusal}
 use Rattle.mold_publish.specs.declared.filling.Filled.TheVariants.{Full, End, Refused}
 use Rattle.mold_publish.proofs.DatagramLemmas.{PackingLaws, grown, full_front, full_datagram, full_packets, full_room}
 use Rattle.mold_publish.proofs.DatagramLemmas.{more_packets, list_of, room_packets}
@@ -129,23 +131,34 @@ unfolding all_but_last
 first_kept packet [] some = absurd (omega arith)
 first_kept packet (next ∷ packets) some = refl
 
+-- the datagram that is sent before a refusal, of the messages that were not sent yet
+abbrev pub spelled_before : InputKind → PublisherState → List (List ℕ)
+spelled_before Lines now = []
+spelled_before Blocks now = spelled_some (next_datagram now)
+
+-- the first of several packets is sent before a refusal
+first_before : (kind : InputKind) (packet : Packet) (packets : List Packet) → 0 < length packets →
+    packets_before kind (packet ∷ packets) ≡ packet ∷ packets_before kind packets
+first_before Lines packet packets some = first_kept packet packets some
+first_before Blocks packet packets some = refl
+
 -- the first of several packets is sent first
-first_sent : (limit sent then : ℕ) (journal : JournalState) (packet : Packet) (refused : Option LineRefusal) →
+first_sent : (limit sent then : ℕ) (journal : JournalState) (packet : Packet) (refused : Option MessageRefusal) →
     packets_after limit sent journal ≡ packet ∷ packets_after limit then journal →
     0 < length (packets_after limit then journal) →
     packets_to_send limit sent journal refused ≡ packet ∷ packets_to_send limit then journal refused
 first_sent limit sent then journal packet None packets some = packets
-first_sent limit sent then journal packet (Some why) packets some =
-    ap (λ (ps : List Packet). all_but_last ps) packets
-    ∙ first_kept packet (packets_after limit then journal) some
+first_sent limit sent then journal packet (Some refusal) packets some =
+    ap (λ (ps : List Packet). packets_before refusal.kind ps) packets
+    ∙ first_before refusal.kind packet (packets_after limit then journal) some
 
-pub full_data : PackingLaws → (now : PublisherState) → IsJustFull now → (lines : List (List ℕ)) →
-    data_after now.limit now.sent (lines_published now.journal lines)
+pub full_data : PackingLaws → (now : PublisherState) → IsJustFull now → (input : InputEntries) →
+    data_after now.limit now.sent (input_published now.journal input)
     ≡ spelled_some (next_datagram now)
-    ++ data_after now.limit (after_datagram now).sent (lines_published now.journal lines)
-full_data laws now full lines =
-    let published = lines_published now.journal lines in
-    let more = grown lines now.journal in
+    ++ data_after now.limit (after_datagram now).sent (input_published now.journal input)
+full_data laws now full input =
+    let published = input_published now.journal input in
+    let more = grown input now.journal in
     let packet = data_packet now.journal.session (now.sent + 1) full.found in
     ap (λ (ps : List Packet). map spelling_of ps)
     (first_sent now.limit now.sent (now.sent + length full.found) published.journal packet published.refused
@@ -168,33 +181,33 @@ lent_none (Some packet) lends = absurd lends
 
 -- ---- the data so far
 
--- if the lines are known, the offered datagrams and those that remain are the data of all lines
-abbrev pub LeftToSend : PublisherState → PublisherState → Option (List ℕ) → Option (List ℕ) → List (List ℕ) → Type 0
+-- if the input is known, the offered datagrams and those that remain are the data of the whole input
+abbrev pub LeftToSend : PublisherState → PublisherState → Option InputEntries → Option InputEntries → List (List ℕ) → Type 0
 LeftToSend start now None left front = Unit {0}
 LeftToSend start now (Some input) None front = ⊥
 LeftToSend start now (Some input) (Some left) front =
-    (data_after start.limit start.sent (lines_published start.journal (lines_of input))
-    ≡ front ++ data_after now.limit now.sent (lines_published now.journal (lines_of left)))
-    × (lines_published start.journal (lines_of input) ≡ lines_published now.journal (lines_of left))
+    (data_after start.limit start.sent (input_published start.journal input)
+    ≡ front ++ data_after now.limit now.sent (input_published now.journal left))
+    × (input_published start.journal input ≡ input_published now.journal left)
 
-pub record SentSoFar {P : Type 0} (a b : P) (start now : PublisherState) (known left : Option (List ℕ))
+pub record SentSoFar {P : Type 0} (a b : P) (start now : PublisherState) (known left : Option InputEntries)
     (old new : PublicationState P) (count : ℕ) : Type 0 where
   pub front : List (List ℕ)
   pub sends : Sends (both a b front) old new
   pub counted : count ≡ length front
   pub behind : LeftToSend start now known left front
 
-pub left_same : (start : PublisherState) (known : Option (List ℕ)) → LeftToSend start start known known []
+pub left_same : (start : PublisherState) (known : Option InputEntries) → LeftToSend start start known known []
 left_same start None = tt
 left_same start (Some input) = (refl, refl)
 
-pub sent_none : {P : Type 0} (a b : P) (start : PublisherState) (known : Option (List ℕ)) (publication : PublicationState P)
+pub sent_none : {P : Type 0} (a b : P) (start : PublisherState) (known : Option InputEntries) (publication : PublicationState P)
     (count : ℕ) → count ≡ 0 → SentSoFar a b start start known known publication publication count
 sent_none a b start known publication count none =
     record { front = []; sends = refl; counted = none; behind = left_same start known }
 
 -- another publisher of the same limit with as many messages sent has the same data
-data_same : (one other : PublisherState) (first second : PublishedLines) → other.limit ≡ one.limit →
+data_same : (one other : PublisherState) (first second : PublishedInput) → other.limit ≡ one.limit →
     other.sent ≡ one.sent → first ≡ second →
     data_after one.limit one.sent first ≡ data_after other.limit other.sent second
 data_same one other first second limit sent same =
@@ -202,25 +215,25 @@ data_same one other first second limit sent same =
     ∙ ap (λ (n : ℕ). data_after other.limit n first) (sym sent)
     ∙ ap (data_after other.limit other.sent) same
 
-pub left_full : PackingLaws → (start before now : PublisherState) (known left behind : Option (List ℕ))
+pub left_full : PackingLaws → (start before now : PublisherState) (known left behind : Option InputEntries)
     (front : List (List ℕ)) → LeftToSend start before known left front → Fills before now left behind Full →
     LeftToSend start (after_datagram now) known behind (front ++ spelled_some (next_datagram now))
 left_full laws start before now None left behind front so_far filled = tt
 left_full laws start before now (Some input) None behind front so_far filled = absurd so_far
-left_full laws start before now (Some input) (Some xs) None front so_far filled = absurd filled.lines
+left_full laws start before now (Some input) (Some xs) None front so_far filled = absurd filled.input
 left_full laws start before now (Some input) (Some xs) (Some ys) front so_far filled = (
   so_far.0
       ∙ ap (λ (ds : List (List ℕ)). front ++ ds)
-      (data_same before now _ (lines_published now.journal (lines_of ys)) filled.limit filled.sent filled.lines
-      ∙ full_data laws now filled.room (lines_of ys))
+      (data_same before now _ (input_published now.journal ys) filled.limit filled.sent filled.input
+      ∙ full_data laws now filled.room ys)
       ∙ sym (append_assoc front (spelled_some (next_datagram now))
-      (data_after now.limit (after_datagram now).sent (lines_published now.journal (lines_of ys)))),
-  so_far.1 ∙ filled.lines,
+      (data_after now.limit (after_datagram now).sent (input_published now.journal ys))),
+  so_far.1 ∙ filled.input,
 )
 
 -- one more datagram was offered
 pub sent_full : {P : Type 0} → PackingLaws → (a b : P) (start before now after : PublisherState)
-    (known left behind : Option (List ℕ)) (old mid new : PublicationState P) (count counted : ℕ) →
+    (known left behind : Option InputEntries) (old mid new : PublicationState P) (count counted : ℕ) →
     SentSoFar a b start before known left old mid count → Fills before now left behind Full →
     after ≡ after_datagram now → Sends (both a b (spelled_some (next_datagram now))) mid new →
     counted ≡ count + length (spelled_some (next_datagram now)) →
@@ -236,21 +249,21 @@ sent_full {P} laws a b start before now after known left behind old mid new coun
     })
 
 -- after a fault, what was offered is a prefix
-pub begun : (start now : PublisherState) (known left : Option (List ℕ)) (front : List (List ℕ)) →
+pub begun : (start now : PublisherState) (known left : Option InputEntries) (front : List (List ℕ)) →
     LeftToSend start now known left front → IfSome known (λ input.
-    Begins front (data_after start.limit start.sent (lines_published start.journal (lines_of input))))
+    Begins front (data_after start.limit start.sent (input_published start.journal input)))
 begun start now None left front so_far = tt
 begun start now (Some input) None front so_far = absurd so_far
 begun start now (Some input) (Some xs) front so_far = record { rest = _; parts = so_far.0 }
 
-pub any_known : (known : Option (List ℕ)) (Q : List ℕ → Type 0) → ((input : List ℕ) → Q input) → IfSome known Q
+pub any_known : (known : Option InputEntries) (Q : InputEntries → Type 0) → ((input : InputEntries) → Q input) → IfSome known Q
 any_known None Q all = tt
 any_known (Some input) Q all = all input
 
-pub sent_cut : {P E : Type 0} (a b : P) (start now last : PublisherState) (known left : Option (List ℕ))
-    (result : Result (Option LineRefusal) E) (old new : PublicationState P) (count : ℕ) →
+pub sent_cut : {P E : Type 0} (a b : P) (start now last : PublisherState) (known left : Option InputEntries)
+    (result : Result (Option MessageRefusal) E) (old new : PublicationState P) (count : ℕ) →
     SentSoFar a b start now known left old new count → IsErr result →
-    SendsLines a b start last known result old new count
+    SendsMessages a b start last known result old new count
 sent_cut a b start now last known left result old new count so_far failed = record {
   front = so_far.front;
   sends = so_far.sends;
@@ -260,9 +273,9 @@ sent_cut a b start now last known left result old new count so_far failed = reco
 }
 
 -- nothing was offered yet
-pub sent_not : {P E : Type 0} (a b : P) (start last : PublisherState) (known : Option (List ℕ))
-    (result : Result (Option LineRefusal) E) (old : PublicationState P) (count : ℕ) → IsErr result →
-    SendsLines a b start last known result old old count
+pub sent_not : {P E : Type 0} (a b : P) (start last : PublisherState) (known : Option InputEntries)
+    (result : Result (Option MessageRefusal) E) (old : PublicationState P) (count : ℕ) → IsErr result →
+    SendsMessages a b start last known result old old count
 sent_not a b start last known result old count failed = record {
   front = [];
   sends = refl;
@@ -272,61 +285,88 @@ sent_not a b start last known result old count failed = record {
 }
 
 -- all the data were offered
-abbrev pub AllSent : PublisherState → JournalState → Option LineRefusal → List (List ℕ) → List ℕ → Type 0
+abbrev pub AllSent : PublisherState → JournalState → Option MessageRefusal → List (List ℕ) → InputEntries → Type 0
 AllSent start journal refused front input =
-    (data_after start.limit start.sent (lines_published start.journal (lines_of input)) ≡ front)
-    × (lines_published start.journal (lines_of input) ≡ record { journal = journal; refused = refused })
+    (data_after start.limit start.sent (input_published start.journal input) ≡ front)
+    × (input_published start.journal input ≡ record { journal = journal; refused = refused })
 
-pub begun_all : (start : PublisherState) (journal : JournalState) (refused : Option LineRefusal) (known : Option (List ℕ))
+pub begun_all : (start : PublisherState) (journal : JournalState) (refused : Option MessageRefusal) (known : Option InputEntries)
     (front : List (List ℕ)) → IfSome known (AllSent start journal refused front) → IfSome known (λ input.
-    Begins front (data_after start.limit start.sent (lines_published start.journal (lines_of input))))
+    Begins front (data_after start.limit start.sent (input_published start.journal input)))
 begun_all start journal refused None front all = tt
 begun_all start journal refused (Some input) front all =
     record { rest = []; parts = all.0 ∙ sym (append-nil front) }
 
-pub left_end : PackingLaws → (start before now : PublisherState) (known left behind : Option (List ℕ))
+pub left_end : PackingLaws → (start before now : PublisherState) (known left behind : Option InputEntries)
     (front : List (List ℕ)) → LeftToSend start before known left front → Fills before now left behind End →
     IfSome known (AllSent start now.journal None (front ++ spelled_some (next_datagram now)))
 left_end laws start before now None left behind front so_far filled = tt
 left_end laws start before now (Some input) None behind front so_far filled = absurd so_far
-left_end laws start before now (Some input) (Some xs) None front so_far filled = absurd filled.lines
+left_end laws start before now (Some input) (Some xs) None front so_far filled = absurd filled.input
 left_end laws start before now (Some input) (Some xs) (Some ys) front so_far filled =
-    let published : PublishedLines = record { journal = now.journal; refused = None } in (
+    let published : PublishedInput = record { journal = now.journal; refused = None } in (
       so_far.0
           ∙ ap (λ (ds : List (List ℕ)). front ++ ds)
-          (data_same before now _ published filled.limit filled.sent filled.lines
+          (data_same before now _ published filled.limit filled.sent filled.input
           ∙ ap (λ (ps : List Packet). map spelling_of ps) (room_packets laws now filled.room)
           ∙ spelled_list (next_datagram now)),
-      so_far.1 ∙ filled.lines,
+      so_far.1 ∙ filled.input,
     )
 
-pub left_refused : PackingLaws → (start before now : PublisherState) (known left behind : Option (List ℕ))
-    (why : LineRefusal) (front : List (List ℕ)) → LeftToSend start before known left front →
-    Fills before now left behind (Refused why) → IfSome known (AllSent start now.journal (Some why) front)
-left_refused laws start before now None left behind why front so_far filled = tt
-left_refused laws start before now (Some input) None behind why front so_far filled = absurd so_far
-left_refused laws start before now (Some input) (Some xs) None why front so_far filled = absurd filled.lines
-left_refused laws start before now (Some input) (Some xs) (Some ys) why front so_far filled =
-    let published : PublishedLines = record { journal = now.journal; refused = Some why } in (
+-- an entry is refused: the packet of the messages that were not sent yet is sent unless the input is of lines
+last_before : PackingLaws → (now : PublisherState) (kind : InputKind) → HasRoom now →
+    map spelling_of (packets_before kind (packets_after now.limit now.sent now.journal)) ≡ spelled_before kind now
+last_before laws now Lines room =
+    ap (λ (ps : List Packet). map spelling_of (all_but_last ps)) (room_packets laws now room) ∙ no_last (next_datagram now)
+last_before laws now Blocks room =
+    ap (λ (ps : List Packet). map spelling_of ps) (room_packets laws now room) ∙ spelled_list (next_datagram now)
+
+left_refused : PackingLaws → (start before now : PublisherState) (known left behind : Option InputEntries)
+    (refusal : MessageRefusal) (front : List (List ℕ)) → LeftToSend start before known left front →
+    Fills before now left behind (Refused refusal) →
+    IfSome known (AllSent start now.journal (Some refusal) (front ++ spelled_before refusal.kind now))
+left_refused laws start before now None left behind refusal front so_far filled = tt
+left_refused laws start before now (Some input) None behind refusal front so_far filled = absurd so_far
+left_refused laws start before now (Some input) (Some xs) None refusal front so_far filled = absurd filled.input
+left_refused laws start before now (Some input) (Some xs) (Some ys) refusal front so_far filled =
+    let published : PublishedInput = record { journal = now.journal; refused = Some refusal } in (
       so_far.0
           ∙ ap (λ (ds : List (List ℕ)). front ++ ds)
-          (data_same before now _ published filled.limit filled.sent filled.lines
-          ∙ ap (λ (ps : List Packet). map spelling_of (all_but_last ps)) (room_packets laws now filled.room)
-          ∙ no_last (next_datagram now))
-          ∙ append-nil front,
-      so_far.1 ∙ filled.lines,
+          (data_same before now _ published filled.limit filled.sent filled.input
+          ∙ last_before laws now refusal.kind filled.room),
+      so_far.1 ∙ filled.input,
     )
 
+-- of an input of lines, nothing more is offered
+pub left_lines : PackingLaws → (start before now : PublisherState) (known left behind : Option InputEntries)
+    (refusal : MessageRefusal) (front : List (List ℕ)) → LeftToSend start before known left front →
+    Fills before now left behind (Refused refusal) → refusal.kind ≡ Lines →
+    IfSome known (AllSent start now.journal (Some refusal) front)
+left_lines laws start before now known left behind refusal front so_far filled lines =
+    subst (λ (ds : List (List ℕ)). IfSome known (AllSent start now.journal (Some refusal) ds))
+    (ap (λ (kind : InputKind). front ++ spelled_before kind now) lines ∙ append-nil front)
+    (left_refused laws start before now known left behind refusal front so_far filled)
+
+-- of an input of blocks, the last datagram is offered
+pub left_blocks : PackingLaws → (start before now : PublisherState) (known left behind : Option InputEntries)
+    (refusal : MessageRefusal) (front : List (List ℕ)) → LeftToSend start before known left front →
+    Fills before now left behind (Refused refusal) → refusal.kind ≡ Blocks →
+    IfSome known (AllSent start now.journal (Some refusal) (front ++ spelled_some (next_datagram now)))
+left_blocks laws start before now known left behind refusal front so_far filled blocks =
+    subst (λ (kind : InputKind).
+    IfSome known (AllSent start now.journal (Some refusal) (front ++ spelled_before kind now))) blocks
+    (left_refused laws start before now known left behind refusal front so_far filled)
+
 pub sent_end : {P E : Type 0} → PackingLaws → (a b : P) (start before now after : PublisherState)
-    (known left behind : Option (List ℕ)) (old mid new : PublicationState P) (count counted : ℕ) →
+    (known left behind : Option InputEntries) (old mid new : PublicationState P) (count counted : ℕ) →
     SentSoFar a b start before known left old mid count → Fills before now left behind End →
     after ≡ after_datagram now → Sends (both a b (spelled_some (next_datagram now))) mid new →
     counted ≡ count + length (spelled_some (next_datagram now)) →
-    SendsLines {E = E} a b start after known (Ok None) old new counted
+    SendsMessages {E = E} a b start after known (Ok None) old new counted
 sent_end {P} {E} laws a b start before now after known left behind old mid new count counted so_far filled sent sends more =
     let front = so_far.front ++ spelled_some (next_datagram now) in
     let all = left_end laws start before now known left behind so_far.front so_far.behind filled in
-    subst (λ (p : PublisherState). SendsLines {E = E} a b start p known (Ok None) old new counted) (sym sent)
+    subst (λ (p : PublisherState). SendsMessages {E = E} a b start p known (Ok None) old new counted) (sym sent)
     (record {
       front = front;
       sends = sends_more a b so_far.front (spelled_some (next_datagram now)) old mid new so_far.sends sends;
@@ -336,19 +376,42 @@ sent_end {P} {E} laws a b start before now after known left behind old mid new c
       whole = all;
     })
 
+-- an entry of an input of lines is refused
 pub sent_refused : {P E : Type 0} → PackingLaws → (a b : P) (start before now : PublisherState)
-    (known left behind : Option (List ℕ)) (why : LineRefusal) (old new : PublicationState P) (count : ℕ) →
-    SentSoFar a b start before known left old new count → Fills before now left behind (Refused why) →
-    SendsLines {E = E} a b start now known (Ok (Some why)) old new count
-sent_refused {P} {E} laws a b start before now known left behind why old new count so_far filled =
-    let all = left_refused laws start before now known left behind why so_far.front so_far.behind filled in
+    (known left behind : Option InputEntries) (refusal : MessageRefusal) (old new : PublicationState P) (count : ℕ) →
+    SentSoFar a b start before known left old new count → Fills before now left behind (Refused refusal) →
+    refusal.kind ≡ Lines → SendsMessages {E = E} a b start now known (Ok (Some refusal)) old new count
+sent_refused {P} {E} laws a b start before now known left behind refusal old new count so_far filled lines =
+    let whole = left_lines laws start before now known left behind refusal so_far.front so_far.behind filled lines in
     record {
       front = so_far.front;
       sends = so_far.sends;
       counted = so_far.counted;
-      begins = begun_all start now.journal (Some why) known so_far.front all;
-      whole = all;
+      begins = begun_all start now.journal (Some refusal) known so_far.front whole;
+      whole = whole;
     }
+
+-- an entry of an input of blocks is refused, and the last datagram is sent
+pub sent_before : {P E : Type 0} → PackingLaws → (a b : P) (start before now after : PublisherState)
+    (known left behind : Option InputEntries) (refusal : MessageRefusal) (old mid new : PublicationState P)
+    (count counted : ℕ) → SentSoFar a b start before known left old mid count →
+    Fills before now left behind (Refused refusal) → refusal.kind ≡ Blocks →
+    after ≡ after_datagram now → Sends (both a b (spelled_some (next_datagram now))) mid new →
+    counted ≡ count + length (spelled_some (next_datagram now)) →
+    SendsMessages {E = E} a b start after known (Ok (Some refusal)) old new counted
+sent_before {P} {E} laws a b start before now after known left behind refusal old mid new count counted so_far filled
+    blocks sent sends more =
+    let front = so_far.front ++ spelled_some (next_datagram now) in
+    let whole = left_blocks laws start before now known left behind refusal so_far.front so_far.behind filled blocks in
+    subst (λ (p : PublisherState). SendsMessages {E = E} a b start p known (Ok (Some refusal)) old new counted) (sym sent)
+    (record {
+      front = front;
+      sends = sends_more a b so_far.front (spelled_some (next_datagram now)) old mid new so_far.sends sends;
+      counted =
+          omega (arith, more, so_far.counted, length-append so_far.front (spelled_some (next_datagram now)));
+      begins = begun_all start now.journal (Some refusal) known front whole;
+      whole = whole;
+    })
 
 found_some : (limit : ℕ) (found : List (List ℕ)) (last : List ℕ) → ¬ Fits limit (found ++ last ∷ []) →
     Fits limit (last ∷ []) → 0 < length found
@@ -378,14 +441,16 @@ full_went laws before now after count counted full same few is more =
       full_more laws now count counted full (subst (λ (n : ℕ). count ≤ n) (sym same) few) more,
     )
 
--- before the first line
-pub sent_begun : {P : Type 0} (a b : P) (start : PublisherState) (known : Option (List ℕ)) (rest : List ℕ)
-    (publication : PublicationState P) (count : ℕ) → rest ≡ [] → count ≡ 0 →
-    SentSoFar a b start start known (prepend_known rest known) publication publication count
-sent_begun a b start known rest publication count empty none =
-    subst (λ (l : Option (List ℕ)). SentSoFar a b start start known l publication publication count)
+-- before the first message
+pub sent_begun : {P : Type 0} (kind : InputKind) (entries : List ℕ → List Entry) (a b : P) (start : PublisherState)
+    (known : Option (List ℕ)) (rest : List ℕ) (publication : PublicationState P) (count : ℕ) → rest ≡ [] → count ≡ 0 →
+    SentSoFar a b start start (known_input kind entries known) (known_input kind entries (prepend_known rest known))
+    publication publication count
+sent_begun kind entries a b start known rest publication count empty none =
+    subst (λ (l : Option (List ℕ)).
+    SentSoFar a b start start (known_input kind entries known) (known_input kind entries l) publication publication count)
     (sym (ap (λ (xs : List ℕ). prepend_known xs known) empty ∙ prepend_known-nil known))
-    (sent_none a b start known publication count none)
+    (sent_none a b start (known_input kind entries known) publication count none)
 
 -- a session can be closed if all messages are sent
 pub close_done : {T E : Type 0} (result : Result T E) (sent all : ℕ) (Q : Type 0) → OnErr result (sent + 1 ≤ all) →

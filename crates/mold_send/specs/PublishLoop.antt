@@ -1,4 +1,4 @@
--- What a publisher sends on two lines, prints and saves if its messages are the lines of a source.
+-- What a publisher sends on two lines, prints and saves if its messages are those of an input.
 use Rattle.std.specs.Prelude.{◌≡◌, ◌⊎◌, ℕ, ◌+◌, Bool, true, false, List, []}
 use Rattle.std.specs.Prelude.{◌∷◌, ◌++◌, codes, decimal, length, map, replicate}
 use Rattle.std.specs.Prelude.{Option, None, Some, Result, Ok, Err, IfOk, OnOk, IfSome}
@@ -8,7 +8,7 @@ use Rattle.mold_wire.specs.Packet.{spelling_of}
 use Rattle.mold_wire.specs.declared.packet.Packet.{Packet}
 use Rattle.mold_wire.specs.declared.packet.Body.TheVariants.{Heartbeat}
 use Rattle.mold_devices.specs.Devices.{AppendsPrefix, one_more}
-use Rattle.mold_devices.specs.Lines.{lines_of}
+use Rattle.mold_input.specs.Entries.{InputEntries}
 use Rattle.mold_devices.specs.declared.fault.CommandFault.{CommandFault}
 use Rattle.mold_devices.specs.declared.fault.CommandFault.TheVariants.{Read, Write, Memory}
 use Rattle.mold_ports.specs.Ports.{Port, offered}
@@ -20,9 +20,9 @@ use Rattle.mold_turns.specs.Outgoing.{OutgoingState, failed_once, nothing_out}
 use Rattle.mold_turns.specs.Runs.{Begins}
 use Rattle.mold_send.specs.declared.publication.Publication.{Publication}
 use Rattle.mold_send.specs.declared.sending.TwoLines.{TwoLines}
-use Rattle.mold_publish.specs.Sending.{all_but_last, end_packet, packets_after}
-use Rattle.mold_publish.specs.Publishing.{packed_status, PublishedLines, lines_published, refused_text}
-use Rattle.mold_publish.specs.declared.line_refusal.LineRefusal.{LineRefusal}
+use Rattle.mold_publish.specs.Sending.{end_packet, packets_after, packets_before}
+use Rattle.mold_publish.specs.Publishing.{packed_status, PublishedInput, input_published, refused_text}
+use Rattle.mold_publish.specs.declared.message_refusal.MessageRefusal.{MessageRefusal}
 
 -- The state of a publisher at work: its port, and its outgoing text and failures.
 pub record PublicationState (P : Type 0) : Type 0 where
@@ -81,14 +81,13 @@ abbrev pub spelled_some : Option Packet → List (List ℕ)
 spelled_some None = []
 spelled_some (Some packet) = spelling_of packet ∷ []
 
--- The data packets of all messages after the first `sent` messages. If the line after the messages is refused, the
--- last packet is left out.
-abbrev pub packets_to_send : ℕ → ℕ → JournalState → Option LineRefusal → List Packet
+-- The data packets of all messages after the first `sent` messages, or those of them that are sent before a refusal.
+abbrev pub packets_to_send : ℕ → ℕ → JournalState → Option MessageRefusal → List Packet
 packets_to_send limit sent journal None = packets_after limit sent journal
-packets_to_send limit sent journal (Some why) = all_but_last (packets_after limit sent journal)
+packets_to_send limit sent journal (Some refusal) = packets_before refusal.kind (packets_after limit sent journal)
 
 -- The datagrams of these data packets.
-abbrev pub data_after : ℕ → ℕ → PublishedLines → List (List ℕ)
+abbrev pub data_after : ℕ → ℕ → PublishedInput → List (List ℕ)
 data_after limit sent published =
     map spelling_of (packets_to_send limit sent published.journal published.refused)
 
@@ -101,13 +100,13 @@ abbrev pub close_datagrams : ℕ → ℕ → JournalState → List (List ℕ)
 close_datagrams beats ends journal =
     replicate beats (spelling_of (beat_packet journal)) ++ replicate ends (spelling_of (end_packet journal))
 
--- The datagrams that are offered after the data: none if a line is refused, otherwise heartbeats and end packets.
-abbrev pub after_data : ℕ → ℕ → JournalState → Option LineRefusal → List (List ℕ)
+-- The datagrams that are offered after the data: none if an entry is refused, otherwise heartbeats and end packets.
+abbrev pub after_data : ℕ → ℕ → JournalState → Option MessageRefusal → List (List ℕ)
 after_data beats ends journal None = close_datagrams beats ends journal
 after_data beats ends journal (Some why) = []
 
--- All datagrams that are offered when the lines are published, in order.
-abbrev pub all_datagrams : ℕ → ℕ → ℕ → PublishedLines → List (List ℕ)
+-- All datagrams that are offered when an input is published, in order.
+abbrev pub all_datagrams : ℕ → ℕ → ℕ → PublishedInput → List (List ℕ)
 all_datagrams limit beats ends published =
     data_after limit 0 published ++ after_data beats ends published.journal published.refused
 
@@ -117,64 +116,64 @@ published_line messages datagrams failed = line_of
     (codes "published" ∷ decimal messages ∷ codes "datagrams" ∷ decimal datagrams
     ∷ codes "failed" ∷ decimal failed ∷ [])
 
--- The text of a publisher: its last line, or the line of the refusal if a line is refused.
-abbrev pub report_text : JournalState → Option LineRefusal → ℕ → ℕ → List ℕ
+-- The text of a publisher: its last line, or the line of the refusal if an entry is refused.
+abbrev pub report_text : JournalState → Option MessageRefusal → ℕ → ℕ → List ℕ
 report_text journal None datagrams failed = published_line (length journal.messages) datagrams failed
 report_text journal (Some why) datagrams failed = refused_text (length journal.messages + 1) why
 
--- The text of a publisher of these lines, if `failed` sends failed.
-abbrev pub published_text : ℕ → PublishedLines → ℕ → List ℕ
+-- The text of a publisher of this input, if `failed` sends failed.
+abbrev pub published_text : ℕ → PublishedInput → ℕ → List ℕ
 published_text limit published failed =
     report_text published.journal published.refused (length (data_after limit 0 published)) failed
 
--- The file of the closed journal. It is empty if a line is refused.
-abbrev pub saved_bytes : JournalState → Option LineRefusal → List ℕ
+-- The file of the closed journal. It is empty if an entry is refused.
+abbrev pub saved_bytes : JournalState → Option MessageRefusal → List ℕ
 saved_bytes journal None = head_2 journal.session.0 true (length journal.messages) ++ blocks journal.messages
 saved_bytes journal (Some why) = []
 
--- The journal, which is closed unless a line is refused.
-abbrev pub closed_unless : Option LineRefusal → JournalState → JournalState
+-- The journal, which is closed unless an entry is refused.
+abbrev pub closed_unless : Option MessageRefusal → JournalState → JournalState
 closed_unless None journal = record journal { closed = true }
 closed_unless (Some why) journal = journal
 
--- The journal that publishing leaves. It is closed unless a line is refused.
-abbrev pub left_journal : PublishedLines → JournalState
+-- The journal that publishing leaves. It is closed unless an entry is refused.
+abbrev pub left_journal : PublishedInput → JournalState
 left_journal published = closed_unless published.refused published.journal
 
--- The sink's bytes grew by the file of the closed journal. If a line is refused, they stay the same.
-abbrev pub Saves : JournalState → Option LineRefusal → Option (List ℕ) → Option (List ℕ) → Type 0
+-- The sink's bytes grew by the file of the closed journal. If an entry is refused, they stay the same.
+abbrev pub Saves : JournalState → Option MessageRefusal → Option (List ℕ) → Option (List ℕ) → Type 0
 Saves journal None old new = AppendsFile old new journal.session journal.messages true
 Saves journal (Some why) old new = new ≡ old
 
--- The lines of the input `known` were published, and the datagrams `front` were offered. After a success, these are
--- all data datagrams, and the result is the reason if a line is refused. After a fault, they are a prefix of the data
+-- The messages of the input `known` were published, and the datagrams `front` were offered. After a success, these are
+-- all data datagrams, and the result is the reason if an entry is refused. After a fault, they are a prefix of the data
 -- datagrams.
-pub record SendsLines {P E : Type 0} (a b : P) (start now : PublisherState) (known : Option (List ℕ))
-    (result : Result (Option LineRefusal) E) (old new : PublicationState P) (count : ℕ) : Type 0 where
+pub record SendsMessages {P E : Type 0} (a b : P) (start now : PublisherState) (known : Option InputEntries)
+    (result : Result (Option MessageRefusal) E) (old new : PublicationState P) (count : ℕ) : Type 0 where
   -- the datagrams that were offered
   pub front : List (List ℕ)
   pub sends : Sends (both a b front) old new
   pub counted : OnOk result (count ≡ length front)
-  -- they are a prefix of the data datagrams of all lines
+  -- they are a prefix of the data datagrams of the whole input
   pub begins : IfSome known (λ input.
-      Begins front (data_after start.limit start.sent (lines_published start.journal (lines_of input))))
-  -- after a success, they are all of them, and the journal has the messages of the lines
+      Begins front (data_after start.limit start.sent (input_published start.journal input)))
+  -- after a success, they are all of them, and the journal has the messages of the input
   pub whole : IfOk result (λ refused. IfSome known (λ input.
-      (data_after start.limit start.sent (lines_published start.journal (lines_of input)) ≡ front)
-      × (lines_published start.journal (lines_of input) ≡ record { journal = now.journal; refused = refused })))
+      (data_after start.limit start.sent (input_published start.journal input) ≡ front)
+      × (input_published start.journal input ≡ record { journal = now.journal; refused = refused })))
 
--- A publisher at work published lines and offered their data (`SendsLines`). `datagrams` counts the data datagrams.
-abbrev pub SendsInput : {D P E : Type 0} → (D → Port P) → Option (List ℕ) → Result (Option LineRefusal) E →
+-- A publisher at work published messages and offered their data (`SendsMessages`). `datagrams` counts the data
+-- datagrams.
+abbrev pub SendsInput : {D P E : Type 0} → (D → Port P) → Option InputEntries → Result (Option MessageRefusal) E →
     Publication D P → Publication D P → Type 0
 SendsInput port known result old new =
-    SendsLines old.two_lines.a.now old.two_lines.b.now old.publisher.now new.publisher.now known result
+    SendsMessages old.two_lines.a.now old.two_lines.b.now old.publisher.now new.publisher.now known result
     (lines_state port old.two_lines) (lines_state port new.two_lines) new.datagrams
 
--- The outcome of publishing some lines. `end` is the state after each datagram was offered to `a` and then to `b`; any
--- of these sends may have failed. After a success, the port is that of `end`, the text is written, the journal is saved
--- unless a line is refused, and the status is returned. After a fault, what was sent, written and saved are prefixes of
--- these datagrams, of the text and of the file.
-pub record PublishRun {P : Type 0} (a b : P) (beats ends limit : ℕ) (published : PublishedLines)
+-- What publishing an input leaves. For some choice of which sends fail, `end` is the state after all datagrams were
+-- offered to `a` and then to `b`. After a success, the port is that of `end`, the text and the journal's file are
+-- written, and the result is the status. After a fault, what was sent, written and saved are prefixes of these.
+pub record PublishRun {P : Type 0} (a b : P) (beats ends limit : ℕ) (published : PublishedInput)
     (result : Result ℕ CommandFault) (before after : Port P) (text_old text_new file_old file_new : Option (List ℕ)) :
     Type 0 where
   -- the state after all datagrams were offered
@@ -186,7 +185,7 @@ pub record PublishRun {P : Type 0} (a b : P) (beats ends limit : ℕ) (published
   pub text : IfOk result (λ status.
       Appends text_old text_new (published_text limit published end.outgoing.failures)
       × (status ≡ packed_status published.refused))
-  -- after a success, the journal is saved unless a line is refused
+  -- after a success, the journal is saved unless an entry is refused
   pub file : OnOk result (Saves published.journal published.refused file_old file_new)
   -- in any case, what was sent is a prefix of what that state has sent
   pub sent_front : Begins after.sent end.port.sent

@@ -1,4 +1,4 @@
-//! The publisher over a port: the lines of a source become messages of a session, and each datagram is sent on two
+//! The publisher over a port: the messages of a source are published, and each datagram is sent on two
 //! lines.
 #![tactic(auto)]
 
@@ -9,7 +9,7 @@ mod publish_options;
 mod publishing;
 mod sending;
 
-pub use publication::print_line_refused;
+pub use publication::print_message_refused;
 pub use publish_devices::PublishDevices;
 pub use publish_options::PublishOptions;
 pub use publishing::{publish, publish_loop};

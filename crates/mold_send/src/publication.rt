@@ -1,14 +1,14 @@
-//! The publisher at work: it publishes lines, sends each datagram on two lines, closes the session and saves the
+//! The publisher at work: it publishes messages, sends each datagram on two lines, closes the session and saves the
 //! journal.
 
 ghost use Rattle.std.specs.Prelude.{◌≡◌, ◌+◌, ◌≤◌, [], true, false, None, length, replicate, IfErr, IfOk, IfSome, OnOk};
 ghost use Rattle.mold_devices.specs.Devices.{AppendsPrefix, Counts};
 ghost use Rattle.mold_devices.specs.Faults.{CountsRead};
-ghost use Rattle.mold_devices.specs.Lines.{lines_of};
+ghost use Rattle.mold_input.specs.Entries.{known_input};
 ghost use Rattle.mold_turns.specs.Outgoing.{nothing_out, with_more};
 ghost use Rattle.mold_send.specs.PublishLoop.{CountsPublish, IsSame, PublishRun, SendsBoth, SendsInput, beat_packet};
 ghost use Rattle.mold_send.specs.PublishLoop.{close_datagrams, published_line, left_journal, saved_bytes, spelled_some};
-ghost use Rattle.mold_publish.specs.Publishing.{HasRoom, lines_published, refused_text};
+ghost use Rattle.mold_publish.specs.Publishing.{HasRoom, input_published, refused_text};
 ghost use Rattle.mold_publish.specs.Sending.{end_packet};
 ghost use Rattle.mold_session.specs.File.{AppendsFile};
 ghost use Rattle.mold_session.specs.Publisher.{after_datagram, closed, next_datagram};
@@ -16,9 +16,10 @@ ghost use Rattle.mold_wire.specs.Packet.{spelling_of};
 
 use crate::closing::Closing;
 use crate::sending::{TwoLines, publisher_holds};
-use mold_devices::{CommandFault, Lines, ReadFault, Sink, Source};
+use mold_devices::{CommandFault, ReadFault, Sink, Source};
+use mold_input::{InputKind, MessageReader};
 use mold_ports::Datagrams;
-use mold_publish::{Filled, LineRefusal, fill, push_line_refused};
+use mold_publish::{Filled, MessageRefusal, fill, push_message_refused};
 use mold_session::laws::packing_law;
 use mold_session::{Journal, Publisher};
 use mold_text::Word;
@@ -41,16 +42,16 @@ fn save_journal<K: Sink>(journal: &Journal, sink: &mut K) -> Result<(), CommandF
     }
 }
 
-/// Appends the line that reports why line `number`, counted from 1, is refused. If an allocation fails, a part of the
-/// line may follow the earlier text.
-pub fn print_line_refused(
+/// Appends the line that reports why the entry of this number is refused. Entries are numbered from 1. If an allocation
+/// fails, a part of the line may follow the earlier text.
+pub fn print_message_refused(
     outgoing: &mut Outgoing,
     number: u64,
-    why: LineRefusal,
+    refusal: MessageRefusal,
 ) -> Result<(), AllocError>
-    ensures { OnOk result (outgoing.new ≡ with_more (refused_text number why) outgoing.old) }
+    ensures { OnOk result (outgoing.new ≡ with_more (refused_text number refusal) outgoing.old) }
 {
-    push_line_refused(&mut outgoing.text, number, why)
+    push_message_refused(&mut outgoing.text, number, refusal)
 }
 
 // Appends the last line.
@@ -97,12 +98,17 @@ impl<'a, 'p, D: Datagrams> Publication<'a, 'p, D> {
         }
     }
 
-    // Publishes the lines of the source one by one. Sends a datagram whenever the publisher is full, and the rest
-    // after the last line. Returns the reason if a line is refused.
-    fn send_lines<S: Source>(&mut self, source: &mut S) -> Result<Option<LineRefusal>, ReadFault>
+    // Publishes the messages of the source one by one. Sends a datagram whenever the publisher is full, and the rest
+    // after the last message. Returns the refusal if an entry is refused. The rest is then sent unless the input is of
+    // lines.
+    fn send_messages<M: MessageReader, S: Source>(
+        &mut self,
+        source: &mut S,
+    ) -> Result<Option<MessageRefusal>, ReadFault>
         requires room { HasRoom self.old.publisher.now }
         requires none { self.old.datagrams ≡ 0 }
-        ensures sends { D.modeled ≡ true → SendsInput D.port (S.left source.old) result self.old self.new }
+        ensures sends { D.modeled ≡ true → SendsInput D.port
+            (known_input M.input_kind M.entries (S.left source.old)) result self.old self.new }
         ensures all { IfOk result (λ refused. refused ≡ None →
             self.new.publisher.now.sent ≡ length self.new.publisher.now.journal.messages) }
         ensures same { IsSame self.old self.new }
@@ -110,16 +116,21 @@ impl<'a, 'p, D: Datagrams> Publication<'a, 'p, D> {
     {
         front_law();
         packing_law();
-        let mut lines = Lines::new(self.alloc)?;
-        let mut message = Vec::new(self.alloc);
+        let mut messages = M::new(self.alloc)?;
         'publishing: loop {
-            match fill(self.publisher, &mut lines, source, &mut message)? {
+            match fill(self.publisher, &mut messages, source)? {
                 Filled::Full => self.send_next(),
                 Filled::End => {
                     self.send_next();
                     return Ok(None);
                 }
-                Filled::Refused { why } => return Ok(Some(why)),
+                Filled::Refused { refusal } => match refusal.kind {
+                    InputKind::Lines => return Ok(Some(refusal)),
+                    InputKind::Blocks => {
+                        self.send_next();
+                        return Ok(Some(refusal));
+                    }
+                },
             }
         }
     }
@@ -169,12 +180,12 @@ impl<'a, 'p, D: Datagrams> Publication<'a, 'p, D> {
         self.send_ends(ends);
     }
 
-    /// Publishes the lines of the source as messages of an open publisher without messages, and sends them. Then it
-    /// sends the heartbeats, closes the session, sends the end packets, saves the journal in `journal_sink`, and
+    /// Publishes the messages of the source with an open publisher without messages, and sends them. Then it sends the
+    /// heartbeats, closes the session, sends the end packets, saves the journal in `journal_sink`, and
     /// prints the last line. Returns the status 0.
     ///
-    /// If a line is refused, it stops there: it prints the line of the refusal and returns the status 2.
-    pub(crate) fn publish<S: Source, K: Sink, J: Sink>(
+    /// If an entry is refused, it stops there: it prints the line of the refusal and returns the status 2.
+    pub(crate) fn publish<M: MessageReader, S: Source, K: Sink, J: Sink>(
         &mut self,
         closing: Closing,
         source: &mut S,
@@ -185,24 +196,26 @@ impl<'a, 'p, D: Datagrams> Publication<'a, 'p, D> {
         requires empty { self.old.publisher.now.journal.messages ≡ [] }
         requires unsent { self.old.datagrams ≡ 0 }
         requires quiet { self.old.two_lines.outgoing.now ≡ nothing_out }
-        ensures run { D.modeled ≡ true → IfSome (S.left source.old) (λ input. PublishRun
+        ensures run { D.modeled ≡ true → IfSome (known_input M.input_kind M.entries
+            (S.left source.old)) (λ input. PublishRun
             self.old.two_lines.a.now self.old.two_lines.b.now
             closing.beats closing.ends self.old.publisher.now.limit
-            (lines_published self.old.publisher.now.journal (lines_of input))
+            (input_published self.old.publisher.now.journal input)
             result (D.port self.old.two_lines.port.now) (D.port self.new.two_lines.port.now)
             (K.held sink.old) (K.held sink.new) (J.held journal_sink.old) (J.held journal_sink.new)) }
-        ensures journal { IfOk result (λ _. D.modeled ≡ true → IfSome (S.left source.old) (λ input.
+        ensures journal { IfOk result (λ _. D.modeled ≡ true → IfSome (known_input M.input_kind M.entries
+            (S.left source.old)) (λ input.
             self.new.publisher.now.journal
-            ≡ left_journal (lines_published self.old.publisher.now.journal (lines_of input)))) }
+            ≡ left_journal (input_published self.old.publisher.now.journal input))) }
         ensures same { IsSame self.old self.new }
         ensures failures { CountsPublish (S.failed source.old) (S.failed source.new) (K.failed sink.old)
             (K.failed sink.new) (J.failed journal_sink.old) (J.failed journal_sink.new) result }
     {
         publisher_holds(self.publisher);
         packet_length_law();
-        if let Some(why) = self.send_lines(source)? {
+        if let Some(refusal) = self.send_messages::<M, S>(source)? {
             let number = self.publisher.journal().next();
-            print_line_refused(self.two_lines.outgoing, number, why)?;
+            print_message_refused(self.two_lines.outgoing, number, refusal)?;
             self.two_lines.outgoing.send(sink)?;
             return Ok(2);
         }

@@ -19,8 +19,9 @@ use Rattle.mold_session.specs.declared.error.AppendError.{AppendError}
 use Rattle.mold_session.specs.declared.error.AppendError.TheVariants.{Closed, TooLong, Full}
 use Rattle.mold_session.specs.declared.error.FileError.{FileError}
 use Rattle.mold_session.specs.declared.loading.FileHead.{FileHead}
-use Rattle.mold_publish.specs.Publishing.{PublishedLines, line_outcome, lines_published, published_from, unless_refused}
-use Rattle.mold_publish.specs.declared.line_refusal.LineRefusal.{LineRefusal}
+use Rattle.mold_input.specs.declared.input_kind.InputKind.TheVariants.{Lines}
+use Rattle.mold_publish.specs.Publishing.{PublishedInput, line_outcome, lines_published, published_from, unless_refused}
+use Rattle.mold_publish.specs.declared.message_refusal.MessageRefusal.{MessageRefusal}
 use Rattle.mold_text.specs.Line.{joined}
 use Rattle.mold_show.specs.Dump.{dump_text, dumped, fault_line, message_line, message_lines}
 
@@ -134,20 +135,20 @@ all_published : (messages : List (List ℕ)) (journal : JournalState) → journa
 unfolding lines_published
 all_published [] journal opened are within few =
     ap (λ (ms : List (List ℕ)).
-    let published : PublishedLines = record { journal = record journal { messages = ms }; refused = None } in published)
+    let published : PublishedInput = record { journal = record journal { messages = ms }; refused = None } in published)
     (sym (append-nil journal.messages))
 all_published (message ∷ messages) journal opened are within few =
     let short : length message ≤ journal.max_message = within.0 in
     let outcome : line_outcome journal (decode_of (encode_lower message)) ≡ Ok message =
     ap (line_outcome journal) (decode_of-encode_lower message are.0)
-    ∙ ap (unless_refused message) (not_refused journal message opened short (omega (arith, few)))
+    ∙ ap (unless_refused Lines message) (not_refused journal message opened short (omega (arith, few)))
     in
-    ap (λ (r : Result (List ℕ) LineRefusal).
+    ap (λ (r : Result (List ℕ) MessageRefusal).
     published_from journal r (λ next. lines_published next (map encode_lower messages))) outcome
     ∙ all_published messages (appended journal message) opened are.1 within.1
     (omega (arith, few, length-append journal.messages (message ∷ [])))
     ∙ ap (λ (ms : List (List ℕ)).
-    let published : PublishedLines = record { journal = record journal { messages = ms }; refused = None } in published)
+    let published : PublishedInput = record { journal = record journal { messages = ms }; refused = None } in published)
     (append_assoc journal.messages (message ∷ []) messages)
 
 -- ---- the law

@@ -1,37 +1,52 @@
 -- What `mold pack` prints for its input.
-use Rattle.std.specs.Prelude.{ℕ, ◌+◌, List, ◌++◌, length, Option, None, Some}
-use Rattle.mold_devices.specs.Lines.{lines_of}
+use Rattle.std.specs.Prelude.{ℕ, ◌+◌, List, [], ◌++◌, length, Option, None, Some}
 use Rattle.mold_devices.specs.Turns.{Printing}
+use Rattle.mold_input.specs.Entries.{Entry, line_entries}
+use Rattle.mold_input.specs.declared.input_kind.InputKind.{InputKind}
+use Rattle.mold_input.specs.declared.input_kind.InputKind.TheVariants.{Lines, Blocks}
 use Rattle.mold_session.specs.Journal.{JournalState}
-use Rattle.mold_session.specs.Publisher.{PublisherState, fresh_publisher}
+use Rattle.mold_session.specs.Publisher.{PublisherState, after_datagram, fresh_publisher, next_datagram}
 use Rattle.mold_wire.specs.declared.session.Session.{Session}
-use Rattle.mold_show.specs.Packets.{packet_line, packet_lines}
-use Rattle.mold_publish.specs.Publishing.{lines_published, packed_status, refused_text}
-use Rattle.mold_publish.specs.Sending.{all_but_last, end_packet, packets_after}
-use Rattle.mold_publish.specs.declared.line_refusal.LineRefusal.{LineRefusal}
+use Rattle.mold_show.specs.Packets.{line_of_some, packet_line, packet_lines}
+use Rattle.mold_publish.specs.Publishing.{input_published, packed_status, refused_text}
+use Rattle.mold_publish.specs.Sending.{end_packet, packets_after, packets_before}
+use Rattle.mold_publish.specs.declared.message_refusal.MessageRefusal.{MessageRefusal}
 
--- What is printed for the messages after the first `sent` ones: their data packets and the end packet. If the
--- line after the last message is refused, it is all data packets except the last one, and why the line is
+-- What is printed for the messages after the first `sent` ones: their data packets and the end packet. If the entry
+-- after the last message is refused, it is the data packets that are sent before a refusal, and why the entry is
 -- refused.
-abbrev pub packed_text : ℕ → ℕ → JournalState → Option LineRefusal → List ℕ
+abbrev pub packed_text : ℕ → ℕ → JournalState → Option MessageRefusal → List ℕ
 packed_text limit sent journal None =
     packet_lines (packets_after limit sent journal) ++ packet_line (end_packet journal)
-packed_text limit sent journal (Some why) =
-    packet_lines (all_but_last (packets_after limit sent journal)) ++ refused_text (length journal.messages + 1) why
+packed_text limit sent journal (Some refusal) =
+    packet_lines (packets_before refusal.kind (packets_after limit sent journal))
+    ++ refused_text (length journal.messages + 1) refusal
 
--- What a publisher prints for the remaining lines, and its exit status.
-abbrev pub pack_printing : PublisherState → Printing
-pack_printing publisher = record {
-  text = λ input. let published = lines_published publisher.journal (lines_of input) in
+-- What a publisher prints for the remaining input of this kind, and its exit status. `entries` determines how the bytes
+-- encode messages.
+abbrev pub pack_printing : InputKind → (List ℕ → List Entry) → PublisherState → Printing
+pack_printing kind entries publisher = record {
+  text = λ input. let published = input_published publisher.journal (record { kind = kind; entries = entries input }) in
       packed_text publisher.limit publisher.sent published.journal published.refused;
-  status = λ input. packed_status (lines_published publisher.journal (lines_of input)).refused;
+  status = λ input.
+      packed_status (input_published publisher.journal (record { kind = kind; entries = entries input })).refused;
 }
 
--- What is printed for the whole input. The lines before the first refused one are the messages of the session.
+-- What is printed for a whole input of lines. The lines before the first refused one are the messages of the session.
 -- The first message has number 1.
 unfoldable pub pack_text : Session → ℕ → List ℕ → List ℕ
-pack_text session limit input = (pack_printing (fresh_publisher session limit)).text input
+pack_text session limit input = (pack_printing Lines line_entries (fresh_publisher session limit)).text input
 
--- The exit status for the whole input.
+-- The exit status for a whole input of lines.
 unfoldable pub pack_status : Session → ℕ → List ℕ → ℕ
-pack_status session limit input = (pack_printing (fresh_publisher session limit)).status input
+pack_status session limit input = (pack_printing Lines line_entries (fresh_publisher session limit)).status input
+
+-- The line of the datagram that is printed before a refusal. Of an input of lines there is none.
+abbrev pub line_before : InputKind → PublisherState → List ℕ
+line_before Lines publisher = []
+line_before Blocks publisher = line_of_some (next_datagram publisher)
+
+-- The publisher after that datagram.
+abbrev pub left_before : InputKind → PublisherState → PublisherState
+left_before Lines publisher = publisher
+left_before Blocks publisher = after_datagram publisher

@@ -1,4 +1,4 @@
-//! The law of this crate: a theorem about the definitions alone. It is a function that does nothing, and its
+//! The laws of this crate: theorems about the definitions alone. Each is a function that does nothing, and its
 //! contract is the theorem.
 
 ghost use Rattle.std.specs.Prelude.{◌≡◌, ◌-◌, ◌≤◌, ℕ, List, None, length};
@@ -6,14 +6,33 @@ ghost use Rattle.std.specs.List.{AllByRecursion};
 ghost use Rattle.mold_wire.specs.Block.{IsBytes};
 ghost use Rattle.mold_wire.specs.declared.limits.TheConstants.{MESSAGE_OVERHEAD};
 ghost use Rattle.mold_devices.specs.Lines.{lines_of};
-ghost use Rattle.mold_publish.specs.Publishing.{lines_published};
+ghost use Rattle.mold_publish.specs.Publishing.{lines_published, packed_status};
 ghost use Rattle.mold_session.specs.Contents.{FileContents};
 ghost use Rattle.mold_session.specs.Journal.{IsWithin, fresh_journal};
 ghost use Rattle.mold_session.specs.Loading.{SpellsFile};
 ghost use Rattle.mold_session.specs.declared.loading.FileHead.{FileHead};
+ghost use Rattle.mold_session.specs.Publisher.{fresh_publisher};
 ghost use Rattle.mold_show.specs.Dump.{dump_text};
+ghost use Rattle.mold_show.specs.Pack.{pack_status, pack_text, packed_text};
+ghost use Rattle.mold_wire.specs.declared.session.Session.{Session};
 
+use mold_publish::laws::lines_published_law;
 use mold_session::laws::contents_law;
+
+/// What `pack` prints for an input of lines, stated over the lines: the packets of the messages that they are published
+/// as, and the first refusal.
+pub fn pack_lines_law()
+    ensures text { (session : Session) (limit : ℕ) (input : List ℕ) →
+        let publisher = fresh_publisher session limit in
+        let published = lines_published publisher.journal (lines_of input) in
+        pack_text session limit input
+        ≡ packed_text publisher.limit publisher.sent published.journal published.refused }
+    ensures status { (session : Session) (limit : ℕ) (input : List ℕ) →
+        pack_status session limit input
+        ≡ packed_status (lines_published (fresh_publisher session limit).journal (lines_of input)).refused }
+{
+    lines_published_law();
+}
 
 /// If the lines that `dump` prints for a journal's file are published, the new journal has the same messages. The
 /// session must have the same name, and its limit must be at least `MESSAGE_OVERHEAD` bytes more than each

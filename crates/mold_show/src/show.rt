@@ -113,6 +113,8 @@ impl Show {
 impl LineCommand for Show {
     ghost use Rattle.mold_show.specs.Show.{show_printing};
 
+    type Reader = Lines;
+
     ghost prints = { show_printing };
 
     fn turn<S: Source>(

@@ -117,6 +117,8 @@ impl Sim {
 impl LineCommand for Sim {
     ghost use Rattle.mold_sim.specs.Sim.{sim_printing};
 
+    type Reader = Lines;
+
     ghost prints = { sim_printing };
 
     fn turn<S: Source>(

@@ -6,6 +6,7 @@ ghost use Rattle.mold_wiring.specs.Addresses.{IsSocketOf};
 
 use crate::options::{listen_options, publish_options, serve_turns};
 use mold_devices::{CommandFault, FromRead, IntoWrite, NewFile};
+use mold_input::HexLines;
 use mold_listen::{ListenPorts, listen};
 use mold_ports::UdpPort;
 use mold_send::{PublishDevices, publish};
@@ -128,7 +129,13 @@ fn publish_on(
         journal: IntoWrite::new(NewFile::new(rt, order.journal.as_str())),
     };
     let options = publish_options(order);
-    let outcome = publish(rt.alloc(), port, options, &mut publisher, &mut devices);
+    let outcome = publish::<HexLines, _, _, _, _>(
+        rt.alloc(),
+        port,
+        options,
+        &mut publisher,
+        &mut devices,
+    );
     let PublishDevices { sink, .. } = devices;
     flushed(outcome, sink.into_inner().flush())
 }

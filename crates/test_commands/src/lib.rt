@@ -14,6 +14,8 @@ mod orders;
 #[cfg(test)]
 mod pack;
 #[cfg(test)]
+mod pack_blocks;
+#[cfg(test)]
 mod running;
 #[cfg(test)]
 mod show;

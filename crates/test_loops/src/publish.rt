@@ -6,6 +6,7 @@ ghost use Rattle.std.specs.Prelude.{◌≡◌, [], false, IfOk};
 use crate::comparisons::{begins_with, same_bytes, same_number, same_outcome, same_size};
 use crate::scripts::{Sent, expect_sent, expect_sent_prefix, silent};
 use mold_devices::{CommandFault, MemorySink, MemorySource, Sink};
+use mold_input::HexLines;
 use mold_ports::{Datagrams, MemoryPort};
 use mold_send::publish_loop;
 use mold_session::Publisher;
@@ -75,7 +76,7 @@ fn plan(devices: &mut Devices<'_>, case: &Case) {
 // Publishes on lines 1 and 2, with one heartbeat and one end packet on each.
 fn publish(alloc: Global, devices: &mut Devices<'_>) -> Result<Result<u8, CommandFault>, Fail> {
     let mut publisher = new_publisher(alloc)?;
-    Ok(publish_loop(
+    Ok(publish_loop::<HexLines, _, _, _, _>(
         alloc,
         &mut devices.port,
         1,

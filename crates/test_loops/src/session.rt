@@ -8,6 +8,7 @@ ghost use Rattle.mold_publish.specs.Publishing.{HasRoom};
 use crate::comparisons::{same_bytes, same_outcome, same_size};
 use crate::scripts::{Given, PEER, Sent, expect_sent, give, silent};
 use mold_devices::{CommandFault, MemorySink, MemorySource};
+use mold_input::HexLines;
 use mold_listen::Printer;
 use mold_loop::{Drops, Listener, LoopOptions, LoopParts, LoopPeers, LoopPorts, session_loop};
 use mold_ports::MemoryPort;
@@ -168,7 +169,7 @@ fn run(
     let mut source = MemorySource::new(case.lines);
     source.at_most(THREE_LINES);
     source.fail_at(case.read_fails);
-    Ok(session_loop(ports, &options, &mut parts, &mut source, sink))
+    Ok(session_loop::<HexLines, _, _, _>(ports, &options, &mut parts, &mut source, sink))
 }
 
 fn expect_ports(rt: &impl Abort, ports: &LoopPorts<MemoryPort>, case: &Case, at: usize) {

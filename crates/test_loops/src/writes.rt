@@ -10,6 +10,7 @@ use crate::session::{
     ALL, END, FIVE, LINES, ONE_AND_TWO, PEERS, REQUEST, THREE_AND_FOUR, new_parts, silent_ports,
 };
 use mold_devices::{CommandFault, IntoWrite, MemorySink, MemorySource, Sink};
+use mold_input::HexLines;
 use mold_listen::listen_loop;
 use mold_loop::{Drops, LoopOptions, LoopPorts, session_loop};
 use mold_ports::{Datagrams, MemoryPort, Step};
@@ -251,7 +252,7 @@ fn publish_on<K: Sink>(
     };
     let mut parts = new_parts(alloc)?;
     let mut source = MemorySource::new(LINES);
-    Ok(session_loop(ports, &options, &mut parts, &mut source, sink))
+    Ok(session_loop::<HexLines, _, _, _>(ports, &options, &mut parts, &mut source, sink))
 }
 
 // Nothing is dropped. The sink has room for the lines of the first packet.

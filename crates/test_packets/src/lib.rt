@@ -1,4 +1,4 @@
-//! Tests of `mold_wire`, `mold_devices`, `mold_messages`, `mold_digits`, `mold_text`, `mold_ports`.
+//! Tests of `mold_wire`, `mold_devices`, `mold_messages`, `mold_digits`, `mold_input`, `mold_text`, `mold_ports`.
 #![tactic(auto)]
 
 #[cfg(test)]
@@ -7,6 +7,8 @@ mod comparisons;
 mod devices;
 #[cfg(test)]
 mod digits;
+#[cfg(test)]
+mod input;
 #[cfg(test)]
 mod messages;
 #[cfg(test)]

@@ -16,7 +16,7 @@ invariant-turns g l =
     in
     let now : Moment = record {
       prints = g.C.LineCommand.prints l.command;
-      left = prepend_known l.lines.rest (g.S.Source.left l.source);
+      left = prepend_known (g.C.Reader.InputReader.unread l.reader) (g.S.Source.left l.source);
       held = g.K.Sink.held l.sink;
       text = l.text.items;
     }
@@ -28,4 +28,4 @@ invariant-turns g l =
     }
 
 abbrev pub decreases-turns : goal.decreases-turns
-decreases-turns g l = work_left (g.S.Source.bound l.source) l.lines.rest
+decreases-turns g l = work_left (g.S.Source.bound l.source) (g.C.Reader.InputReader.unread l.reader)

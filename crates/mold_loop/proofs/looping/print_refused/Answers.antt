@@ -8,31 +8,31 @@ use Rattle.mold_loop.proofs.looping.print_refused.Goals as goal
 
 pub returns-in_err-send-clause-front : goal.returns-in_err-send-clause-front
 returns-in_err-send-clause-front g c =
-    front_more _ _ c.args.outgoing.now.text (refused_text c.args.number c.args.why) c.send.ensures.front
+    front_more _ _ c.args.outgoing.now.text (refused_text c.args.number c.args.refusal) c.send.ensures.front
 
-pub returns-in_err-print_line_refused-clause-front : goal.returns-in_err-print_line_refused-clause-front
-returns-in_err-print_line_refused-clause-front g c =
-    front_whole _ _ c.args.outgoing.now.text (refused_text c.args.number c.args.why) c.in_ok-send.ensures.whole
+pub returns-in_err-print_message_refused-clause-front : goal.returns-in_err-print_message_refused-clause-front
+returns-in_err-print_message_refused-clause-front g c =
+    front_whole _ _ c.args.outgoing.now.text (refused_text c.args.number c.args.refusal) c.in_ok-send.ensures.whole
 
 pub returns-in_err-send-2-clause-front : goal.returns-in_err-send-2-clause-front
 returns-in_err-send-2-clause-front g c =
-    let line = refused_text c.args.number c.args.why in
-    front_behind _ _ _ c.args.outgoing.now.text c.print_line_refused.new.outgoing.text line c.in_ok-send.ensures.whole
-    (ap (λ (o : OutgoingState). o.text) c.in_ok-print_line_refused.ensures ∙ ap (λ (l : List ℕ). l ++ line) c.in_ok-send.ensures.empty)
+    let line = refused_text c.args.number c.args.refusal in
+    front_behind _ _ _ c.args.outgoing.now.text c.print_message_refused.new.outgoing.text line c.in_ok-send.ensures.whole
+    (ap (λ (o : OutgoingState). o.text) c.in_ok-print_message_refused.ensures ∙ ap (λ (l : List ℕ). l ++ line) c.in_ok-send.ensures.empty)
     c.send-2.ensures.front
 
 pub returns-clause-front : goal.returns-clause-front
 returns-clause-front g c =
-    let line = refused_text c.args.number c.args.why in
-    front_behind _ _ _ c.args.outgoing.now.text c.print_line_refused.new.outgoing.text line c.in_ok-send.ensures.whole
-    (ap (λ (o : OutgoingState). o.text) c.in_ok-print_line_refused.ensures ∙ ap (λ (l : List ℕ). l ++ line) c.in_ok-send.ensures.empty)
+    let line = refused_text c.args.number c.args.refusal in
+    front_behind _ _ _ c.args.outgoing.now.text c.print_message_refused.new.outgoing.text line c.in_ok-send.ensures.whole
+    (ap (λ (o : OutgoingState). o.text) c.in_ok-print_message_refused.ensures ∙ ap (λ (l : List ℕ). l ++ line) c.in_ok-send.ensures.empty)
     c.send-2.ensures.front
 
 pub returns-clause-whole : goal.returns-clause-whole
 returns-clause-whole g c =
-    let line = refused_text c.args.number c.args.why in (
-      whole_behind _ _ _ c.args.outgoing.now.text c.print_line_refused.new.outgoing.text line c.in_ok-send.ensures.whole
-          (ap (λ (o : OutgoingState). o.text) c.in_ok-print_line_refused.ensures ∙ ap (λ (l : List ℕ). l ++ line) c.in_ok-send.ensures.empty)
+    let line = refused_text c.args.number c.args.refusal in (
+      whole_behind _ _ _ c.args.outgoing.now.text c.print_message_refused.new.outgoing.text line c.in_ok-send.ensures.whole
+          (ap (λ (o : OutgoingState). o.text) c.in_ok-print_message_refused.ensures ∙ ap (λ (l : List ℕ). l ++ line) c.in_ok-send.ensures.empty)
           c.in_ok-send-2.ensures.whole,
       refl,
     )
@@ -40,7 +40,7 @@ returns-clause-whole g c =
 pub returns-clause-left : goal.returns-clause-left
 returns-clause-left g c =
     all_written c.args.outgoing.now c.send-2.new.self c.in_ok-send-2.ensures.empty
-    (c.send-2.ensures.failures ∙ ap (λ (o : OutgoingState). o.failures) c.in_ok-print_line_refused.ensures
+    (c.send-2.ensures.failures ∙ ap (λ (o : OutgoingState). o.failures) c.in_ok-print_message_refused.ensures
     ∙ c.send.ensures.failures)
 
 -- a fault of the sink is not one of memory

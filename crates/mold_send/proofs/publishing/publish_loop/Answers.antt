@@ -11,7 +11,7 @@ returns-clause-run g c modeled =
 
 pub returns-clause-journal : goal.returns-clause-journal
 returns-clause-journal g c =
-    left_so c.args.publisher.now (g.S.Source.left c.args.source.now) c.publish.result
+    left_so c.args.publisher.now _ c.publish.result
     (g.D.Datagrams.modeled ≡ true) c.publish.new.self.publisher.now.journal _
     (let same = sym c.publish.ensures.same.publisher in search rules)
     c.publish.ensures.journal

@@ -25,25 +25,25 @@ returns-in_err-refused-clause-run g c modeled =
     let feed = c.args.self.now in
     let peers = feed.options.now.peers in
     loop_unreceived feed.options.now.reporting feed.options.now.drops peers.a peers.b peers.server feed.options.now.turns c.args.publisher.now
-    c.pass_lines.new.publisher c.args.server.now (lines port feed) (rounds port c.args.server.now feed) _
-    c.pass_lines.result c.from_residual.result _ _ (lines port c.pass_lines.new.self)
-    (rounds port c.args.server.now c.pass_lines.new.self) c.from_residual.ensures.0
-    (ap port c.pass_lines.ensures.only.server) (ap port c.pass_lines.ensures.only.requests)
-    (c.pass_lines.ensures.received modeled)
+    c.pass_messages.new.publisher c.args.server.now (lines port feed) (rounds port c.args.server.now feed) _
+    c.pass_messages.result c.from_residual.result _ _ (lines port c.pass_messages.new.self)
+    (rounds port c.args.server.now c.pass_messages.new.self) c.from_residual.ensures.0
+    (ap port c.pass_messages.ensures.only.server) (ap port c.pass_messages.ensures.only.requests)
+    (c.pass_messages.ensures.received modeled)
 
 pub returns-in-Some-clause-run : goal.returns-in-Some-clause-run
 returns-in-Some-clause-run g c modeled =
     let port = g.D.Datagrams.port in
     let feed = c.args.self.now in
     let peers = feed.options.now.peers in
-    let here = lines port c.pass_lines.new.self in
+    let here = lines port c.pass_messages.new.self in
     let here_left = line_state here.publisher here.a here.b here.progress.arbitration c.print_refused.new.outgoing in
-    let behind = rounds port c.args.server.now c.pass_lines.new.self in
+    let behind = rounds port c.args.server.now c.pass_messages.new.self in
     let left = repair_state behind.server behind.requests c.args.server.now here.progress.arbitration
     c.print_refused.new.outgoing in
     loop_stopped feed.options.now.reporting feed.options.now.drops peers.a peers.b peers.server feed.options.now.turns c.args.publisher.now
-    c.pass_lines.new.publisher c.args.server.now (lines port feed) (rounds port c.args.server.now feed) _
-    c.in-Some.why c.next-number.result c.print_refused.result
+    c.pass_messages.new.publisher c.args.server.now (lines port feed) (rounds port c.args.server.now feed) _
+    c.in-Some.refusal c.next-number.result c.print_refused.result
     _ _ _ here here_left left
     (rw c.in-Some.is at (c.in_ok-refused.ensures.received modeled))
     (rw c.journal.ensures at c.next-number.ensures.value)
@@ -52,8 +52,8 @@ returns-in-Some-clause-run g c modeled =
       publisher_left = refl;
       a_left = refl;
       b_left = refl;
-      server_left = ap port c.pass_lines.ensures.only.server;
-      requests_left = ap port c.pass_lines.ensures.only.requests;
+      server_left = ap port c.pass_messages.ensures.only.server;
+      requests_left = ap port c.pass_messages.ensures.only.requests;
       answered_left = refl;
       arbiter_left = refl;
     })
@@ -65,15 +65,15 @@ returns-in_err-write_end-clause-run g c modeled =
     let feed = c.args.self.now in
     let peers = feed.options.now.peers in
     loop_unended feed.options.now.reporting feed.options.now.drops peers.a peers.b peers.server feed.options.now.turns c.args.publisher.now
-    c.pass_lines.new.publisher c.args.server.now (lines port feed) (rounds port c.args.server.now feed) _
-    c.write_end.result c.from_residual-in_err-write_end.result _ _ _ (lines port c.pass_lines.new.self)
+    c.pass_messages.new.publisher c.args.server.now (lines port feed) (rounds port c.args.server.now feed) _
+    c.write_end.result c.from_residual-in_err-write_end.result _ _ _ (lines port c.pass_messages.new.self)
     (lines port c.write_end.new.self) (rounds port c.args.server.now c.write_end.new.self)
     (rw c.in_default.is at (c.in_ok-refused.ensures.received modeled))
-    (passed_from port (routed_end c.pass_lines.new.publisher.journal None) c.write_end.result c.write_end.new.self
-    c.pass_lines.ensures.only.same (c.write_end.ensures.passed modeled))
+    (passed_from port (routed_end c.pass_messages.new.publisher.journal None) c.write_end.result c.write_end.new.self
+    c.pass_messages.ensures.only.same (c.write_end.ensures.passed modeled))
     c.from_residual-in_err-write_end.ensures.0
-    (ap port (c.write_end.ensures.only.server ∙ c.pass_lines.ensures.only.server))
-    (ap port (c.write_end.ensures.only.requests ∙ c.pass_lines.ensures.only.requests))
+    (ap port (c.write_end.ensures.only.server ∙ c.pass_messages.ensures.only.server))
+    (ap port (c.write_end.ensures.only.requests ∙ c.pass_messages.ensures.only.requests))
 
 pub returns-in_err-repair_all-clause-run : goal.returns-in_err-repair_all-clause-run
 returns-in_err-repair_all-clause-run g c modeled =
@@ -83,20 +83,20 @@ returns-in_err-repair_all-clause-run g c modeled =
     let there = lines port c.write_end.new.self in
     let left = rounds port c.repair_all.new.server c.repair_all.new.self in
     loop_unrepaired feed.options.now.reporting feed.options.now.drops peers.a peers.b peers.server feed.options.now.turns c.args.publisher.now
-    c.pass_lines.new.publisher c.args.server.now (lines port feed) (rounds port c.args.server.now feed) _
+    c.pass_messages.new.publisher c.args.server.now (lines port feed) (rounds port c.args.server.now feed) _
     c.in_ok-write_end.field-0 c.repair_all.result c.from_residual-in_err-repair_all.result _ _ _ _
-    (lines port c.pass_lines.new.self) there (lines port c.repair_all.new.self) left
+    (lines port c.pass_messages.new.self) there (lines port c.repair_all.new.self) left
     (rw c.in_default.is at (c.in_ok-refused.ensures.received modeled))
-    (passed_from port (routed_end c.pass_lines.new.publisher.journal None) _ c.write_end.new.self
-    c.pass_lines.ensures.only.same (c.in_ok-write_end.ensures.passed modeled))
+    (passed_from port (routed_end c.pass_messages.new.publisher.journal None) _ c.write_end.new.self
+    c.pass_messages.ensures.only.same (c.in_ok-write_end.ensures.passed modeled))
     (rests_from peers.server c.args.server.now feed.options.now.turns _ _ _ _ there.progress.arbitration there.progress.outgoing
     (rounds port c.args.server.now feed) c.repair_all.result _ _ left
     (c.journal-journal.ensures ∙ ap (λ (p : PublisherState). p.journal) c.write_end.ensures.closed)
-    (ap port (c.write_end.ensures.only.server ∙ c.pass_lines.ensures.only.server))
-    (ap port (c.write_end.ensures.only.requests ∙ c.pass_lines.ensures.only.requests))
+    (ap port (c.write_end.ensures.only.server ∙ c.pass_messages.ensures.only.server))
+    (ap port (c.write_end.ensures.only.requests ∙ c.pass_messages.ensures.only.requests))
     refl
     (rounds_from (service_of c.journal-journal.result.now c.args.server.now)
-    (same_twice c.pass_lines.ensures.only.same c.write_end.ensures.only.same)
+    (same_twice c.pass_messages.ensures.only.same c.write_end.ensures.only.same)
     (c.repair_all.ensures.rests modeled)))
     c.from_residual-in_err-repair_all.ensures.0 (ap port c.repair_all.ensures.only.publisher)
 
@@ -113,20 +113,20 @@ returns-clause-run g c modeled =
     let left = repair_state behind.server behind.requests c.repair_all.new.server c.print_last.new.listener.arbiter
     c.print_last.new.listener.printer.outgoing in
     loop_done feed.options.now.reporting feed.options.now.drops peers.a peers.b peers.server feed.options.now.turns c.args.publisher.now
-    c.pass_lines.new.publisher c.args.server.now (lines port feed) (rounds port c.args.server.now feed) _
+    c.pass_messages.new.publisher c.args.server.now (lines port feed) (rounds port c.args.server.now feed) _
     c.in_ok-write_end.field-0 c.in_ok-repair_all.field-0 c.print_last.result _ _ _ _ _
-    (lines port c.pass_lines.new.self) there there_left behind left
+    (lines port c.pass_messages.new.self) there there_left behind left
     (rw c.in_default.is at (c.in_ok-refused.ensures.received modeled))
-    (passed_from port (routed_end c.pass_lines.new.publisher.journal None) _ c.write_end.new.self
-    c.pass_lines.ensures.only.same (c.in_ok-write_end.ensures.passed modeled))
+    (passed_from port (routed_end c.pass_messages.new.publisher.journal None) _ c.write_end.new.self
+    c.pass_messages.ensures.only.same (c.in_ok-write_end.ensures.passed modeled))
     (rests_from peers.server c.args.server.now feed.options.now.turns _ _ _ _ there.progress.arbitration there.progress.outgoing
     (rounds port c.args.server.now feed) _ _ _ behind
     (c.journal-journal.ensures ∙ ap (λ (p : PublisherState). p.journal) c.write_end.ensures.closed)
-    (ap port (c.write_end.ensures.only.server ∙ c.pass_lines.ensures.only.server))
-    (ap port (c.write_end.ensures.only.requests ∙ c.pass_lines.ensures.only.requests))
+    (ap port (c.write_end.ensures.only.server ∙ c.pass_messages.ensures.only.server))
+    (ap port (c.write_end.ensures.only.requests ∙ c.pass_messages.ensures.only.requests))
     refl
     (rounds_from (service_of c.journal-journal.result.now c.args.server.now)
-    (same_twice c.pass_lines.ensures.only.same c.write_end.ensures.only.same)
+    (same_twice c.pass_messages.ensures.only.same c.write_end.ensures.only.same)
     (c.in_ok-repair_all.ensures.rests modeled)))
     c.print_last.ensures.front c.print_last.ensures.whole
     (record {
@@ -144,14 +144,14 @@ pub returns-in-Some-clause-journal : goal.returns-in-Some-clause-journal
 returns-in-Some-clause-journal g c modeled =
     let feed = c.args.self.now in
     on_ok c.print_refused.result
-    (journal_left feed.options.now.drops feed.options.now.peers.a feed.options.now.peers.b c.args.publisher.now c.pass_lines.new.publisher _
-    (Some c.in-Some.why) _ _ _ _ _ (rw c.in-Some.is at (c.in_ok-refused.ensures.received modeled)) refl)
+    (journal_left feed.options.now.drops feed.options.now.peers.a feed.options.now.peers.b c.args.publisher.now c.pass_messages.new.publisher _
+    (Some c.in-Some.refusal) _ _ _ _ _ (rw c.in-Some.is at (c.in_ok-refused.ensures.received modeled)) refl)
 
 pub returns-clause-journal : goal.returns-clause-journal
 returns-clause-journal g c modeled =
     let feed = c.args.self.now in
     on_ok c.print_last.result
-    (journal_left feed.options.now.drops feed.options.now.peers.a feed.options.now.peers.b c.args.publisher.now c.pass_lines.new.publisher _
+    (journal_left feed.options.now.drops feed.options.now.peers.a feed.options.now.peers.b c.args.publisher.now c.pass_messages.new.publisher _
     None _ _ _ _ _ (rw c.in_default.is at (c.in_ok-refused.ensures.received modeled))
     (ap (λ (p : PublisherState). p.journal) c.write_end.ensures.closed))
 
@@ -164,41 +164,41 @@ returns-clause-limit g c =
     (ap (λ (p : PublisherState). p.limit) c.write_end.ensures.closed ∙ c.in_ok-refused.ensures.limit)
 
 pub returns-in_err-write_end-clause-a : goal.returns-in_err-write_end-clause-a
-returns-in_err-write_end-clause-a g c modeled = c.write_end.ensures.only.a modeled ∙ c.pass_lines.ensures.only.a modeled
+returns-in_err-write_end-clause-a g c modeled = c.write_end.ensures.only.a modeled ∙ c.pass_messages.ensures.only.a modeled
 
 pub returns-in_err-repair_all-clause-a : goal.returns-in_err-repair_all-clause-a
 returns-in_err-repair_all-clause-a g c modeled =
     ap (λ (p : Port _). p.sent) (ap g.D.Datagrams.port c.repair_all.ensures.only.a)
     ∙ c.write_end.ensures.only.a modeled
-    ∙ c.pass_lines.ensures.only.a modeled
+    ∙ c.pass_messages.ensures.only.a modeled
 
 pub returns-clause-a : goal.returns-clause-a
 returns-clause-a g c modeled =
     ap (λ (p : Port _). p.sent) (ap g.D.Datagrams.port c.repair_all.ensures.only.a)
     ∙ c.write_end.ensures.only.a modeled
-    ∙ c.pass_lines.ensures.only.a modeled
+    ∙ c.pass_messages.ensures.only.a modeled
 
 pub returns-in_err-write_end-clause-b : goal.returns-in_err-write_end-clause-b
-returns-in_err-write_end-clause-b g c modeled = c.write_end.ensures.only.b modeled ∙ c.pass_lines.ensures.only.b modeled
+returns-in_err-write_end-clause-b g c modeled = c.write_end.ensures.only.b modeled ∙ c.pass_messages.ensures.only.b modeled
 
 pub returns-in_err-repair_all-clause-b : goal.returns-in_err-repair_all-clause-b
 returns-in_err-repair_all-clause-b g c modeled =
     ap (λ (p : Port _). p.sent) (ap g.D.Datagrams.port c.repair_all.ensures.only.b)
     ∙ c.write_end.ensures.only.b modeled
-    ∙ c.pass_lines.ensures.only.b modeled
+    ∙ c.pass_messages.ensures.only.b modeled
 
 pub returns-clause-b : goal.returns-clause-b
 returns-clause-b g c modeled =
     ap (λ (p : Port _). p.sent) (ap g.D.Datagrams.port c.repair_all.ensures.only.b)
     ∙ c.write_end.ensures.only.b modeled
-    ∙ c.pass_lines.ensures.only.b modeled
+    ∙ c.pass_messages.ensures.only.b modeled
 
 pub returns-in_err-refused-clause-same : goal.returns-in_err-refused-clause-same
-returns-in_err-refused-clause-same g c = c.pass_lines.ensures.only.same
+returns-in_err-refused-clause-same g c = c.pass_messages.ensures.only.same
 
 pub returns-in-Some-clause-same : goal.returns-in-Some-clause-same
 returns-in-Some-clause-same g c =
-    let same = c.pass_lines.ensures.only.same in
+    let same = c.pass_messages.ensures.only.same in
     record {
       ports = same.ports;
       options = same.options;
@@ -207,15 +207,15 @@ returns-in-Some-clause-same g c =
     }
 
 pub returns-in_err-write_end-clause-same : goal.returns-in_err-write_end-clause-same
-returns-in_err-write_end-clause-same g c = same_twice c.pass_lines.ensures.only.same c.write_end.ensures.only.same
+returns-in_err-write_end-clause-same g c = same_twice c.pass_messages.ensures.only.same c.write_end.ensures.only.same
 
 pub returns-in_err-repair_all-clause-same : goal.returns-in_err-repair_all-clause-same
 returns-in_err-repair_all-clause-same g c =
-    same_twice (same_twice c.pass_lines.ensures.only.same c.write_end.ensures.only.same) c.repair_all.ensures.only.same
+    same_twice (same_twice c.pass_messages.ensures.only.same c.write_end.ensures.only.same) c.repair_all.ensures.only.same
 
 pub returns-clause-same : goal.returns-clause-same
 returns-clause-same g c =
-    let same = same_twice (same_twice c.pass_lines.ensures.only.same c.write_end.ensures.only.same)
+    let same = same_twice (same_twice c.pass_messages.ensures.only.same c.write_end.ensures.only.same)
     c.repair_all.ensures.only.same in
     record {
       ports = same.ports;

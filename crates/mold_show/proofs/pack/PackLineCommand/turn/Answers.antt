@@ -1,5 +1,8 @@
 use Rattle.mold_publish.proofs.DatagramLemmas.{PackingLaws, full_room, room_behind, all_sent}
-use Rattle.mold_show.proofs.PackLemmas.{turn_full, turn_end, turn_refused}
+use Rattle.std.proofs.Common.{◌+◌, ◌∙◌, ap, length}
+use Rattle.mold_session.specs.Journal.{JournalState}
+use Rattle.mold_session.specs.Publisher.{PublisherState}
+use Rattle.mold_show.proofs.PackLemmas.{journal_before, room_before, turn_full, turn_end, turn_refused}
 use Rattle.mold_show.proofs.pack.PackLineCommand.turn.Given.{Over}
 use Rattle.mold_show.proofs.pack.PackLineCommand.turn.Goals as goal
 use Rattle.mold_show.proofs.pack.PackLineCommand.turn.Goals.{After-packing_law, In-Full, In-End}
@@ -55,7 +58,7 @@ invariant_of-self-in-End g c =
 pub returns-in_ok-push_datagram-in-Full-clause-told : goal.returns-in_ok-push_datagram-in-Full-clause-told
 returns-in_ok-push_datagram-in-Full-clause-told g c =
     rw (← c.self.view_is)
-    (turn_full (laws g (goal.at.returns-in_ok-push_datagram-in-Full-clause-told g c).After-packing_law)
+    (turn_full g.M.MessageReader.input_kind g.M.MessageReader.entries (laws g (goal.at.returns-in_ok-push_datagram-in-Full-clause-told g c).After-packing_law)
     _ c.fill.new.publisher _ _ _ _ _
     (rw c.in-Full.is at c.in_ok-fill.ensures.filled) c.push_datagram.ensures.sent
     c.in_ok-push_datagram-in-Full.ensures.text)
@@ -63,16 +66,41 @@ returns-in_ok-push_datagram-in-Full-clause-told g c =
 pub returns-in_ok-push_end-in-End-clause-told : goal.returns-in_ok-push_end-in-End-clause-told
 returns-in_ok-push_end-in-End-clause-told g c =
     rw (← c.self.view_is)
-    (turn_end (laws g (goal.at.returns-in_ok-push_end-in-End-clause-told g c).After-packing_law)
+    (turn_end g.M.MessageReader.input_kind g.M.MessageReader.entries (laws g (goal.at.returns-in_ok-push_end-in-End-clause-told g c).After-packing_law)
     _ c.fill.new.publisher _ _ _ _ c.push_datagram-in-End.new.out.items _
     (rw c.in-End.is at c.in_ok-fill.ensures.filled) c.in_ok-push_datagram-in-End.ensures.text
     (rw c.push_datagram-in-End.ensures.sent at c.in_ok-push_end-in-End.ensures.text))
 
-pub returns-in_ok-push_line_refused-in-Refused-clause-told : goal.returns-in_ok-push_line_refused-in-Refused-clause-told
-returns-in_ok-push_line_refused-in-Refused-clause-told g c =
+pub invariant_of-self-in_err-push_before-in-Refused : goal.invariant_of-self-in_err-push_before-in-Refused
+invariant_of-self-in_err-push_before-in-Refused g c =
+    let filled = rw c.in-Refused.is at c.in_ok-fill.ensures.filled in
+    rw c.push_before.ensures.left
+    (room_before (laws g (goal.at.invariant_of-self-in_err-push_before-in-Refused g c).After-packing_law) _ _ filled.room)
+
+pub invariant_of-self-in_err-push_message_refused-in-Refused : goal.invariant_of-self-in_err-push_message_refused-in-Refused
+invariant_of-self-in_err-push_message_refused-in-Refused g c =
+    let filled = rw c.in-Refused.is at c.in_ok-fill.ensures.filled in
+    rw c.push_before.ensures.left
+    (room_before (laws g (goal.at.invariant_of-self-in_err-push_message_refused-in-Refused g c).After-packing_law) _ _
+    filled.room)
+
+pub invariant_of-self-in-Refused : goal.invariant_of-self-in-Refused
+invariant_of-self-in-Refused g c =
+    let filled = rw c.in-Refused.is at c.in_ok-fill.ensures.filled in
+    rw c.push_before.ensures.left
+    (room_before (laws g (goal.at.invariant_of-self-in-Refused g c).After-packing_law) _ _ filled.room)
+
+pub returns-in_ok-push_message_refused-in-Refused-clause-told : goal.returns-in_ok-push_message_refused-in-Refused-clause-told
+returns-in_ok-push_message_refused-in-Refused-clause-told g c =
+    let now = c.fill.new.publisher in
+    let left = c.push_before.ensures.left in
     rw (← c.self.view_is)
-    (turn_refused (laws g (goal.at.returns-in_ok-push_line_refused-in-Refused-clause-told g c).After-packing_law)
-    _ c.fill.new.publisher _ _ _ _ _ c.next.result c.in-Refused.why
+    (turn_refused g.M.MessageReader.input_kind g.M.MessageReader.entries
+    (laws g (goal.at.returns-in_ok-push_message_refused-in-Refused-clause-told g c).After-packing_law)
+    _ now _ _ _ _ c.push_before.new.out.items _ c.next.result c.in-Refused.refusal
     (rw c.in-Refused.is at c.in_ok-fill.ensures.filled)
-    (rw c.journal.ensures at c.next.ensures.value)
-    c.in_ok-push_line_refused-in-Refused.ensures.text)
+    (c.next.ensures.value
+    ∙ ap (λ (j : JournalState). length j.messages + 1)
+    (c.journal.ensures ∙ ap (λ (p : PublisherState). p.journal) left ∙ journal_before c.in-Refused.refusal.kind now))
+    c.in_ok-push_before-in-Refused.ensures.text
+    c.in_ok-push_message_refused-in-Refused.ensures.text)

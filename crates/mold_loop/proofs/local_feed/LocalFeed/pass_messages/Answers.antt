@@ -6,20 +6,20 @@ use Rattle.mold_devices.specs.declared.fault.ReadFault.{ReadFault}
 use Rattle.mold_devices.specs.declared.fault.ReadFault.TheVariants.{Memory, Read}
 use Rattle.mold_devices.proofs.WritingLemmas.{ends_command, ends_front}
 use Rattle.mold_devices.specs.declared.fault.CommandFault.{CommandFault}
-use Rattle.mold_publish.specs.declared.line_refusal.LineRefusal.{LineRefusal}
+use Rattle.mold_publish.specs.declared.message_refusal.MessageRefusal.{MessageRefusal}
 use Rattle.mold_publish.proofs.DatagramLemmas.{PackingLaws, all_sent}
 use Rattle.mold_session.specs.Publisher.{PublisherState, next_datagram}
 use Rattle.mold_turns.proofs.FaultLemmas.{counts_behind, counts_same}
 use Rattle.mold_turns.specs.Outgoing.{IsBounded}
 use Rattle.mold_loop.specs.LocalFeed.{lines}
 use Rattle.mold_send.specs.PublishLoop.{spelled_some}
-use Rattle.mold_loop.proofs.HearsLemmas.{hears_end, hears_full, hears_last, hears_none, hears_refused, hears_unwritten}
+use Rattle.mold_loop.proofs.HearsLemmas.{hears_before, hears_end, hears_full, hears_last, hears_last_before, hears_none, hears_refused, hears_unwritten}
 use Rattle.mold_loop.proofs.HearsLemmas.{so_far_begun, so_far_full}
 use Rattle.mold_loop.proofs.LocalFeedLemmas.{next_passed, passes_at_first, passes_twice}
 use Rattle.mold_send.proofs.SendingLemmas.{full_went}
-use Rattle.mold_loop.proofs.local_feed.LocalFeed.pass_lines.Given.{Over}
-use Rattle.mold_loop.proofs.local_feed.LocalFeed.pass_lines.Goals as goal
-use Rattle.mold_loop.proofs.local_feed.LocalFeed.pass_lines.Goals.{After-packing_law}
+use Rattle.mold_loop.proofs.local_feed.LocalFeed.pass_messages.Given.{Over}
+use Rattle.mold_loop.proofs.local_feed.LocalFeed.pass_messages.Goals as goal
+use Rattle.mold_loop.proofs.local_feed.LocalFeed.pass_messages.Goals.{After-packing_law}
 
 laws : (g : Over) → After-packing_law g → PackingLaws
 laws g c = record {
@@ -38,8 +38,8 @@ passing-init g c = record {
   few = omega arith;
   received = λ modeled.
       let feed = c.args.self.now in
-      so_far_begun feed.options.now.drops feed.options.now.peers.a feed.options.now.peers.b c.args.publisher.now
-      (g.S.Source.left c.args.source.now) c.in_ok-lines.lines.rest _ _ c.in_ok-lines.ensures;
+      so_far_begun g.M.MessageReader.input_kind g.M.MessageReader.entries feed.options.now.drops feed.options.now.peers.a feed.options.now.peers.b c.args.publisher.now
+      (g.S.Source.left c.args.source.now) _ _ _ c.in_ok-messages.ensures;
   only = passes_at_first g.D.Datagrams.modeled g.D.Datagrams.port c.args.self.now;
   limit = refl;
   bounded = λ bounded. bounded;
@@ -83,8 +83,8 @@ returns-in-Ok-End-clause-all g c none =
     rw c.write_next-in-Ok-End.ensures.sent
     (all_sent (laws g (goal.at.returns-in-Ok-End-clause-all g c).After-packing_law) c.fill.new.publisher filled.room)
 
-pub returns-in_err-lines-clause-received : goal.returns-in_err-lines-clause-received
-returns-in_err-lines-clause-received g c modeled =
+pub returns-in_err-messages-clause-received : goal.returns-in_err-messages-clause-received
+returns-in_err-messages-clause-received g c modeled =
     let feed = c.args.self.now in
     hears_none feed.options.now.drops feed.options.now.peers.a feed.options.now.peers.b c.args.publisher.now c.args.publisher.now _
     c.from_residual.result _ _ c.from_residual.ensures.0
@@ -93,7 +93,7 @@ pub returns-in-Err-clause-received : goal.returns-in-Err-clause-received
 returns-in-Err-clause-received g c modeled =
     let feed = c.args.self.now in
     let here = lines g.D.Datagrams.port c.passing.self in
-    let result : Result (Option LineRefusal) CommandFault = Err c.end_with.result in
+    let result : Result (Option MessageRefusal) CommandFault = Err c.end_with.result in
     hears_unwritten feed.options.now.drops feed.options.now.peers.a feed.options.now.peers.b c.args.publisher.now
     c.passing.publisher c.fill.new.publisher _ _ result _ here _ _ _ _ c.passing.number
     (c.passing.invariant.received modeled) refl
@@ -178,13 +178,13 @@ returns-in-Ok-End-clause-received g c modeled =
     c.write_next-in-Ok-End.new.self c.passing.invariant.only.same (c.in_ok-write_next-in-Ok-End.ensures.passed modeled))
     c.write_next-in-Ok-End.ensures.sent
 
-pub returns-in-Ok-Refused-clause-received : goal.returns-in-Ok-Refused-clause-received
-returns-in-Ok-Refused-clause-received g c modeled =
+pub returns-in-Lines-clause-received : goal.returns-in-Lines-clause-received
+returns-in-Lines-clause-received g c modeled =
     let feed = c.args.self.now in
-    hears_refused (laws g (goal.at.returns-in-Ok-Refused-clause-received g c).After-packing_law) feed.options.now.drops
+    hears_refused (laws g (goal.at.returns-in-Lines-clause-received g c).After-packing_law) feed.options.now.drops
     feed.options.now.peers.a feed.options.now.peers.b c.args.publisher.now c.passing.publisher c.fill.new.publisher _ _ _
-    c.in-Ok-Refused.why _ _ _ _ c.passing.number (c.passing.invariant.received modeled)
-    (rw c.in-Ok-Refused.field-0-is at c.in-Ok-Refused.ensures.filled)
+    c.in-Ok-Refused.refusal _ _ _ _ c.passing.number (c.passing.invariant.received modeled)
+    (rw c.in-Ok-Refused.field-0-is at c.in-Ok-Refused.ensures.filled) c.in-Lines.is
 
 pub returns-in-Err-clause-only : goal.returns-in-Err-clause-only
 returns-in-Err-clause-only g c =
@@ -202,8 +202,8 @@ returns-in-Err-clause-only g c =
       b = only.b;
     }
 
-pub returns-in-Ok-Refused-clause-only : goal.returns-in-Ok-Refused-clause-only
-returns-in-Ok-Refused-clause-only g c = c.passing.invariant.only
+pub returns-in-Lines-clause-only : goal.returns-in-Lines-clause-only
+returns-in-Lines-clause-only g c = c.passing.invariant.only
 
 pub returns-in_err-write_next-in-Ok-Full-clause-only : goal.returns-in_err-write_next-in-Ok-Full-clause-only
 returns-in_err-write_next-in-Ok-Full-clause-only g c = passes_twice c.passing.invariant.only c.write_next.ensures.only
@@ -214,16 +214,65 @@ returns-in_err-write_next-in-Ok-End-clause-only g c = passes_twice c.passing.inv
 pub returns-in-Ok-End-clause-only : goal.returns-in-Ok-End-clause-only
 returns-in-Ok-End-clause-only g c = passes_twice c.passing.invariant.only c.write_next-in-Ok-End.ensures.only
 
-pub returns-in-Ok-Refused-clause-bounded : goal.returns-in-Ok-Refused-clause-bounded
-returns-in-Ok-Refused-clause-bounded g c = c.passing.invariant.bounded
+pub returns-in-Lines-clause-bounded : goal.returns-in-Lines-clause-bounded
+returns-in-Lines-clause-bounded g c = c.passing.invariant.bounded
 
 pub returns-in-Ok-End-clause-bounded : goal.returns-in-Ok-End-clause-bounded
 returns-in-Ok-End-clause-bounded g c = λ bounded.
     subst (λ (live : Bool). IsBounded live c.write_next-in-Ok-End.new.self.listener.now.printer.outgoing.text)
     c.passing.invariant.live c.in_ok-write_next-in-Ok-End.ensures.bounded
 
-pub returns-in-Ok-Refused-clause-live : goal.returns-in-Ok-Refused-clause-live
-returns-in-Ok-Refused-clause-live g c = c.passing.invariant.live
+pub returns-in-Lines-clause-live : goal.returns-in-Lines-clause-live
+returns-in-Lines-clause-live g c = c.passing.invariant.live
 
 pub returns-in-Ok-End-clause-live : goal.returns-in-Ok-End-clause-live
 returns-in-Ok-End-clause-live g c = c.in_ok-write_next-in-Ok-End.ensures.live ∙ c.passing.invariant.live
+
+pub returns-in_err-write_next-in-Blocks-clause-received : goal.returns-in_err-write_next-in-Blocks-clause-received
+returns-in_err-write_next-in-Blocks-clause-received g c modeled =
+    let feed = c.args.self.now in
+    hears_last_before (laws g (goal.at.returns-in_err-write_next-in-Blocks-clause-received g c).After-packing_law)
+    feed.options.now.drops feed.options.now.peers.a feed.options.now.peers.b c.args.publisher.now c.passing.publisher
+    c.fill.new.publisher c.write_next-in-Blocks.new.publisher _ _ _ c.in-Ok-Refused.refusal _ _ _ _ _ _ c.passing.number
+    c.write_next-in-Blocks.result c.from_residual-in_err-write_next-in-Blocks.result
+    (c.passing.invariant.received modeled) (rw c.in-Ok-Refused.field-0-is at c.in-Ok-Refused.ensures.filled) c.in-Blocks.is
+    (next_passed g.D.Datagrams.port (c.passing.number + 1) (spelled_some (next_datagram c.fill.new.publisher)) _
+    c.write_next-in-Blocks.new.self c.passing.invariant.only.same (c.write_next-in-Blocks.ensures.passed modeled))
+    c.from_residual-in_err-write_next-in-Blocks.ensures.0
+
+pub returns-in_err-write_next-in-Blocks-clause-failures : goal.returns-in_err-write_next-in-Blocks-clause-failures
+returns-in_err-write_next-in-Blocks-clause-failures g c =
+    let result = c.from_residual-in_err-write_next-in-Blocks.result in
+    counts_behind result _ _ _ (g.K.Sink.failed c.passing.sink) _
+    (c.in-Ok-Refused.ensures.failures ∙ c.passing.invariant.source) c.passing.invariant.sink
+    (counts_same result c.in_err-write_next-in-Blocks.field-0.0 _ _
+    c.from_residual-in_err-write_next-in-Blocks.ensures.1 c.in_err-write_next-in-Blocks.ensures.sink)
+
+pub returns-in_err-write_next-in-Blocks-clause-live : goal.returns-in_err-write_next-in-Blocks-clause-live
+returns-in_err-write_next-in-Blocks-clause-live g c = c.write_next-in-Blocks.ensures.live ∙ c.passing.invariant.live
+
+pub returns-in_err-write_next-in-Blocks-clause-only : goal.returns-in_err-write_next-in-Blocks-clause-only
+returns-in_err-write_next-in-Blocks-clause-only g c = passes_twice c.passing.invariant.only c.write_next-in-Blocks.ensures.only
+
+pub returns-in-Blocks-clause-received : goal.returns-in-Blocks-clause-received
+returns-in-Blocks-clause-received g c modeled =
+    let feed = c.args.self.now in
+    hears_before (laws g (goal.at.returns-in-Blocks-clause-received g c).After-packing_law) feed.options.now.drops
+    feed.options.now.peers.a feed.options.now.peers.b c.args.publisher.now c.passing.publisher c.fill.new.publisher
+    c.write_next-in-Blocks.new.publisher _ _ _ c.in-Ok-Refused.refusal _ _ (lines g.D.Datagrams.port c.write_next-in-Blocks.new.self) _ _ _
+    c.passing.number c.in_ok-write_next-in-Blocks.field-0
+    (c.passing.invariant.received modeled) (rw c.in-Ok-Refused.field-0-is at c.in-Ok-Refused.ensures.filled) c.in-Blocks.is
+    (next_passed g.D.Datagrams.port (c.passing.number + 1) (spelled_some (next_datagram c.fill.new.publisher)) _
+    c.write_next-in-Blocks.new.self c.passing.invariant.only.same (c.in_ok-write_next-in-Blocks.ensures.passed modeled))
+    c.write_next-in-Blocks.ensures.sent
+
+pub returns-in-Blocks-clause-only : goal.returns-in-Blocks-clause-only
+returns-in-Blocks-clause-only g c = passes_twice c.passing.invariant.only c.write_next-in-Blocks.ensures.only
+
+pub returns-in-Blocks-clause-bounded : goal.returns-in-Blocks-clause-bounded
+returns-in-Blocks-clause-bounded g c = λ bounded.
+    subst (λ (live : Bool). IsBounded live c.write_next-in-Blocks.new.self.listener.now.printer.outgoing.text)
+    c.passing.invariant.live c.in_ok-write_next-in-Blocks.ensures.bounded
+
+pub returns-in-Blocks-clause-live : goal.returns-in-Blocks-clause-live
+returns-in-Blocks-clause-live g c = c.in_ok-write_next-in-Blocks.ensures.live ∙ c.passing.invariant.live

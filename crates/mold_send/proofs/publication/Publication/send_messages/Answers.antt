@@ -1,10 +1,10 @@
 use Rattle.std.proofs.Common.{◌∙◌, arith, refl}
 use Rattle.mold_publish.proofs.DatagramLemmas.{PackingLaws, all_sent}
 use Rattle.mold_send.proofs.SendingLemmas.{full_went, lines_twice, same_at_first, sends_same, sent_begun, sent_end}
-use Rattle.mold_send.proofs.SendingLemmas.{sent_full, sent_not, sent_refused}
-use Rattle.mold_send.proofs.publication.Publication.send_lines.Given.{Over}
-use Rattle.mold_send.proofs.publication.Publication.send_lines.Goals as goal
-use Rattle.mold_send.proofs.publication.Publication.send_lines.Goals.{After-packing_law}
+use Rattle.mold_send.proofs.SendingLemmas.{sent_before, sent_full, sent_not, sent_refused}
+use Rattle.mold_send.proofs.publication.Publication.send_messages.Given.{Over}
+use Rattle.mold_send.proofs.publication.Publication.send_messages.Goals as goal
+use Rattle.mold_send.proofs.publication.Publication.send_messages.Goals.{After-packing_law}
 
 laws : (g : Over) → After-packing_law g → PackingLaws
 laws g c = record {
@@ -22,8 +22,8 @@ publishing-init g c = record {
   room = c.requires.room;
   few = omega (arith, c.requires.none);
   sends = λ modeled.
-      sent_begun c.args.self.now.two_lines.a.now c.args.self.now.two_lines.b.now c.args.self.now.publisher.now
-      (g.S.Source.left c.args.source.now) c.in_ok-lines.lines.rest _ _ c.in_ok-lines.ensures c.requires.none;
+      sent_begun g.M.MessageReader.input_kind g.M.MessageReader.entries c.args.self.now.two_lines.a.now c.args.self.now.two_lines.b.now c.args.self.now.publisher.now
+      (g.S.Source.left c.args.source.now) _ _ _ c.in_ok-messages.ensures c.requires.none;
   same = same_at_first c.args.self.now;
   source = refl;
 }
@@ -52,8 +52,8 @@ publishing-preserved g c =
       source = c.in_ok-fill.ensures.failures ∙ c.publishing.invariant.source;
     }
 
-pub returns-in_err-lines-clause-sends : goal.returns-in_err-lines-clause-sends
-returns-in_err-lines-clause-sends g c modeled =
+pub returns-in_err-messages-clause-sends : goal.returns-in_err-messages-clause-sends
+returns-in_err-messages-clause-sends g c modeled =
     sent_not c.args.self.now.two_lines.a.now c.args.self.now.two_lines.b.now c.args.self.now.publisher.now _ _ c.from_residual.result _ _
     c.from_residual.ensures.0
 
@@ -79,13 +79,20 @@ returns-in-End-clause-same g c = record {
   two_lines = lines_twice c.publishing.invariant.same.two_lines c.send_next-in-End.ensures.same.two_lines;
 }
 
-pub returns-in-Refused-clause-sends : goal.returns-in-Refused-clause-sends
-returns-in-Refused-clause-sends g c modeled =
-    sent_refused (laws g (goal.at.returns-in-Refused-clause-sends g c).After-packing_law) c.args.self.now.two_lines.a.now
+pub returns-in-Lines-clause-sends : goal.returns-in-Lines-clause-sends
+returns-in-Lines-clause-sends g c modeled =
+    sent_refused (laws g (goal.at.returns-in-Lines-clause-sends g c).After-packing_law) c.args.self.now.two_lines.a.now
     c.args.self.now.two_lines.b.now c.args.self.now.publisher.now c.publishing.self.publisher.now c.fill.new.publisher
-    _ _ _ c.in-Refused.why _ _ c.publishing.self.datagrams
-    (c.publishing.invariant.sends modeled) (rw c.in-Refused.is at c.in_ok-fill.ensures.filled)
+    _ _ _ c.in-Refused.refusal _ _ c.publishing.self.datagrams
+    (c.publishing.invariant.sends modeled) (rw c.in-Refused.is at c.in_ok-fill.ensures.filled) c.in-Lines.is
 
-pub returns-in-Refused-clause-same : goal.returns-in-Refused-clause-same
-returns-in-Refused-clause-same g c =
-    record { publisher = c.publishing.invariant.same.publisher; two_lines = c.publishing.invariant.same.two_lines }
+pub returns-in-Blocks-clause-sends : goal.returns-in-Blocks-clause-sends
+returns-in-Blocks-clause-sends g c modeled =
+    sent_before (laws g (goal.at.returns-in-Blocks-clause-sends g c).After-packing_law) c.args.self.now.two_lines.a.now
+    c.args.self.now.two_lines.b.now c.args.self.now.publisher.now c.publishing.self.publisher.now c.fill.new.publisher
+    _ _ _ _ c.in-Refused.refusal _ _ _ c.publishing.self.datagrams _
+    (c.publishing.invariant.sends modeled) (rw c.in-Refused.is at c.in_ok-fill.ensures.filled) c.in-Blocks.is
+    c.send_next-in-Blocks.ensures.sent
+    (sends_same g.D.Datagrams.port _ c.args.self.now.two_lines c.publishing.self.two_lines c.send_next-in-Blocks.new.self.two_lines
+    c.publishing.invariant.same.two_lines (c.send_next-in-Blocks.ensures.sends modeled))
+    c.send_next-in-Blocks.ensures.counted

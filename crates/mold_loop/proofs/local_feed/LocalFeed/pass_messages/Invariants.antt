@@ -1,11 +1,12 @@
 use Rattle.std.proofs.Common.{◌≡◌, ◌≤◌, true}
 use Rattle.std.specs.Io.KnownBytes.{prepend_known}
 use Rattle.mold_devices.specs.Lines.{work_left}
+use Rattle.mold_input.specs.Entries.{known_input}
 use Rattle.mold_publish.specs.Publishing.{HasRoom}
 use Rattle.mold_turns.specs.Outgoing.{IsBounded}
 use Rattle.mold_loop.specs.LocalFeed.{OnlyPasses, lines}
 use Rattle.mold_loop.proofs.HearsLemmas.{HeardSoFar}
-use Rattle.mold_loop.proofs.local_feed.LocalFeed.pass_lines.Given as goal
+use Rattle.mold_loop.proofs.local_feed.LocalFeed.pass_messages.Given as goal
 
 -- the unsent messages fit a datagram, the data so far are passed and nothing else changed, the limit is the same, and
 -- no device failed
@@ -16,7 +17,9 @@ invariant-passing g l = record {
   received :
       g.D.Datagrams.modeled ≡ true →
       HeardSoFar l.fn.self.options.now.drops l.fn.self.options.now.peers.a l.fn.self.options.now.peers.b l.fn.publisher l.publisher
-      (g.S.Source.left l.fn.source) (prepend_known l.lines.rest (g.S.Source.left l.source))
+      (known_input g.M.MessageReader.input_kind g.M.MessageReader.entries (g.S.Source.left l.fn.source))
+      (known_input g.M.MessageReader.input_kind g.M.MessageReader.entries
+      (prepend_known (g.M.InputReader.unread l.messages) (g.S.Source.left l.source)))
       (lines g.D.Datagrams.port l.fn.self) (lines g.D.Datagrams.port l.self)
       (g.K.Sink.held l.fn.sink) (g.K.Sink.held l.sink) l.number;
   only : OnlyPasses g.D.Datagrams.modeled g.D.Datagrams.port l.fn.self l.self;
@@ -30,4 +33,4 @@ invariant-passing g l = record {
 }
 
 abbrev pub decreases-passing : goal.decreases-passing
-decreases-passing g l = work_left (g.S.Source.bound l.source) l.lines.rest
+decreases-passing g l = work_left (g.S.Source.bound l.source) (g.M.InputReader.unread l.messages)

@@ -1,0 +1,10 @@
+//! The kinds of inputs.
+
+/// How an input encodes messages. Refusals name its parts by it: `line` or `block`.
+#[derive(Clone, Copy, Debug, PartialEq, Eq)]
+pub enum InputKind {
+    /// Lines of hexadecimal digits.
+    Lines,
+    /// Message blocks, as in Nasdaq's BinaryFILE.
+    Blocks,
+}

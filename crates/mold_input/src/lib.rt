@@ -1,0 +1,18 @@
+//! The messages of an input: lines of hexadecimal digits, or message blocks (Nasdaq's BinaryFILE). What an input holds
+//! is defined as a list of entries, so callers need not know which of the two it is.
+#![tactic(auto)]
+
+mod hex_lines;
+mod input_fault;
+mod input_kind;
+pub mod laws;
+mod message_blocks;
+mod message_reader;
+mod next;
+
+pub use hex_lines::HexLines;
+pub use input_fault::InputFault;
+pub use input_kind::InputKind;
+pub use message_blocks::MessageBlocks;
+pub use message_reader::MessageReader;
+pub use next::Next;
