@@ -6,8 +6,8 @@ use Rattle.mold_capture.specs.Consistent.{Consistent}
 use Rattle.mold_capture.specs.Refusal.{reason}
 use Rattle.mold_capture.specs.Seen.{BringsNew, seen_of}
 
--- The datagrams before the index are consistent, and `why` is the first reason to refuse the datagram at the index. If
--- `why` is `Memory`, that datagram has a new message instead, or the index is the length of the list.
+-- The datagrams before the index are consistent. If `why` is `Memory`, the datagram at the index has a new message, or
+-- the index is the length of the list. Otherwise `why` is the first reason to refuse the datagram at the index.
 abbrev pub IsRefusedAt : ℕ → Refusal → List (List ℕ) → Type 0
 IsRefusedAt index Memory list =
     (index ≤ length list) × Consistent (take index list)

@@ -187,7 +187,7 @@ pub record PrintsLines {E : Type 0} (reporting : Bool) (lines : List (List ℕ))
       (lines_text first (between lines first next) ++ closing_lines reporting reports finished next known failures)
 
 -- What a listener that started at line `first` has written, if line `refused_at` is refused. Its text is as for
--- `PrintsLines`, `next` and `known` are at most `refused_at`, and the status is 1, since the session has no end. After
+-- `PrintsLines`. Both `next` and `known` are at most `refused_at`. The status is 1, since the session has no end. After
 -- a fault, a prefix of such a text is written.
 pub record PrintsOpen {E : Type 0} (reporting : Bool) (lines : List (List ℕ)) (refused_at first : ℕ)
     (result : Result ℕ E) (old new : Option (List ℕ)) : Type 0 where
@@ -211,8 +211,8 @@ pub record PrintsOpen {E : Type 0} (reporting : Bool) (lines : List (List ℕ)) 
       (lines_text first (between lines first next) ++ closing_lines reporting reports false next known failures)
 
 -- What a loop of publisher, server and listener has written, if its listener started at line `first` and line
--- `refused_at` is refused. Its text is published lines from `first` on, all of them before `refused_at`, and then the
--- line of the refusal. The status is 2. After a fault, a prefix of such a text is written.
+-- `refused_at` is refused. Its text is the published lines from `first` to `next - 1`, where `next` is at most
+-- `refused_at`, and then the line of the refusal. The status is 2. After a fault, a prefix of such a text is written.
 pub record PrintsRefused {E : Type 0} (lines : List (List ℕ)) (refused_at : ℕ) (why : MessageRefusal) (first : ℕ)
     (result : Result ℕ E) (old new : Option (List ℕ)) : Type 0 where
   -- the number of the next message to deliver

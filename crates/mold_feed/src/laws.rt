@@ -32,7 +32,8 @@ use mold_session::laws::{answered_law, publisher_law, sending_law};
 use mold_wire::laws::reading_law;
 
 /// States that every datagram offered by a publisher is true of the journal that it leaves, even if a line is refused.
-/// So is every datagram that its port sent, even after a fault, if those that it sent earlier are.
+/// If all datagrams that its port sent before publishing are true of this journal, so are those that it sends while
+/// publishing, even if publishing ends with a fault.
 ///
 /// If no line is refused, the journal is closed and has the messages of the lines. Otherwise it is open and has those
 /// of the lines before the refused one. A server may respond from it if the server's datagrams have room for the

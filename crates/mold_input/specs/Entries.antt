@@ -51,8 +51,8 @@ entries_before Message message left = Ok message ∷ left
 entries_before (Fault why) message left = Err why ∷ left
 entries_before End message left = []
 
--- The reader moved from the first of the entries to `next`, and `left` are the entries that remain. If the entries are
--- not known, the relation states nothing.
+-- The reader read the first of the entries as `next`, and `left` are the entries after it. If there was no entry,
+-- `next` is `End`. If the entries are not known, the relation states nothing.
 abbrev pub GivesNext : Option (List Entry) → Option (List Entry) → Next → List ℕ → Type 0
 GivesNext None left next message = ⊤
 GivesNext (Some entries) None next message = ⊥

@@ -260,10 +260,10 @@ pub record IsPortAfter {P : Type 0} (a b : P) (passes : List Pass) (lines : Line
   pub begins : Begins front passes
   pub port : left ≡ (lines_after a b front lines).publisher
 
--- The outcome of a loop in one process that published these lines: that of its run for some choice of which sends fail.
--- After a success, all text of that run is written, its status is returned, and the loop is in its last state. After a
--- fault, the text written and the requests and responses sent are prefixes of the run's. A prefix of the run's
--- datagrams was offered to the publisher's port.
+-- The outcome of a loop in one process that published these lines. It agrees with a run of the loop for some choice of
+-- which sends fail. After a success, all text of that run is written, its status is returned, and the loop is in its
+-- last state. After a fault, the text written and the requests and responses sent are prefixes of the run's. A prefix
+-- of the run's datagrams was offered to the publisher's port.
 pub record LoopRun {P E : Type 0} (reporting : Bool) (drops : Drops) (a b to : P) (turns limit sent : ℕ)
     (published : PublishedInput) (server : ServerState) (lines : LineState P) (rounds : RepairState P)
     (result : Result ℕ E) (old new : Option (List ℕ)) (lines_left : LineState P) (rounds_left : RepairState P) :

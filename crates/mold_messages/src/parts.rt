@@ -175,8 +175,8 @@ impl PartList {
         self.bytes.truncate(end);
     }
 
-    /// Discards messages as `truncate` does, after a call that failed for memory. The list remembers how much room that
-    /// call lacked at least, so that `make_room` can ask for it first.
+    /// Discards messages as `truncate` does, after a call that failed for memory. The list remembers a lower bound of
+    /// the room that was lacking, and `make_room` makes that much room.
     pub fn take_back(&mut self, keep: usize)
         ensures messages { self.new.messages ≡ take keep self.old.messages }
         ensures bytes { self.new.bytes ≡ take self.new.end self.old.bytes }

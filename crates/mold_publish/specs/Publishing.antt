@@ -77,7 +77,8 @@ entries_published kind journal [] = record { journal = journal; refused = None }
 entries_published kind journal (entry ∷ entries) =
     published_from journal (entry_outcome kind journal entry) (λ next. entries_published kind next entries)
 
--- The same for the entries of an input.
+-- The journal after the entries of an input were published in order, up to the first one that is refused, and the
+-- reason for that refusal.
 abbrev pub input_published : JournalState → InputEntries → PublishedInput
 input_published journal input = entries_published input.kind journal input.entries
 

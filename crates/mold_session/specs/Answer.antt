@@ -78,8 +78,8 @@ pub record HasFirst (session : Session) (number : ℕ) (packets : List Packet) :
   pub sent : packets ≡ data_packet session number part ∷ rest
   pub some : 0 < length part
 
--- The plan first sends its next packet, which has at least one message. Its other packets are those that the plan sends
--- after that one (`moved`).
+-- The plan sends its next packet, which has at least one message, and then the packets of the plan that remains after
+-- it (`moved`).
 pub record SendsNext (published : List (List ℕ)) (limit : ℕ) (plan : PlanState) : Type 0 where
   pub sent : planned published limit plan
       ≡ next_packet published limit plan

@@ -59,9 +59,9 @@ pub fn first_part_law()
     front_law();
 }
 
-/// States what a plan still sends: nothing if it is spent, otherwise its next packet and then what the plan past that
-/// packet's messages sends. It never sends more than `left` packets, and messages that are published meanwhile change
-/// nothing.
+/// States what a plan still sends. A spent plan sends nothing. Any other plan sends its next packet, and then the
+/// packets of the plan that remains after it. A plan never sends more than `left` packets, and messages that are
+/// published meanwhile change nothing.
 ///
 /// So the datagrams that `Server::datagram` returns, until it returns `None`, are all packets that the plan had at
 /// first, in order.

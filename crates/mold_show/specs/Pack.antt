@@ -13,8 +13,8 @@ use Rattle.mold_publish.specs.Sending.{end_packet, packets_after, packets_before
 use Rattle.mold_publish.specs.declared.message_refusal.MessageRefusal.{MessageRefusal}
 
 -- What is printed for the messages after the first `sent` ones: their data packets and the end packet. If the entry
--- after the last message is refused, it is the data packets that are sent before a refusal, and why the entry is
--- refused.
+-- after the last message is refused, the line of the refusal takes the place of the end packet. For an input of lines,
+-- the last data packet is then left out too.
 abbrev pub packed_text : ℕ → ℕ → JournalState → Option MessageRefusal → List ℕ
 packed_text limit sent journal None =
     packet_lines (packets_after limit sent journal) ++ packet_line (end_packet journal)

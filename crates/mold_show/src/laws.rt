@@ -19,8 +19,8 @@ ghost use Rattle.mold_wire.specs.declared.session.Session.{Session};
 use mold_publish::laws::lines_published_law;
 use mold_session::laws::contents_law;
 
-/// What `pack` prints for an input of lines, stated over the lines: the packets of the messages that they are published
-/// as, and the first refusal.
+/// Computes the text that `pack` prints, and its exit status, from the lines of the input. The lines are published in
+/// order, up to the first one that is refused. `packed_text` of the published messages and the refusal is the text.
 pub fn pack_lines_law()
     ensures text { (session : Session) (limit : ℕ) (input : List ℕ) →
         let publisher = fresh_publisher session limit in

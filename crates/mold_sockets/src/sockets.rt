@@ -80,8 +80,8 @@ fn serve_on(
 }
 
 /// Listens on two ports, and sends requests from a third one. A wait on a line also ends when the other line has a
-/// datagram, and a wait for a response when either line has one. A response ends no wait on a line: a late one stays at
-/// its port and would end every such wait.
+/// datagram, and a wait for a response when either line has one. A response does not end a wait on a line. If it did, a
+/// late response, which stays at its port, would end every such wait.
 pub fn run_listen(rt: &HostRuntime, order: &ListenOrder) -> Result<u8, ProgramFault> {
     let mut a = open_port(rt, order.a)?;
     let mut b = open_port(rt, order.b)?;

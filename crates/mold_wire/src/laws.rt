@@ -110,10 +110,10 @@ pub fn packet_length_law()
         (length message + MESSAGE_OVERHEAD ≤ limit) ↔ Fits limit (message ∷ []) }
 {}
 
-/// If the limit has room for a header, `front` returns the only longest prefix that fits. A prefix that fits is the
-/// longest if the next message does not fit or is one too many. A longest prefix has a message if the first one fits
-/// alone and is allowed, and all messages if they fit together and are allowed. The clause `more` computes it message
-/// by message.
+/// If the limit has room for a header, `front` is the longest prefix that has at most `most` messages and fits. There
+/// is no other such prefix. A prefix that has at most `most` messages and fits is the longest one if it is the whole
+/// list, if it has `most` messages, or if it no longer fits with the next message. The longest prefix is not empty if
+/// `most` is at least 1 and the first message fits alone. The clause `more` computes it message by message.
 #[tactic(auto, using(crate::proofs::FrontLemmas::front_is))]
 pub fn front_law()
     ensures front { (limit : ℕ) (messages : List (List ℕ)) (most : ℕ) →
