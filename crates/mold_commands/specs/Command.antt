@@ -14,8 +14,8 @@ abbrev pub sim_start : SimOrder → SimState
 sim_start order = sim_beginning (record { 0 = order.session }) order.limits.limit order.limits.server_limit order.burst
     order.window order.receivers
 
--- The order reads lines from a source and prints text. A check of a folder, an upgrade and a dump read files, and the
--- other orders use ports.
+-- The order reads lines from a source and prints text: it is `show`, `pack`, `sim` or `check -`. A check of a folder,
+-- an upgrade and a dump read files instead, and the remaining orders use ports.
 abbrev pub IsStreamed : Order → Type 0
 IsStreamed (Show requests) = ⊤
 IsStreamed (Pack order) = ⊤

@@ -37,8 +37,8 @@ lacks store number = is_none (finite.get store number)
 abbrev pub gaps : View → List Range
 gaps v = ranges (lacks v.store) v.next (v.known - v.next)
 
--- The gap at `next` ends just below `end`. No message below `end` is stored. Either message `end` is stored, or `end`
--- is `known`.
+-- The gap at `next` ends just below `end`. No message below `end` is stored. The message with the number `end` is
+-- stored, or `end` is `known`.
 pub record IsGap (v : View) (end : ℕ) : Type 0 where
   pub after : v.next < end
   pub within : end ≤ v.known

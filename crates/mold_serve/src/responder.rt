@@ -81,9 +81,9 @@ impl<'a, D: Datagrams> Responder<'a, D> {
         Ok(())
     }
 
-    /// Answers a request with datagrams to the requester, or refuses it, and prints and counts each datagram that was
-    /// sent, or the refusal. Each datagram is offered once, and a failed send is counted. The journal's maximum message
-    /// length must not exceed the server's. An error means out of memory; part of the work is then done.
+    /// Answers a request with datagrams to the requester, or refuses it. Each datagram that was sent is printed and
+    /// counted, and so is a refusal. Each datagram is offered once, and a failed send is counted. The journal's maximum
+    /// message length must not exceed the server's. An error means out of memory; part of the work is then done.
     pub fn answer_request(&mut self, from: D::Peer, request: &[u8]) -> Result<(), AllocError>
         requires { MayAnswer self.old }
         ensures replied { D.modeled ≡ true → (fails : List Bool) × Reaches result (state D.port self.new)

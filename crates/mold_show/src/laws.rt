@@ -20,7 +20,8 @@ use mold_publish::laws::lines_published_law;
 use mold_session::laws::contents_law;
 
 /// Computes the text that `pack` prints, and its exit status, from the lines of the input. The lines are published in
-/// order, up to the first one that is refused. `packed_text` of the published messages and the refusal is the text.
+/// order, up to the first one that is refused. The text is what `packed_text` defines for the published messages and
+/// the refusal, if there is one.
 pub fn pack_lines_law()
     ensures text { (session : Session) (limit : ℕ) (input : List ℕ) →
         let publisher = fresh_publisher session limit in

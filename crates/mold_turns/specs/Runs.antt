@@ -54,8 +54,8 @@ pub record TurnRestsOfTwo {C S M T E : Type 0} (loop : Loop C S M) (other : S �
   pub others : Begins (other now) (other (loop.turn turn.choice start))
 
 -- A loop that ended with a fault has written the text of all completed turns, except what it may keep between turns
--- (`IsBounded`). The parameter `ends` is a property of states, and the state after the last completed turn has it. The
--- contracts of loops pass `IsInNextTurn` as this property.
+-- (`IsBounded`). The state after the last completed turn satisfies `ends`. The contracts of loops pass `IsInNextTurn`
+-- for `ends`.
 pub record WrittenInTime {C S M : Type 0} (loop : Loop C S M) (start : S) (live : Bool) (old new : Option (List ℕ))
     (ends : S → Type 0) : Type 0 where
   -- the choices of the completed turns

@@ -14,6 +14,6 @@ pub record IsHeaderAndRest (header : Header) (bytes rest : List ℕ) : Type 0 wh
   pub count : header.count < 2 ^ 16
   pub parts : bytes ≡ header_bytes header.session.0 header.sequence header.count ++ rest
 
--- The bytes of a packet after the message count in its header was replaced by `count`.
+-- The bytes of a packet, with the message count in its header replaced by `count`.
 abbrev pub recounted : ℕ → List ℕ → List ℕ
 recounted count bytes = take 18 bytes ++ (be16 count ++ drop 2 (drop 18 bytes))

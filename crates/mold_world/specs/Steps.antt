@@ -64,8 +64,8 @@ Names w (DeliverEvent receiver way place) steps = AreDelivery receiver steps
 Names w (Noise receiver way bytes) steps = steps ≡ []
 Names w (RestartEvent receiver next) steps = steps ≡ Restart receiver next ∷ []
 
--- Steps of the kinds that `Names` lists for the event lead the machine from the world `old` to the world `new`. The
--- machine allows these steps, and they deliver the same messages as the event.
+-- The steps of the event lead the machine from the world `old` to the world `new`. Their kinds are those that `Names`
+-- lists for the event. The machine allows these steps, and they deliver the same messages as the event.
 pub record AreSteps (old : WorldState) (happening : Happening) (new : WorldState) : Type 0 where
   pub steps : List Step
   pub named : Names old happening steps

@@ -134,9 +134,9 @@ impl World {
     /// before a restart, is the one that was published with its number. The run corresponds to steps of the machine of
     /// `laws::safety_law`, which deliver the same messages.
     ///
-    /// After `Ok`, the straight path holds of a receiver that got each data packet of new messages right after it was
-    /// sent, and did not restart. If before the run its book has every message that was sent in a datagram so far, the
-    /// same is true after the run.
+    /// The clause `straight` is about a run that returns `Ok`, and about a receiver that got each data packet of new
+    /// messages right after it was sent, and did not restart. If before the run its book has every message that was
+    /// sent in a datagram so far, the same is true after the run.
     pub fn run(&mut self, events: &[Event<'_>]) -> Result<(), Stopped>
         ensures left { self.new ≡ run_events self.old (applied result (map seen events.now)) }
         ensures place { IfErr result (λ stopped. stopped.at < length events.now) }

@@ -26,9 +26,9 @@ use std::alloc::Global;
 /// 65,507, and each message of the journal must have at most `limit` - 22. A request gets at most `burst` responses, 1
 /// to 64. The handle must be empty.
 ///
-/// If the bytes are not such a journal, `number` goes with the fault, as `mold.h` states, or is 0. If the handle is not
-/// empty, `number` is unchanged; after any other result it is 0. If no server is made, the bytes are read once more, so
-/// a fault of the bytes is reported even if an allocation failed.
+/// If the handle is not empty, `number` is unchanged. If a fault of the bytes is returned, `number` is what `mold.h`
+/// states for that fault, or 0 if it states nothing. After any other result `number` is 0. If no server is made, the
+/// bytes are read once more, so a fault of the bytes is reported even if an allocation failed.
 #[unsafe(no_mangle)]
 pub extern "C" fn mold_server_new(
     alloc: Global,
