@@ -50,7 +50,7 @@ const TWO_AND_A_CUT_BLOCK: Entries = &[
 ];
 
 #[test]
-fn out_of_memory_at_blocks(rt: HostRuntime) -> Result<(), Fail> {
+fn blocks_in_pieces_of_any_size(rt: HostRuntime) -> Result<(), Fail> {
     let input = b"\x00\x02AB\x00\x00\x00";
     for most in 0..8 {
         let mut blocks = MessageBlocks::new(rt.alloc())?;
@@ -68,7 +68,7 @@ const TWO_LINES: Entries = &[
 ];
 
 #[test]
-fn out_of_memory_at_lines(rt: HostRuntime) -> Result<(), Fail> {
+fn lines_in_pieces_of_any_size(rt: HostRuntime) -> Result<(), Fail> {
     let input = b"4142\n4\n\nfF";
     for most in 0..8 {
         let mut lines = HexLines::new(rt.alloc())?;
