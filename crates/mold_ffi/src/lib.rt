@@ -11,5 +11,3 @@ mod listener;
 mod packets;
 mod publisher;
 mod server;
-#[cfg(test)]
-mod tests;
