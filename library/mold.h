@@ -238,7 +238,7 @@ typedef struct mold_told {
 typedef struct mold_report {
     uint64_t datagrams; /* the number of datagrams that were taken */
     uint64_t refused;   /* the number of datagrams that were refused, except with MOLD_MEMORY */
-    uint64_t front;     /* the greatest top of a packet that was taken, at least the number at which the listener began.
+    uint64_t front;     /* the greatest top of a packet that was taken, or the first number of the listener if that is greater.
                            A packet's top is its sequence number plus its number of messages */
 } mold_report;
 
@@ -317,8 +317,8 @@ bool mold_listener_wanted(mold_listener *listener, uint8_t request[20]);
 /* Returns the number of the next message to deliver. */
 uint64_t mold_listener_next(mold_listener *listener);
 
-/* Returns the greatest known top: the greatest top of a packet that was taken, at least the number at which the
- * listener began. All messages that are known to exist have numbers below it. */
+/* Returns the greatest known top: the greatest top of a packet that was taken, or the number at which the
+ * listener began if that is greater. All messages that are known to exist have numbers below it. */
 uint64_t mold_listener_known(mold_listener *listener);
 
 /* Whether the end of the session is known and all messages below it were delivered. */
@@ -355,8 +355,8 @@ uint32_t mold_publisher_new(mold_publisher *publisher, const uint8_t session[10]
 uint32_t mold_publisher_publish(mold_publisher *publisher, const uint8_t *message, size_t length, uint64_t *number);
 
 /* Whether the unsent messages do not all fit in one datagram. A message is unsent until mold_publisher_datagram has
- * written it. To fill datagrams, take datagrams after each message while this is true. To send without delay, take a
- * datagram after each message. */
+ * written it. To fill datagrams, call mold_publisher_datagram after each message as long
+ * as this function returns true. To send without delay, call it once after each message. */
 bool mold_publisher_is_full(mold_publisher *publisher);
 
 /* Writes a datagram of the unsent messages, in order and as many as fit, to the start of a buffer. *size is its length.
@@ -439,7 +439,7 @@ static inline mold_server *mold_server_of(mold_publisher *publisher) {
  *   MOLD_COUNT_DIFFERS  the journal has *number messages, and states another number.
  *   MOLD_MEMORY         an allocation failed; the handle is empty.
  *
- * If no server is made, the bytes are read once more, so a fault is reported even if an allocation failed. */
+ * If the call makes no server, it reads the bytes once more. So it reports a fault even if an allocation failed. */
 uint32_t mold_server_new(mold_server *server, size_t limit, uint16_t burst, const uint8_t *journal, size_t length,
                          uint64_t *number);
 
