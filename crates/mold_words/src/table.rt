@@ -104,16 +104,15 @@ const REPORT: OptionRow = OptionRow {
 const BLOCKS: OptionRow = OptionRow {
     name: "blocks",
     kind: Kind::Flag,
-    help: "Read message blocks (BinaryFILE): for each message its length in two\n\
-        bytes, most significant first, and that many bytes",
+    help: "Read message blocks (BinaryFILE). A block is the length of a message in two\n\
+        bytes, most significant first, and the message",
 };
 
 // Ends the input of blocks before the first empty one.
 const END_AT_EMPTY: OptionRow = OptionRow {
     name: "end-at-empty",
     kind: Kind::Flag,
-    help: "With --blocks: end the input before the first empty block, which must\n\
-        be there",
+    help: "End the input of --blocks before its first empty block, which must exist",
 };
 
 /// The commands, in the order in which help lists them.
