@@ -19,7 +19,7 @@ use std::alloc::{AllocError, Global};
 
 /// Runs an order that reads a source (`IsStreamed`) over the whole input of the source, and returns the status.
 ///
-/// The status is 0 if all lines or blocks were accepted, 2 if one was refused, and 1 if `check -` finds the session incomplete.
+/// The status is 0 if all lines or blocks were accepted, 2 if one was refused, 1 if `check -` finds a session incomplete.
 ///
 /// After a fault, the output written is a prefix of the whole output. `Read` is returned only if the source failed,
 /// `Write` only if the sink failed, and `Memory` only if an allocation failed.

@@ -20,8 +20,8 @@ ghost use Rattle.mold_wire.specs.declared.session.Session.{Session};
 use mold_publish::laws::lines_published_law;
 use mold_session::laws::contents_law;
 
-/// Computes the text that `pack` prints for an input of lines, and its exit status, from these lines. The lines are published in
-/// order, up to the first one that is refused. The text is what `packed_text` defines for the published messages and
+/// Computes the text that `pack` prints for an input of lines, and its exit status, from these lines. They are published
+/// in order, up to the first one that is refused. The text is what `packed_text` defines for the published messages and
 /// the refusal, if there is one.
 pub fn pack_lines_law()
     ensures text { (session : Session) (limit : ℕ) (input : List ℕ) →

@@ -18,8 +18,8 @@ pub fn show_taken_law()
 {}
 
 /// `pack --session MKT` is accepted, and asks to pack the session `MKT`, padded with seven spaces, into datagrams of up
-/// to 1,400 bytes. Its input is lines. `--limit` sets another limit. A limit below 64 is refused. `--blocks` asks to read
-/// blocks, and together with `--end-at-empty` to read blocks up to the first empty one. `--end-at-empty` without
+/// to 1,400 bytes. Its input is lines. `--limit` sets another limit. A limit below 64 is refused. `--blocks` asks to
+/// read blocks, and together with `--end-at-empty` to read blocks up to the first empty one. `--end-at-empty` without
 /// `--blocks` is refused.
 pub fn pack_taken_law()
     ensures usual { Say (codes "pack" ∷ codes "--session" ∷ codes "MKT" ∷ [])
