@@ -5,9 +5,9 @@
 _mold_options() {
     case $1 in
     show) printf '%s ' --request ;;
-    pack) printf '%s ' --session --limit ;;
+    pack) printf '%s ' --session --limit --blocks --end-at-empty ;;
     sim) printf '%s ' --session --limit --server-limit --window --receivers --burst ;;
-    publish) printf '%s ' --session --limit --a --b --journal --beats --ends ;;
+    publish) printf '%s ' --session --limit --a --b --journal --beats --ends --blocks --end-at-empty ;;
     serve) printf '%s ' --journal --limit --burst --bind --turns --live ;;
     listen) printf '%s ' --session --next --window --a --b --server --burst --turns --live --report ;;
     loop) printf '%s ' --session --limit --server-limit --window --burst --drop-a --drop-b --turns --report ;;

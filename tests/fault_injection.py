@@ -163,6 +163,8 @@ def all_calls():
         Call("show --request", ["show", "--request"], HEX + b"00000000000000010002\n" + HEX + b"\n", status=2),
         Call("pack", pack, LINES),
         Call("pack, pack-two-messages", pack, b"4142\n\n"),
+        Call("pack --blocks", [*pack, "--blocks"], b"\0\2AB\0\0"),
+        Call("pack --blocks, refused", [*pack, "--blocks", "--end-at-empty"], b"\0\2AB", status=2),
         Call("pack, refused", pack, MESSAGES + b"4\n", status=2),
         Call("sim", sim, script, status=2),
         Call("check of lines", ["check", "-"], captured, status=1),

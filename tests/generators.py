@@ -17,6 +17,9 @@ FAR = [1023, 1024, 65533, 65534, 65535, 65536, 65537]
 # Lines of a script that are not events, or events that are refused.
 BAD_EVENTS = [b"", b"publish", b"publish 4", b"publish  ", b"publish", b"request 0g", b"restart 0 +1", b"\xc3\xa9"]
 BAD_EVENTS += [b"ask -1", b"ask 18446744073709551615", b"ask 18446744073709551616", b"deliver 0 c 0", b"deliver 0 A 0"]
+# The flags of each form of an input of messages. Those of `none` are invalid.
+FLAGS = {"lines": [], "blocks": ["--blocks"], "blocks to empty": ["--blocks", "--end-at-empty"]}
+FLAGS["none"] = ["--end-at-empty"]
 # Valid and almost valid texts of option values.
 SESSIONS = [NAME, "A", " ", "~", "a=b", "-x", "--to", "ten bytes.", "", "SESSION0012", "é", "a\x1fb", "a\x7f", "a\tb"]
 # The first address belongs to no machine, so that no program can bind it.
@@ -38,6 +41,14 @@ class Case:
     items: list
     # The options as command-line arguments.
     arguments: list
+
+    def form(self):
+        """How the input encodes messages: `lines`, `blocks` or `blocks to empty`."""
+        return self.options.get("form", "lines")
+
+    def messages(self):
+        """The input of a publisher: the items as lines, or joined if they are blocks."""
+        return self.lines() if self.form() == "lines" else b"".join(it[-1] for it in self.items)
 
     def lines(self):
         """The input as lines. The last one may lack its newline."""
@@ -169,20 +180,43 @@ def some_lines(chance, limit, most):
     return [(it,) for it in lines]
 
 
+def some_blocks(chance, limit, most):
+    """Message blocks. One of them may be too long, the last one may be cut, and a lone byte may follow it."""
+    longest = min(limit - 22, 1378 if has(chance, 0.99) else 65485)
+    drawn = [message(chance, longest) for _ in range(chance.randint(0, most))]
+    if drawn and has(chance, 0.15):
+        drawn[chance.randrange(len(drawn))] = bytes(chance.choice([limit - 21, limit - 20, 65535]))
+    items = [len(it).to_bytes(2, "big") + it for it in drawn]
+    if items and has(chance, 0.25):
+        items[-1] = items[-1][: chance.randrange(len(items[-1]))]
+    if has(chance, 0.1):
+        items.append(chance.choice([b"\0", b"\0\0", b"\xff", b"\xff\xff\0"]))
+    return [(it,) for it in items]
+
+
+def in_some_form(chance, options, most):
+    """A case with lines, or with blocks and their options."""
+    form = chance.choice(["lines", "lines", "blocks", "blocks to empty"])
+    if form == "lines":
+        return case_of(chance, options, some_lines(chance, options["limit"], most))
+    case = case_of(chance, options, some_blocks(chance, options["limit"], most), form=form)
+    case.arguments += FLAGS[form]
+    return case
+
+
 def pack(chance):
     options = {"session": session_text(chance), "limit": chance.choice(LIMITS + [chance.randint(64, 300)])}
     if has(chance, 0.003):
         # About as many messages as fit in the largest packet.
-        options["limit"], items = 65507, [(b"",)] * chance.randint(32741, 32746)
-    else:
-        items = some_lines(chance, options["limit"], chance.choice([3, 12, 60]))
-    return case_of(chance, options, items)
+        options["limit"] = 65507
+        return case_of(chance, options, [(b"",)] * chance.randint(32741, 32746))
+    return in_some_form(chance, options, chance.choice([3, 12, 60]))
 
 
 def publish(chance):
     options = {"session": session_text(chance), "limit": chance.choice([64, 65, 100, 1400])}
     options |= {name: chance.choice([0, 1, 2, 9]) for name in ("beats", "ends")}
-    return case_of(chance, options, some_lines(chance, options["limit"], chance.choice([3, 12, 40])))
+    return in_some_form(chance, options, chance.choice([3, 12, 40]))
 
 
 def loop(chance):
@@ -421,7 +455,11 @@ def words(chance):
         drawn += [f"--{name}={text}"] if joined else [f"--{name}", text]
     if command in ("listen", "loop") and has(chance, 0.3):
         drawn.append("--report")
-    return Case({"command": command, "values": values}, [], drawn)
+    form = "lines"
+    if command in ("pack", "publish"):
+        form = chance.choice(sorted(FLAGS))
+        drawn += FLAGS[form]
+    return Case({"command": command, "values": values, "form": form}, [], drawn)
 
 
 def listen(chance):

@@ -172,9 +172,10 @@ def is_value(name, text):
     return kind == NAME or is_address(text)
 
 
-def name_of_fault(command, values):
+def name_of_fault(command, values, form):
     """The name that follows `fault` if the values of the options are invalid, otherwise None. The values are given by
-    option name. An option that the command does not have is a usage fault."""
+    option name. An option that the command does not have is a usage fault. The form of the input is `none` if
+    `--end-at-empty` is given without `--blocks`."""
     names = COMMANDS[command].split()
     if set(values) - set(names) or set(names) - set(values) - set(DEFAULTS):
         return "Usage"
@@ -184,7 +185,7 @@ def name_of_fault(command, values):
     numbers = DEFAULTS | {name: int(text) for name, text in values.items() if name in DEFAULTS and name not in bad}
     is_below = "server-limit" in names and numbers["server-limit"] < numbers["limit"]
     is_same = command == "upgrade" and values["journal"] == values["to"]
-    return "Usage" if bad or is_below or is_same else None
+    return "Usage" if bad or is_below or is_same or form == "none" else None
 
 
 # show
@@ -251,21 +252,49 @@ def messages_of(limit, lines):
     return messages, None
 
 
-def pack(session, limit, some_bytes):
-    messages, refusal = messages_of(limit, lines_of(some_bytes))
+def messages_in_blocks(limit, some_bytes, ends_at_empty):
+    """The messages of the blocks before the first refused one, and the text printed for that block, or None."""
+    messages, at = [], 0
+    while at < len(some_bytes) or ends_at_empty:
+        head = some_bytes[at : at + 2]
+        size = int.from_bytes(head, "big")
+        message = some_bytes[at + 2 : at + 2 + size]
+        if len(head) < 2 or len(message) < size:
+            return messages, f"refused block {len(messages) + 1} Cut"
+        if ends_at_empty and not size:
+            break
+        if size > limit - 22:
+            return messages, f"refused block {len(messages) + 1} TooLong {size}"
+        messages.append(message)
+        at += 2 + size
+    return messages, None
+
+
+def packets_of(session, limit, some_bytes, form):
+    """The messages of an input, the packets that are sent of them before a refusal, and its text, or None. The form is
+    `lines`, `blocks` or `blocks to empty`."""
+    if form == "lines":
+        messages, refusal = messages_of(limit, lines_of(some_bytes))
+    else:
+        messages, refusal = messages_in_blocks(limit, some_bytes, form == "blocks to empty")
     packets = packing(limit, session, 1, messages)
+    # Before a refused line, the packet that is not yet full is not sent.
+    return messages, packets[:-1] if refusal and form == "lines" else packets, refusal
+
+
+def pack(session, limit, some_bytes, form="lines"):
+    messages, packets, refusal = packets_of(session, limit, some_bytes, form)
     if refusal:
-        return text_of([encoding(it).hex() for it in packets[:-1]] + [refusal]), 2
+        return text_of([encoding(it).hex() for it in packets] + [refusal]), 2
     packets.append(Packet("end", session, len(messages) + 1))
     return text_of(encoding(it).hex() for it in packets), 0
 
 
-def publish(session, limit, beats, ends, some_bytes):
+def publish(session, limit, beats, ends, some_bytes, form="lines"):
     """Also returns the datagrams sent on each line, and the journal file, or None."""
-    messages, refusal = messages_of(limit, lines_of(some_bytes))
-    packets = packing(limit, session, 1, messages)
+    messages, packets, refusal = packets_of(session, limit, some_bytes, form)
     if refusal:
-        return text_of([refusal]), 2, [encoding(it) for it in packets[:-1]], None
+        return text_of([refusal]), 2, [encoding(it) for it in packets], None
     top = len(messages) + 1
     sent = packets + beats * [Packet("heartbeat", session, top)] + ends * [Packet("end", session, top)]
     text = f"published {len(messages)} datagrams {len(packets)} failed 0"

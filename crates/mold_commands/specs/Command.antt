@@ -1,4 +1,4 @@
--- Defines what an order that reads lines prints for its input, and its status.
+-- Defines what an order that reads standard input prints for it, and its status.
 use Rattle.std.specs.Prelude.{ℕ, List, [], ⊤}
 use Rattle.mold_check.specs.CheckLines.{check_status, check_text}
 use Rattle.mold_show.specs.Pack.{pack_text, pack_status}
@@ -14,8 +14,8 @@ abbrev pub sim_start : SimOrder → SimState
 sim_start order = sim_beginning (record { 0 = order.session }) order.limits.limit order.limits.server_limit order.burst
     order.window order.receivers
 
--- The order reads lines from a source and prints text: it is `show`, `pack`, `sim` or `check -`. A check of a folder,
--- an upgrade and a dump read files instead, and the remaining orders use ports.
+-- The order reads lines or message blocks from a source and prints text: it is `show`, `pack`, `sim` or `check -`. A
+-- check of a folder, an upgrade and a dump read files instead, and the remaining orders use ports.
 abbrev pub IsStreamed : Order → Type 0
 IsStreamed (Show requests) = ⊤
 IsStreamed (Pack order) = ⊤
@@ -29,10 +29,10 @@ IsStreamed (Loop order) = ⊥
 IsStreamed (Upgrade order) = ⊥
 IsStreamed (Dump order) = ⊥
 
--- The text that an order prints for the whole input. It is empty if the order does not read lines.
+-- The text that an order prints for the whole input. It is empty if the order is not `IsStreamed`.
 abbrev pub text : Order → List ℕ → List ℕ
 text (Show requests) input = show_text requests input
-text (Pack order) input = pack_text (record { 0 = order.session }) order.limit input
+text (Pack order) input = pack_text order.input (record { 0 = order.session }) order.limit input
 text (Sim order) input = sim_text (sim_start order) input
 text (Check folder) input = []
 text CheckLines input = check_text input
@@ -47,7 +47,7 @@ text (Dump order) input = []
 -- if the session is not complete.
 abbrev pub status : Order → List ℕ → ℕ
 status (Show requests) input = show_status requests input
-status (Pack order) input = pack_status (record { 0 = order.session }) order.limit input
+status (Pack order) input = pack_status order.input (record { 0 = order.session }) order.limit input
 status (Sim order) input = sim_status (sim_start order) input
 status (Check folder) input = 0
 status CheckLines input = check_status input

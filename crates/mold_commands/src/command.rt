@@ -1,4 +1,4 @@
-//! The commands that read lines from a source and write to a sink.
+//! The commands that read lines or message blocks from a source and write to a sink.
 
 ghost use Rattle.std.specs.Prelude.{◌≡◌, IfOk, IfSome};
 ghost use Rattle.std.specs.Io.KnownBytes.{Appends};
@@ -6,19 +6,20 @@ ghost use Rattle.mold_commands.specs.Command.{IsStreamed, sim_start, text, statu
 ghost use Rattle.mold_devices.specs.Devices.{AppendsPrefix};
 ghost use Rattle.mold_devices.specs.Faults.{CountsCommand};
 ghost use Rattle.mold_session.specs.Publisher.{fresh_publisher};
+ghost use Rattle.mold_show.specs.Pack.{pack_status, pack_text};
 
 use mold_check::check_lines;
 use mold_devices::{CommandFault, Sink, Source, run_lines};
-use mold_input::HexLines;
+use mold_input::{BlocksToEmpty, HexLines, InputFormat, MessageBlocks};
 use mold_show::{Pack, PackOptions, Show};
 use mold_sim::Sim;
 use mold_wire::Session;
 use mold_words::{Order, PackOrder, SimOrder};
 use std::alloc::{AllocError, Global};
 
-/// Runs an order that reads lines (`IsStreamed`) over the whole input of the source, and returns the status.
+/// Runs an order that reads a source (`IsStreamed`) over the whole input of the source, and returns the status.
 ///
-/// The status is 0 if all lines were accepted, 2 if one was refused, and 1 if `check -` finds the session incomplete.
+/// The status is 0 if all lines or blocks were accepted, 2 if one was refused, 1 if `check -` finds a session incomplete.
 ///
 /// After a fault, the output written is a prefix of the whole output. `Read` is returned only if the source failed,
 /// `Write` only if the sink failed, and `Memory` only if an allocation failed.
@@ -41,10 +42,10 @@ pub fn run_command<S: Source, K: Sink>(
         Order::Show { request } => {
             run_lines(alloc, &mut Show::new(alloc, *request), source, sink)
         }
-        Order::Pack(order) => run_lines(alloc, &mut pack_of(alloc, order)?, source, sink),
+        Order::Pack(order) => run_pack(alloc, order, source, sink),
         Order::Sim(order) => run_lines(alloc, &mut sim_of(alloc, order)?, source, sink),
         Order::CheckLines => check_lines(alloc, source, sink),
-        // The contract requires an order that reads lines.
+        // The contract requires an order that reads the source.
         Order::Check { folder: _ }
         | Order::Publish(_)
         | Order::Serve(_)
@@ -55,8 +56,47 @@ pub fn run_command<S: Source, K: Sink>(
     }
 }
 
-// Returns the `pack` command of an order.
-fn pack_of(alloc: Global, order: &PackOrder) -> Result<Pack<HexLines>, AllocError>
+// Runs the order of `pack`. The format of the input determines the reader of its messages.
+fn run_pack<S: Source, K: Sink>(
+    alloc: Global,
+    order: &PackOrder,
+    source: &mut S,
+    sink: &mut K,
+) -> Result<u8, CommandFault>
+    ensures whole { IfOk result (λ answer. IfSome (S.left source.old) (λ input.
+        Appends (K.held sink.old) (K.held sink.new)
+        (pack_text order.now.input (record { 0 = order.now.session }) order.now.limit input)
+        × (answer ≡ pack_status order.now.input (record { 0 = order.now.session }) order.now.limit input))) }
+    ensures front { IfSome (S.left source.old) (λ input. AppendsPrefix (K.held sink.old) (K.held sink.new)
+        (pack_text order.now.input (record { 0 = order.now.session }) order.now.limit input)) }
+    ensures failures { CountsCommand (S.failed source.old) (S.failed source.new)
+        (K.failed sink.old) (K.failed sink.new) result }
+{
+    match order.input {
+        InputFormat::Lines => {
+            run_lines(alloc, &mut pack_of::<HexLines>(alloc, order)?, source, sink)
+        }
+        InputFormat::Blocks => {
+            run_lines(
+                alloc,
+                &mut pack_of::<MessageBlocks>(alloc, order)?,
+                source,
+                sink,
+            )
+        }
+        InputFormat::BlocksToEmpty => {
+            run_lines(
+                alloc,
+                &mut pack_of::<BlocksToEmpty>(alloc, order)?,
+                source,
+                sink,
+            )
+        }
+    }
+}
+
+// Returns the `pack` command of an order. Its messages are read by a reader `M`.
+fn pack_of<M>(alloc: Global, order: &PackOrder) -> Result<Pack<M>, AllocError>
     ensures { IfOk result (λ pack.
         pack ≡ fresh_publisher (record { 0 = order.now.session }) order.now.limit) }
 {

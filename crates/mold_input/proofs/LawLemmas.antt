@@ -32,7 +32,7 @@ block_read message rest fits =
     ∙ ap (λ (m : List ℕ). Ok m ∷ block_entries (after_first bytes)) first
     ∙ ap (λ (t : List ℕ). Ok message ∷ block_entries t) behind
 
-blocks_read : (messages : List (List ℕ)) (rest : List ℕ) → AllByRecursion IsMessage messages →
+pub blocks_read : (messages : List (List ℕ)) (rest : List ℕ) → AllByRecursion IsMessage messages →
     block_entries (blocks messages ++ rest) ≡ map Ok messages ++ block_entries rest
 blocks_read [] rest each = refl
 blocks_read (message ∷ messages) rest each =
@@ -56,7 +56,7 @@ cut_read messages rest each some cut =
 
 -- ---- bytes that read as messages are the blocks of these messages
 
-IsBytes-drop : (n : ℕ) (bytes : List ℕ) → IsBytes bytes → IsBytes (drop n bytes)
+pub IsBytes-drop : (n : ℕ) (bytes : List ℕ) → IsBytes bytes → IsBytes (drop n bytes)
 IsBytes-drop n bytes fits i = rw (get_or-drop n bytes i 0) (fits (n + i))
 
 two_fit : (high low : ℕ) → high < 256 → low < 256 → (i : ℕ) → get_or (high ∷ low ∷ []) i 0 < 256
@@ -78,14 +78,14 @@ pub record AreBlocksOf (messages : List (List ℕ)) (bytes : List ℕ) : Type 0 
   pub each : AllByRecursion IsMessage messages
 
 module _ (bytes : List ℕ) (fits : IsBytes bytes) (whole : IsWhole bytes) where
-  small : big_number 2 bytes < 2 ^ 16
+  pub small : big_number 2 bytes < 2 ^ 16
   small = omega (arith, fits 0, fits 1)
 
-  message_length : length (first_message bytes) ≡ big_number 2 bytes
+  pub message_length : length (first_message bytes) ≡ big_number 2 bytes
   message_length =
       length-take-le (big_number 2 bytes) (drop 2 bytes) (omega (arith, whole, length-drop 2 bytes))
 
-  first_is : bytes ≡ block (first_message bytes) ++ after_first bytes
+  pub first_is : bytes ≡ block (first_message bytes) ++ after_first bytes
   first_is =
       sym (take-append-drop 2 bytes)
       ∙ ap (λ (t : List ℕ). t ++ drop 2 bytes) (sym (length_is bytes fits (omega (arith, whole))))

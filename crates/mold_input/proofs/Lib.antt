@@ -1,3 +1,5 @@
 pub mod BlockLemmas
 pub mod JoiningLemmas
 mod LawLemmas
+mod ToEmptyLemmas
+mod ToEmptyLawLemmas

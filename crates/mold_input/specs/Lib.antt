@@ -1,2 +1,4 @@
 pub mod Blocks
+pub mod BlocksToEmpty
 pub mod Entries
+pub mod Formats

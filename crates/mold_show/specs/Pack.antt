@@ -1,7 +1,9 @@
 -- What `mold pack` prints for its input.
 use Rattle.std.specs.Prelude.{ℕ, ◌+◌, List, [], ◌++◌, length, Option, None, Some}
 use Rattle.mold_devices.specs.Turns.{Printing}
-use Rattle.mold_input.specs.Entries.{Entry, line_entries}
+use Rattle.mold_input.specs.Entries.{Entry}
+use Rattle.mold_input.specs.Formats.{entries_of, kind_of}
+use Rattle.mold_input.specs.declared.input_format.InputFormat.{InputFormat}
 use Rattle.mold_input.specs.declared.input_kind.InputKind.{InputKind}
 use Rattle.mold_input.specs.declared.input_kind.InputKind.TheVariants.{Lines, Blocks}
 use Rattle.mold_session.specs.Journal.{JournalState}
@@ -32,14 +34,16 @@ pack_printing kind entries publisher = record {
       packed_status (input_published publisher.journal (record { kind = kind; entries = entries input })).refused;
 }
 
--- What is printed for a whole input of lines. The lines before the first refused one are the messages of the session.
--- The first message has number 1.
-unfoldable pub pack_text : Session → ℕ → List ℕ → List ℕ
-pack_text session limit input = (pack_printing Lines line_entries (fresh_publisher session limit)).text input
+-- What is printed for a whole input in this format. The entries before the first refused one are the messages of the
+-- session. The first message has number 1.
+unfoldable pub pack_text : InputFormat → Session → ℕ → List ℕ → List ℕ
+pack_text format session limit input =
+    (pack_printing (kind_of format) (entries_of format) (fresh_publisher session limit)).text input
 
--- The exit status for a whole input of lines.
-unfoldable pub pack_status : Session → ℕ → List ℕ → ℕ
-pack_status session limit input = (pack_printing Lines line_entries (fresh_publisher session limit)).status input
+-- The exit status for a whole input in this format.
+unfoldable pub pack_status : InputFormat → Session → ℕ → List ℕ → ℕ
+pack_status format session limit input =
+    (pack_printing (kind_of format) (entries_of format) (fresh_publisher session limit)).status input
 
 -- The line of the datagram that is printed before a refusal. Of an input of lines there is none.
 abbrev pub line_before : InputKind → PublisherState → List ℕ

@@ -6,6 +6,7 @@ ghost use Rattle.std.specs.List.{AllByRecursion};
 ghost use Rattle.mold_wire.specs.Block.{IsBytes};
 ghost use Rattle.mold_wire.specs.declared.limits.TheConstants.{MESSAGE_OVERHEAD};
 ghost use Rattle.mold_devices.specs.Lines.{lines_of};
+ghost use Rattle.mold_input.specs.declared.input_format.InputFormat.TheVariants.{Lines};
 ghost use Rattle.mold_publish.specs.Publishing.{lines_published, packed_status};
 ghost use Rattle.mold_session.specs.Contents.{FileContents};
 ghost use Rattle.mold_session.specs.Journal.{IsWithin, fresh_journal};
@@ -19,17 +20,17 @@ ghost use Rattle.mold_wire.specs.declared.session.Session.{Session};
 use mold_publish::laws::lines_published_law;
 use mold_session::laws::contents_law;
 
-/// Computes the text that `pack` prints, and its exit status, from the lines of the input. The lines are published in
-/// order, up to the first one that is refused. The text is what `packed_text` defines for the published messages and
+/// Computes the text that `pack` prints for an input of lines, and its exit status, from these lines. They are published
+/// in order, up to the first one that is refused. The text is what `packed_text` defines for the published messages and
 /// the refusal, if there is one.
 pub fn pack_lines_law()
     ensures text { (session : Session) (limit : ℕ) (input : List ℕ) →
         let publisher = fresh_publisher session limit in
         let published = lines_published publisher.journal (lines_of input) in
-        pack_text session limit input
+        pack_text Lines session limit input
         ≡ packed_text publisher.limit publisher.sent published.journal published.refused }
     ensures status { (session : Session) (limit : ℕ) (input : List ℕ) →
-        pack_status session limit input
+        pack_status Lines session limit input
         ≡ packed_status (lines_published (fresh_publisher session limit).journal (lines_of input)).refused }
 {
     lines_published_law();

@@ -2,11 +2,12 @@
 
 ghost use Rattle.mold_wire.specs.declared.limits.TheConstants.{MESSAGE_OVERHEAD};
 ghost use Rattle.std.specs.Prelude.{◌≡◌, ◌-◌};
+ghost use Rattle.mold_input.specs.Formats.{entries_of, kind_of};
 ghost use Rattle.mold_wiring.specs.Addresses.{IsSocketOf};
 
 use crate::options::{listen_options, publish_options, serve_turns};
 use mold_devices::{CommandFault, FromRead, IntoWrite, NewFile};
-use mold_input::HexLines;
+use mold_input::{BlocksToEmpty, HexLines, InputFormat, MessageBlocks, MessageReader};
 use mold_listen::{ListenPorts, listen};
 use mold_ports::UdpPort;
 use mold_send::{PublishDevices, publish};
@@ -109,19 +110,26 @@ fn listen_on(
     flushed(outcome, sink.into_inner().flush())
 }
 
-/// Publishes the lines of standard input as messages on two lines, from a port that the system chooses. The journal's
-/// file is created at its first write.
+/// Publishes the messages of standard input on lines A and B, from a port that the system chooses. The order states how
+/// the input encodes the messages. The journal's file is created at its first write.
 pub fn run_publish(rt: &HostRuntime, order: &PublishOrder) -> Result<u8, ProgramFault> {
     let mut port = open_port(rt, ANY)?;
-    Ok(publish_on(rt, order, &mut port)?)
+    Ok(match order.input {
+        InputFormat::Lines => publish_on::<HexLines>(rt, order, &mut port),
+        InputFormat::Blocks => publish_on::<MessageBlocks>(rt, order, &mut port),
+        InputFormat::BlocksToEmpty => publish_on::<BlocksToEmpty>(rt, order, &mut port),
+    }?)
 }
 
-// Publishes from the port.
-fn publish_on(
+// Publishes from the port. The reader `M` reads the messages that the order's input holds.
+fn publish_on<M: MessageReader>(
     rt: &HostRuntime,
     order: &PublishOrder,
     port: &mut UdpPort,
-) -> Result<u8, CommandFault> {
+) -> Result<u8, CommandFault>
+    requires kind { M.input_kind ≡ kind_of order.now.input }
+    requires entries { M.entries ≡ entries_of order.now.input }
+{
     let mut publisher = make_publisher(rt.alloc(), order)?;
     let mut devices = PublishDevices {
         source: FromRead::new(rt.stdin()),
@@ -129,13 +137,7 @@ fn publish_on(
         journal: IntoWrite::new(NewFile::new(rt, order.journal.as_str())),
     };
     let options = publish_options(order);
-    let outcome = publish::<HexLines, _, _, _, _>(
-        rt.alloc(),
-        port,
-        options,
-        &mut publisher,
-        &mut devices,
-    );
+    let outcome = publish::<M, _, _, _, _>(rt.alloc(), port, options, &mut publisher, &mut devices);
     let PublishDevices { sink, .. } = devices;
     flushed(outcome, sink.into_inner().flush())
 }

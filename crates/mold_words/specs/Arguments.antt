@@ -1,6 +1,7 @@
 -- Defines the models of orders: what command-line arguments ask for.
 use Rattle.std.specs.Prelude.{ℕ, Bool, List, string_bytes}
 use Rattle.clap.specs.Words.{Text}
+use Rattle.mold_input.specs.declared.input_format.InputFormat.{InputFormat}
 use Rattle.mold_words.specs.declared.address.Address.{Address}
 use Rattle.mold_words.specs.declared.types.Order.{Order}
 use Rattle.mold_words.specs.declared.types.Order.TheVariants.{Show, Pack, Sim, Check, CheckLines, Publish, Serve}
@@ -43,6 +44,8 @@ pub record PublishArguments : Type 0 where
   pub beats : ℕ
   -- The number of end packets after the heartbeats.
   pub ends : ℕ
+  -- How the input encodes the messages.
+  pub input : InputFormat
 
 -- The model of a `serve` order.
 pub record ServeArguments : Type 0 where
@@ -110,11 +113,11 @@ pub record DumpArguments : Type 0 where
   -- The maximum number of messages.
   pub count : ℕ
 
--- The model of an order: the command and the values of its options. `pack` has a session and the maximum datagram
--- length. `upgrade` has the two files and whether the journal is closed.
+-- The model of an order: the command and the values of its options. `pack` has a session, the maximum datagram
+-- length, and how its input encodes the messages. `upgrade` has the two files and whether the journal is closed.
 pub data Arguments : Type 0 where
   show_wanted : Bool → Arguments
-  pack_wanted : List ℕ → ℕ → Arguments
+  pack_wanted : List ℕ → ℕ → InputFormat → Arguments
   sim_wanted : SimArguments → Arguments
   check_wanted : Text → Arguments
   check_lines_wanted : Arguments
@@ -128,7 +131,7 @@ pub data Arguments : Type 0 where
 -- The model of the program's `Order`: its command and the values of its options.
 abbrev pub view : Order → Arguments
 view (Show request) = show_wanted request
-view (Pack order) = pack_wanted order.session order.limit
+view (Pack order) = pack_wanted order.session order.limit order.input
 view (Sim order) = sim_wanted (record {
   session = order.session;
   limit = order.limits.limit;
@@ -147,6 +150,7 @@ view (Publish order) = publish_wanted (record {
   journal = string_bytes order.journal;
   beats = order.beats;
   ends = order.ends;
+  input = order.input;
 })
 view (Serve order) = serve_wanted (record {
   journal = string_bytes order.journal;

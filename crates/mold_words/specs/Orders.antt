@@ -1,10 +1,12 @@
 -- Defines the order that command-line arguments give.
-use Rattle.std.specs.Prelude.{◌≡◌, ℕ, Bool, List, [], Option, Some, None, codes, false, if◌then◌else◌, is_some}
+use Rattle.std.specs.Prelude.{◌≡◌, ℕ, Bool, List, [], Option, Some, None, codes, false, true, if◌then◌else◌, is_some}
 use Rattle.std.specs.Prelude.{nat_lt, not, option_map, ◌∷◌}
 use Rattle.std.specs.List.{list_any}
 use Rattle.std.specs.Option.{option_and_then, option_map_or}
 use Rattle.std.specs.Str.{bytes_eq}
 use Rattle.clap.specs.Words.{Row, Text, fault_of, first_of, subcommand_of}
+use Rattle.mold_input.specs.declared.input_format.InputFormat.{InputFormat}
+use Rattle.mold_input.specs.declared.input_format.InputFormat.TheVariants.{Lines, Blocks, BlocksToEmpty}
 use Rattle.mold_words.specs.Addresses.{address_of}
 use Rattle.mold_words.specs.Values.{session_of, number_of}
 use Rattle.mold_words.specs.Arguments.{Arguments, HostPort, check_lines_wanted, check_wanted, dump_wanted}
@@ -61,6 +63,17 @@ live_in rows = flag_in (codes "live") rows
 abbrev pub report_in : List Row → Bool
 report_in rows = flag_in (codes "report") rows
 
+-- The format that the flags `--blocks` and `--end-at-empty` choose. The second one requires the first one.
+abbrev pub format_of : Bool → Bool → Option InputFormat
+format_of false false = Some Lines
+format_of true false = Some Blocks
+format_of true true = Some BlocksToEmpty
+format_of false true = None
+
+-- How the input encodes messages, if the flags are valid together. Without flags the input is lines.
+unfoldable pub input_in : List Row → Option InputFormat
+input_in rows = format_of (flag_in (codes "blocks") rows) (flag_in (codes "end-at-empty") rows)
+
 -- The limits of the publisher and of its server, if the server's is at least the publisher's.
 unfoldable pub limits_in : List Row → Option (ℕ × ℕ)
 limits_in rows =
@@ -91,7 +104,9 @@ show_of rows = show_wanted (flag_in (codes "request") rows)
 unfoldable pub pack_of : List Row → Option Arguments
 pack_of rows =
     option_and_then
-    (λ session. option_map (λ limit. pack_wanted session limit) (limit_in (codes "limit") rows))
+    (λ session. option_and_then
+    (λ limit. option_map (λ input. pack_wanted session limit input) (input_in rows))
+    (limit_in (codes "limit") rows))
     (session_in (codes "session") rows)
 
 -- What `sim` asks for with these options, if their values are valid.
@@ -134,7 +149,8 @@ publish_of rows =
     (λ b. option_and_then
     (λ journal. option_and_then
     (λ beats. option_and_then
-    (λ ends. Some (publish_wanted (record {
+    (λ ends. option_and_then
+    (λ input. Some (publish_wanted (record {
       session = session;
       limit = limit;
       a = a;
@@ -142,7 +158,9 @@ publish_of rows =
       journal = journal;
       beats = beats;
       ends = ends;
+      input = input;
     })))
+    (input_in rows))
     (number_in (codes "ends") 1 0 1000 rows))
     (number_in (codes "beats") 1 0 1000 rows))
     (first_of (codes "journal") rows))

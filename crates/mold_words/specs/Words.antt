@@ -11,7 +11,11 @@ use Rattle.mold_words.specs.declared.table.Kind.TheVariants.{Flag, Optional, Req
 abbrev pub commands : List (Text × List (Text × Kind))
 commands =
     (codes "show", (codes "request", Flag) ∷ [])
-    ∷ (codes "pack", (codes "session", Required) ∷ (codes "limit", Optional) ∷ [])
+    ∷ (
+      codes "pack",
+      (codes "session", Required) ∷ (codes "limit", Optional) ∷ (codes "blocks", Flag)
+          ∷ (codes "end-at-empty", Flag) ∷ [],
+    )
     ∷ (
       codes "sim",
       (codes "session", Required) ∷ (codes "limit", Optional) ∷ (codes "server-limit", Optional)
@@ -21,7 +25,8 @@ commands =
     ∷ (
       codes "publish",
       (codes "session", Required) ∷ (codes "limit", Optional) ∷ (codes "a", Required) ∷ (codes "b", Required)
-          ∷ (codes "journal", Required) ∷ (codes "beats", Optional) ∷ (codes "ends", Optional) ∷ [],
+          ∷ (codes "journal", Required) ∷ (codes "beats", Optional) ∷ (codes "ends", Optional)
+          ∷ (codes "blocks", Flag) ∷ (codes "end-at-empty", Flag) ∷ [],
     )
     ∷ (
       codes "serve",

@@ -2,6 +2,7 @@
 ghost use Rattle.std.specs.Prelude.{◌≡◌, [], ◌∷◌, IfSome, IsTrue, List, None, codes, false, true};
 ghost use Rattle.clap.specs.Words.{Text, fault_of, subcommand_of};
 ghost use Rattle.clap.specs.declared.error.kind.ErrorKind.TheVariants.{DisplayHelp, DisplayVersion, UnknownArgument};
+ghost use Rattle.mold_input.specs.declared.input_format.InputFormat.TheVariants.{Lines, Blocks, BlocksToEmpty};
 ghost use Rattle.mold_words.specs.Orders.{AreTaken, Say, order_of};
 ghost use Rattle.mold_words.specs.Arguments.{check_lines_wanted, check_wanted, dump_wanted, listen_wanted, loop_wanted};
 ghost use Rattle.mold_words.specs.Arguments.{pack_wanted, publish_wanted, serve_wanted, show_wanted, sim_wanted};
@@ -17,15 +18,24 @@ pub fn show_taken_law()
 {}
 
 /// `pack --session MKT` is accepted, and asks to pack the session `MKT`, padded with seven spaces, into datagrams of up
-/// to 1,400 bytes. `--limit` sets another limit. A limit below 64 is refused.
+/// to 1,400 bytes. Its input is lines. `--limit` sets another limit. A limit below 64 is refused. `--blocks` asks to
+/// read blocks, and together with `--end-at-empty` to read blocks up to the first empty one. `--end-at-empty` without
+/// `--blocks` is refused.
 pub fn pack_taken_law()
     ensures usual { Say (codes "pack" ∷ codes "--session" ∷ codes "MKT" ∷ [])
-        (pack_wanted (codes "MKT       ") 1400) }
+        (pack_wanted (codes "MKT       ") 1400 Lines) }
     ensures limit { Say
         (codes "pack" ∷ codes "--session" ∷ codes "SESSION001" ∷ codes "--limit" ∷ codes "64" ∷ [])
-        (pack_wanted (codes "SESSION001") 64) }
+        (pack_wanted (codes "SESSION001") 64 Lines) }
     ensures small { order_of
         (codes "pack" ∷ codes "--session" ∷ codes "MKT" ∷ codes "--limit" ∷ codes "63" ∷ []) ≡ None }
+    ensures blocks { Say (codes "pack" ∷ codes "--blocks" ∷ codes "--session" ∷ codes "MKT" ∷ [])
+        (pack_wanted (codes "MKT       ") 1400 Blocks) }
+    ensures to_empty { Say
+        (codes "pack" ∷ codes "--session" ∷ codes "MKT" ∷ codes "--end-at-empty" ∷ codes "--blocks" ∷ [])
+        (pack_wanted (codes "MKT       ") 1400 BlocksToEmpty) }
+    ensures no_blocks { order_of
+        (codes "pack" ∷ codes "--session" ∷ codes "MKT" ∷ codes "--end-at-empty" ∷ []) ≡ None }
 {}
 
 /// `sim --session MKT` is accepted, and asks for two receivers of the session `MKT`. The windows are 1,024 messages,
@@ -67,7 +77,9 @@ pub fn check_taken_law()
 
 /// `publish --session MKT --a .. --b .. --journal J` is accepted, and asks to send the session `MKT` to these addresses
 /// and to save its journal in `J`. Datagrams have up to 1,400 bytes. One heartbeat and one end packet follow the
-/// messages. An address with a leading zero in a number is refused.
+/// messages. The input is lines. An address with a leading zero in a number is refused. `--blocks` asks to read blocks,
+/// and together with `--end-at-empty` to read blocks up to the first empty one. `--end-at-empty` without `--blocks` is
+/// refused.
 pub fn publish_taken_law()
     ensures usual { Say
         (codes "publish" ∷ codes "--session" ∷ codes "MKT" ∷ codes "--a" ∷ codes "127.0.0.1:9000"
@@ -80,7 +92,37 @@ pub fn publish_taken_law()
           journal = codes "J";
           beats = 1;
           ends = 1;
+          input = Lines;
         })) }
+    ensures blocks { Say
+        (codes "publish" ∷ codes "--session" ∷ codes "MKT" ∷ codes "--a" ∷ codes "0.0.0.0:0"
+        ∷ codes "--b" ∷ codes "0.0.0.0:0" ∷ codes "--journal" ∷ codes "J" ∷ codes "--blocks" ∷ [])
+        (publish_wanted (record {
+          session = codes "MKT       ";
+          limit = 1400;
+          a = (0 ∷ 0 ∷ 0 ∷ 0 ∷ [], 0);
+          b = (0 ∷ 0 ∷ 0 ∷ 0 ∷ [], 0);
+          journal = codes "J";
+          beats = 1;
+          ends = 1;
+          input = Blocks;
+        })) }
+    ensures to_empty { Say
+        (codes "publish" ∷ codes "--blocks" ∷ codes "--end-at-empty" ∷ codes "--session" ∷ codes "MKT"
+        ∷ codes "--a" ∷ codes "0.0.0.0:0" ∷ codes "--b" ∷ codes "0.0.0.0:0" ∷ codes "--journal" ∷ codes "J" ∷ [])
+        (publish_wanted (record {
+          session = codes "MKT       ";
+          limit = 1400;
+          a = (0 ∷ 0 ∷ 0 ∷ 0 ∷ [], 0);
+          b = (0 ∷ 0 ∷ 0 ∷ 0 ∷ [], 0);
+          journal = codes "J";
+          beats = 1;
+          ends = 1;
+          input = BlocksToEmpty;
+        })) }
+    ensures no_blocks { order_of
+        (codes "publish" ∷ codes "--end-at-empty" ∷ codes "--session" ∷ codes "MKT" ∷ codes "--a"
+        ∷ codes "0.0.0.0:0" ∷ codes "--b" ∷ codes "0.0.0.0:0" ∷ codes "--journal" ∷ codes "J" ∷ []) ≡ None }
     ensures zero { order_of
         (codes "publish" ∷ codes "--session" ∷ codes "MKT" ∷ codes "--a" ∷ codes "127.0.0.01:9000"
         ∷ codes "--b" ∷ codes "127.0.0.1:9001" ∷ codes "--journal" ∷ codes "J" ∷ []) ≡ None }

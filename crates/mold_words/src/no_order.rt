@@ -32,6 +32,8 @@ pub(crate) enum NoOrder {
     ServerLimit,
     /// The two file names are equal.
     SameFiles,
+    /// `--end-at-empty` is given without `--blocks`.
+    EndWithoutBlocks,
     /// An allocation failed.
     Memory,
 }
@@ -92,6 +94,10 @@ impl NoOrder {
             NoOrder::SameFiles => {
                 String::from_str(alloc, "error: '--journal' and '--to' name one file\n")
             }
+            NoOrder::EndWithoutBlocks => String::from_str(
+                alloc,
+                "error: '--end-at-empty' requires '--blocks'\n",
+            ),
             NoOrder::Memory => Err(AllocError),
         }
     }

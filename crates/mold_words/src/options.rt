@@ -4,7 +4,8 @@ ghost use Rattle.std.specs.Prelude.{◌≡◌, ◌≤◌, IfOk, MatchResult, Non
 ghost use Rattle.std.specs.List.{list_all};
 ghost use Rattle.clap.specs.Words.{first_of, found_of, rows_of};
 ghost use Rattle.mold_words.specs.NoOrders.{LacksOrder, LacksValue, is_address};
-ghost use Rattle.mold_words.specs.Orders.{address_in, burst_in, flag_in, has_no_address, is_no_address, limit_in};
+ghost use Rattle.mold_words.specs.Orders.{address_in, burst_in, flag_in, has_no_address, input_in, is_no_address};
+ghost use Rattle.mold_words.specs.Orders.{limit_in};
 ghost use Rattle.mold_words.specs.Orders.{limits_in, live_in, number_in, report_in, session_in, turns_in, window_in};
 ghost use Rattle.mold_words.specs.Values.{is_character};
 ghost use Rattle.mold_words.specs.Arguments.{address_view};
@@ -17,6 +18,7 @@ use crate::limits::Limits;
 use crate::no_order::NoOrder;
 use crate::values::{number_of, session_of};
 use clap::ArgMatches;
+use mold_input::InputFormat;
 use mold_wire::{MAX_BURST, MAX_LIMIT, MAX_WINDOW, MIN_LIMIT};
 use std::alloc::Global;
 
@@ -162,6 +164,21 @@ pub(crate) fn report_in(options: &ArgMatches<'_>) -> bool
     ensures { result ≡ report_in (rows_of (found_of options.now)) }
 {
     flag_in(options, "report")
+}
+
+/// Returns how the input encodes messages. `--end-at-empty` is refused without `--blocks`.
+#[tactic(auto, unfolding(crate::specs::Orders::input_in))]
+pub(crate) fn input_in(options: &ArgMatches<'_>) -> Result<InputFormat, NoOrder>
+    ensures { MatchResult result
+        (λ format. input_in (rows_of (found_of options.now)) ≡ Some format)
+        (LacksValue (input_in (rows_of (found_of options.now)))) }
+{
+    match (flag_in(options, "blocks"), flag_in(options, "end-at-empty")) {
+        (false, false) => Ok(InputFormat::Lines),
+        (true, false) => Ok(InputFormat::Blocks),
+        (true, true) => Ok(InputFormat::BlocksToEmpty),
+        (false, true) => Err(NoOrder::EndWithoutBlocks),
+    }
 }
 
 /// Returns the limits of the publisher and of its server. The server's limit is at least the publisher's.

@@ -12,8 +12,8 @@ use crate::listen_order::ListenOrder;
 use crate::loop_order::LoopOrder;
 use crate::no_order::NoOrder;
 use crate::options::{
-    address_in, burst_in, check_addresses, flag_in, limit_in, limits_in, live_in, number_in,
-    report_in, required_in, session_in, string_in, turns_in, window_in,
+    address_in, burst_in, check_addresses, flag_in, input_in, limit_in, limits_in, live_in,
+    number_in, report_in, required_in, session_in, string_in, turns_in, window_in,
 };
 use crate::pack_order::PackOrder;
 use crate::publish_order::PublishOrder;
@@ -83,7 +83,12 @@ fn pack_order(options: &ArgMatches<'_>) -> Result<Order, NoOrder>
 {
     let session = session_in(options, "session")?;
     let limit = limit_in(options, "limit")?;
-    Ok(Order::Pack(PackOrder { session, limit }))
+    let input = input_in(options)?;
+    Ok(Order::Pack(PackOrder {
+        session,
+        limit,
+        input,
+    }))
 }
 
 #[tactic(auto, unfolding(crate::specs::Orders::upgrade_of))]
@@ -167,6 +172,7 @@ fn publish_order(alloc: Global, options: &ArgMatches<'_>) -> Result<Order, NoOrd
     let b = address_in(options, "b")?;
     let beats = number_in(options, "beats", 1, 0, 1000)?;
     let ends = number_in(options, "ends", 1, 0, 1000)?;
+    let input = input_in(options)?;
     let journal = string_in(alloc, options, "journal")?;
     Ok(Order::Publish(PublishOrder {
         session,
@@ -176,6 +182,7 @@ fn publish_order(alloc: Global, options: &ArgMatches<'_>) -> Result<Order, NoOrd
         journal,
         beats: beats as u32,
         ends: ends as u32,
+        input,
     }))
 }
 

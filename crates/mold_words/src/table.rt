@@ -100,6 +100,21 @@ const REPORT: OptionRow = OptionRow {
         before the last line of output",
 };
 
+// Reads message blocks in place of lines.
+const BLOCKS: OptionRow = OptionRow {
+    name: "blocks",
+    kind: Kind::Flag,
+    help: "Read message blocks (BinaryFILE). A block is the length of a message in two\n\
+        bytes, most significant first, and the message",
+};
+
+// Ends the input of blocks before the first empty one.
+const END_AT_EMPTY: OptionRow = OptionRow {
+    name: "end-at-empty",
+    kind: Kind::Flag,
+    help: "End the input of --blocks before its first empty block, which must exist",
+};
+
 /// The commands, in the order in which help lists them.
 pub static COMMANDS: [CommandRow; 10] = [
     CommandRow {
@@ -115,7 +130,7 @@ pub static COMMANDS: [CommandRow; 10] = [
     CommandRow {
         name: "pack",
         about: "Pack messages from standard input and print the packets",
-        options: &[SESSION, LIMIT],
+        options: &[SESSION, LIMIT, BLOCKS, END_AT_EMPTY],
         example: "Example:\n  printf '4142\\n4344\\n' | mold pack --session SESSION001",
     },
     CommandRow {
@@ -177,6 +192,8 @@ pub static COMMANDS: [CommandRow; 10] = [
                 kind: Kind::Optional,
                 help: "The number of end packets after the heartbeats, 0 to 1000 [default: 1]",
             },
+            BLOCKS,
+            END_AT_EMPTY,
         ],
         example: "Example:\n  mold publish --session SESSION001 --a 127.0.0.1:9001 --b 127.0.0.1:9002 \\\
             \n    --journal day.journal < messages",

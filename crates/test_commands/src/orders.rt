@@ -2,6 +2,7 @@
 
 ghost use Rattle.mold_commands.specs.Command.{IsStreamed};
 
+use mold_input::InputFormat;
 use mold_words::{Limits, Order, PackOrder, SimOrder};
 
 /// A command with its options. The session is `SESSION001`, and packets have up to 64 bytes.
@@ -10,10 +11,24 @@ pub enum Command {
     Show,
     ShowRequests,
     Pack,
+    /// `pack --blocks`
+    PackBlocks,
+    /// `pack --blocks --end-at-empty`
+    PackToEmpty,
     /// Two receivers with a window of four messages, and bursts of one datagram.
     Sim,
     /// `check -`
     CheckLines,
+}
+
+fn pack_order(input: InputFormat) -> Order
+    ensures { IsStreamed result }
+{
+    Order::Pack(PackOrder {
+        session: *b"SESSION001",
+        limit: 64,
+        input,
+    })
 }
 
 /// The order of a command.
@@ -23,10 +38,9 @@ pub fn order_of(command: Command) -> Order
     match command {
         Command::Show => Order::Show { request: false },
         Command::ShowRequests => Order::Show { request: true },
-        Command::Pack => Order::Pack(PackOrder {
-            session: *b"SESSION001",
-            limit: 64,
-        }),
+        Command::Pack => pack_order(InputFormat::Lines),
+        Command::PackBlocks => pack_order(InputFormat::Blocks),
+        Command::PackToEmpty => pack_order(InputFormat::BlocksToEmpty),
         Command::Sim => Order::Sim(SimOrder {
             session: *b"SESSION001",
             limits: Limits {

@@ -1,80 +1,110 @@
-//! `pack` over an input of message blocks.
+//! The command `pack` over message blocks.
 
-use crate::comparisons::{same_bytes, same_outcome};
-use mold_devices::{MemorySink, MemorySource, run_lines};
-use mold_input::MessageBlocks;
-use mold_show::{Pack, PackOptions};
-use mold_wire::Session;
-use std::process::Abort;
+use crate::orders::Command;
+use crate::running::{Case, expect_again, expect_cases, expect_failed_reads, expect_failed_writes};
 use std::test::Fail;
 
-struct BlocksCase {
-    input: &'static [u8],
-    text: &'static [u8],
-    status: u8,
-}
+// Two messages, one of them empty, and the end.
+const TWO_AND_END: Case = Case {
+    input: b"\x00\x02AB\x00\x00",
+    text: b"53455353494f4e30303100000000000000010002000241420000\n\
+        53455353494f4e3030310000000000000003ffff\n",
+    status: 0,
+};
 
-// Two messages and the end; the end alone; inputs that end within a block; and a message that is too long.
-const CASES: &[BlocksCase] = &[
-    BlocksCase {
-        input: b"\x00\x02AB\x00\x00",
-        text: b"53455353494f4e30303100000000000000010002000241420000\n\
-            53455353494f4e3030310000000000000003ffff\n",
-        status: 0,
-    },
-    BlocksCase {
+// The end alone; inputs that end within a block; and a message that is too long.
+const CASES: &[Case] = &[
+    TWO_AND_END,
+    Case {
         input: b"",
         text: b"53455353494f4e3030310000000000000001ffff\n",
         status: 0,
     },
-    BlocksCase {
+    Case {
         input: b"\x00",
         text: b"refused block 1 Cut\n",
         status: 2,
     },
-    BlocksCase {
+    Case {
         input: b"\xff\xff\x00",
         text: b"refused block 1 Cut\n",
         status: 2,
     },
-    BlocksCase {
+    Case {
         input: b"\x00\x01A\x00\x02",
         text: b"53455353494f4e30303100000000000000010001000141\nrefused block 2 Cut\n",
         status: 2,
     },
-    BlocksCase {
+    Case {
         input: b"\x00\x01A\x00\x2b...........................................",
         text: b"53455353494f4e30303100000000000000010001000141\nrefused block 2 TooLong 43\n",
         status: 2,
     },
 ];
 
-fn expect_case(
-    rt: &(impl Abort + AllocGlobal),
-    case: &BlocksCase,
-    most: usize,
-) -> Result<(), Fail> {
-    let options = PackOptions {
-        session: Session(*b"SESSION001"),
-        limit: 64,
-    };
-    let mut pack = Pack::<MessageBlocks>::new(rt.alloc(), options)?;
-    let mut source = MemorySource::new(case.input);
-    if most > 0 {
-        source.at_most(most);
-    }
-    let mut sink = MemorySink::new(rt.alloc());
-    let outcome = run_lines(rt.alloc(), &mut pack, &mut source, &mut sink);
-    same_outcome(rt, outcome, Ok(case.status), 0);
-    same_bytes(rt, sink.bytes(), case.text, 0);
-    Ok(())
+#[test]
+fn blocks_are_packed(rt: HostRuntime) {
+    expect_cases(&rt, Command::PackBlocks, CASES);
+}
+
+// Blocks after the first empty one; a cut block and one byte after it; no message; and inputs without an empty block.
+const CASES_TO_EMPTY: &[Case] = &[
+    Case {
+        input: b"\x00\x01A\x00\x00\x00\x01B",
+        text: b"53455353494f4e30303100000000000000010001000141\n\
+            53455353494f4e3030310000000000000002ffff\n",
+        status: 0,
+    },
+    Case {
+        input: b"\x00\x01A\x00\x00\xff",
+        text: b"53455353494f4e30303100000000000000010001000141\n\
+            53455353494f4e3030310000000000000002ffff\n",
+        status: 0,
+    },
+    Case {
+        input: b"\x00\x00",
+        text: b"53455353494f4e3030310000000000000001ffff\n",
+        status: 0,
+    },
+    Case {
+        input: b"\x00\x01A",
+        text: b"53455353494f4e30303100000000000000010001000141\nrefused block 2 Cut\n",
+        status: 2,
+    },
+    Case {
+        input: b"\x00\x01A\x00",
+        text: b"53455353494f4e30303100000000000000010001000141\nrefused block 2 Cut\n",
+        status: 2,
+    },
+    Case {
+        input: b"",
+        text: b"refused block 1 Cut\n",
+        status: 2,
+    },
+];
+
+#[test]
+fn blocks_to_an_empty_one_are_packed(rt: HostRuntime) {
+    expect_cases(&rt, Command::PackToEmpty, CASES_TO_EMPTY);
 }
 
 #[test]
-fn blocks_are_packed(rt: HostRuntime) -> Result<(), Fail> {
-    for case in CASES {
-        expect_case(&rt, case, 65536)?;
-        expect_case(&rt, case, 1)?;
-    }
-    Ok(())
+fn each_read_of_blocks_that_fails_leaves_a_prefix_of_the_packets(rt: HostRuntime) {
+    // Each of the six bytes is a read. The seventh one finds the end of the input.
+    expect_failed_reads(&rt, Command::PackBlocks, &TWO_AND_END, 7);
+}
+
+#[test]
+fn each_write_of_packed_blocks_that_fails_leaves_a_prefix(rt: HostRuntime) {
+    expect_failed_writes(&rt, Command::PackBlocks, &TWO_AND_END);
+}
+
+#[test]
+fn out_of_memory_packs_a_prefix_of_blocks(rt: HostRuntime) -> Result<(), Fail> {
+    expect_again(&rt, Command::PackBlocks, &TWO_AND_END)
+}
+
+#[test]
+fn out_of_memory_packs_a_prefix_to_an_empty_block(rt: HostRuntime) -> Result<(), Fail> {
+    expect_again(&rt, Command::PackToEmpty, &CASES_TO_EMPTY[0])
 }

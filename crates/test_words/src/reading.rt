@@ -1,6 +1,7 @@
 //! Reads the arguments of a line, and compares the order or the fault. Each kind of comparison is in one function,
 //! and each of the two results is owned by one function: the proof of a test grows with both.
 
+use mold_input::InputFormat;
 use mold_words::{
     Address, ListenOrder, LoopOrder, Order, PublishOrder, ServeOrder, SimOrder, UsageFault,
     read_words,
@@ -32,6 +33,15 @@ fn arguments_of(alloc: Global, line: &str) -> Result<Vec<String>, AllocError> {
         arguments.push(String::from_str(alloc, argument)?)?;
     }
     Ok(arguments)
+}
+
+// The number of a format: 0 for lines, 1 for blocks, 2 for blocks up to the first empty one.
+fn number_of(input: InputFormat) -> u64 {
+    match input {
+        InputFormat::Lines => 0,
+        InputFormat::Blocks => 1,
+        InputFormat::BlocksToEmpty => 2,
+    }
 }
 
 // The order of a line, or its fault.
@@ -92,6 +102,7 @@ fn expect_publish(rt: &impl Abort, order: &PublishOrder, wanted: &Values<'_>, li
         order.limit as u64,
         u64::from(order.beats),
         u64::from(order.ends),
+        number_of(order.input),
     ];
     let found = Values {
         command: "publish",
@@ -186,7 +197,7 @@ fn expect_order(rt: &impl Abort, order: &Order, wanted: &Values<'_>, line: &str)
             expect_small(rt, "show", b"", &[u64::from(*request)], &[], wanted, line);
         }
         Order::Pack(order) => {
-            let numbers = [order.limit as u64];
+            let numbers = [order.limit as u64, number_of(order.input)];
             expect_small(rt, "pack", &order.session, &numbers, &[], wanted, line);
         }
         Order::Sim(order) => expect_sim(rt, order, wanted, line),

@@ -51,13 +51,14 @@ fn arguments_of_show(rt: HostRuntime) {
     expect_orders(&rt, SHOW);
 }
 
+// The limit, and the format of the input.
 const PACK: &[OrderLine] = &[
     (
         "pack --session MKT",
         Values {
             command: "pack",
             session: b"MKT       ",
-            numbers: &[1400],
+            numbers: &[1400, 0],
             addresses: &[],
             texts: &[],
         },
@@ -67,7 +68,7 @@ const PACK: &[OrderLine] = &[
         Values {
             command: "pack",
             session: b"SESSION001",
-            numbers: &[64],
+            numbers: &[64, 0],
             addresses: &[],
             texts: &[],
         },
@@ -77,7 +78,27 @@ const PACK: &[OrderLine] = &[
         Values {
             command: "pack",
             session: b"-~        ",
-            numbers: &[65507],
+            numbers: &[65507, 0],
+            addresses: &[],
+            texts: &[],
+        },
+    ),
+    (
+        "pack --blocks --session MKT",
+        Values {
+            command: "pack",
+            session: b"MKT       ",
+            numbers: &[1400, 1],
+            addresses: &[],
+            texts: &[],
+        },
+    ),
+    (
+        "pack --end-at-empty --session MKT --blocks",
+        Values {
+            command: "pack",
+            session: b"MKT       ",
+            numbers: &[1400, 2],
             addresses: &[],
             texts: &[],
         },
@@ -157,14 +178,14 @@ fn arguments_of_check(rt: HostRuntime) {
     expect_orders(&rt, CHECK);
 }
 
-// The limit, the heartbeats and the end packets.
+// The limit, the heartbeats, the end packets, and the format of the input.
 const PUBLISH: &[OrderLine] = &[(
     "publish --session MKT --limit 64 --a 127.0.0.1:9000 --b 10.20.30.255:65535 \
-            --journal J --beats 0 --ends 1000",
+            --journal J --beats 0 --ends 1000 --blocks --end-at-empty",
     Values {
         command: "publish",
         session: b"MKT       ",
-        numbers: &[64, 0, 1000],
+        numbers: &[64, 0, 1000, 2],
         addresses: &[
             Address {
                 host: [127, 0, 0, 1],

@@ -1,16 +1,5 @@
-use Rattle.mold_show.specs.Pack.{pack_text, pack_status}
 use Rattle.mold_sim.specs.Sim.{sim_status, sim_text}
 use Rattle.mold_commands.proofs.command.run_command.Goals as goal
-
-pub returns-in_ok-pack_of-in-Pack-clause-whole : goal.returns-in_ok-pack_of-in-Pack-clause-whole
-unfolding pack_text pack_status
-returns-in_ok-pack_of-in-Pack-clause-whole g c =
-    rw c.in-Pack.is (rw c.in_ok-pack_of-in-Pack.ensures at c.run_lines-in-Pack.ensures.whole)
-
-pub returns-in_ok-pack_of-in-Pack-clause-front : goal.returns-in_ok-pack_of-in-Pack-clause-front
-unfolding pack_text
-returns-in_ok-pack_of-in-Pack-clause-front g c =
-    rw c.in-Pack.is (rw c.in_ok-pack_of-in-Pack.ensures at c.run_lines-in-Pack.ensures.front)
 
 pub returns-in_ok-sim_of-in-Sim-clause-whole : goal.returns-in_ok-sim_of-in-Sim-clause-whole
 unfolding sim_text sim_status
