@@ -8,8 +8,8 @@ use mold_receiver::{Arbiter, Batch, Line, Receiver, Refusal};
 use mold_wire::decode;
 use std::alloc::Global;
 
-/// Returns an arbiter for the session of a datagram, which starts at message 1. Returns `None` if the datagram is not
-/// a valid packet or an allocation fails.
+/// Returns an arbiter that starts at message 1 of the datagram's session. Returns `None` if the datagram is not a valid
+/// packet or an allocation fails.
 pub fn begin(alloc: Global, datagram: &[u8]) -> Option<Arbiter> {
     let packet = decode(datagram).ok()?;
     let receiver = Receiver::new(alloc, packet.session, 1, 1024).ok()?;
