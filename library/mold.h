@@ -77,7 +77,7 @@ enum {
     MOLD_CONFLICT = 14,       /* a message differs from the one received before */
     MOLD_LINE = 15,           /* there is no such line */
     MOLD_NEXT_ZERO = 16,      /* a listener cannot begin at sequence number 0 */
-    MOLD_WINDOW = 17,         /* a window is 1 to 65,536 messages */
+    MOLD_WINDOW = 17,         /* a window is 1 to 1,048,576 messages */
     MOLD_ABSENT = 18,         /* there is nothing to return */
     MOLD_CLOSED = 19,         /* the session is closed */
     MOLD_TOO_LONG = 20,       /* the message is too long */
@@ -254,7 +254,7 @@ enum {
  *
  *   MOLD_BROKEN     the handle is not empty.
  *   MOLD_NEXT_ZERO  next is 0.
- *   MOLD_WINDOW     window is not 1 to 65,536.
+ *   MOLD_WINDOW     window is not 1 to 1,048,576.
  *   MOLD_MEMORY     an allocation failed; the handle is empty. */
 uint32_t mold_listener_new(mold_listener *listener, const uint8_t session[10], uint64_t next, uint32_t window);
 

@@ -123,7 +123,7 @@ double refused(std::uint32_t window) {
 
 int main() {
     std::printf("%-12s %10s %10s %10s %10s %10s\n", "window", "in order", "gaps", "refused", "ratio", "ratio");
-    for (std::uint32_t window : {1024u, 65536u}) {
+    for (std::uint32_t window : {1024u, 65536u, 1048576u}) {
         const double plain = in_order(window), gaps = with_gaps(window), no = refused(window);
         std::printf("%-12u %10.1f %10.1f %10.1f %10.2f %10.2f\n", window, plain, gaps, no, gaps / plain, no / plain);
     }

@@ -80,7 +80,7 @@ static struct options options_of(int count, char **words) {
         else if (strcmp(name, "--next") == 0)
             read.next = number_of(value, 1, UINT64_MAX);
         else if (strcmp(name, "--window") == 0)
-            read.window = (uint32_t)number_of(value, 1, 65536);
+            read.window = (uint32_t)number_of(value, 1, 1048576);
         else if (strcmp(name, "--patience") == 0)
             read.patience = (int64_t)number_of(value, 0, 60000);
         else if (strcmp(name, "--timeout") == 0)

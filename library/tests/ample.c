@@ -54,7 +54,7 @@ static void limits_and_bursts_of_servers(void) {
 
 /* A listener of each window stores and delivers messages, also of the greatest datagram. */
 static void windows_of_listeners(void) {
-    static const uint32_t windows[] = {1, 2, 1023, 1024, 1025, 65535, 65536};
+    static const uint32_t windows[] = {1, 2, 1023, 1024, 1025, 65536, 65537, 1048575, 1048576};
     for (size_t i = 0; i < sizeof windows / sizeof *windows; i++) {
         mold_listener listener = listener_at(1, windows[i]);
         mold_told told = {0, 0, 0, 0, 0};

@@ -16,9 +16,9 @@ static void listeners_that_cannot_be(void) {
     mold_listener listener = MOLD_EMPTY;
     CODE(mold_listener_new(&listener, session, 0, 0), MOLD_NEXT_ZERO);
     CODE(mold_listener_new(&listener, session, 1, 0), MOLD_WINDOW);
-    CODE(mold_listener_new(&listener, session, 1, 65537), MOLD_WINDOW);
+    CODE(mold_listener_new(&listener, session, 1, 1048577), MOLD_WINDOW);
     CHECK(listener.at == NULL && !listener.live);
-    CODE(mold_listener_new(&listener, session, UINT64_MAX, 65536), MOLD_DONE);
+    CODE(mold_listener_new(&listener, session, UINT64_MAX, 1048576), MOLD_DONE);
     CHECK(mold_listener_next(&listener) == UINT64_MAX && mold_listener_known(&listener) == UINT64_MAX);
     CODE(mold_listener_new(&listener, session, 1, 4), MOLD_BROKEN);
     CHECK(mold_listener_next(&listener) == UINT64_MAX);

@@ -34,7 +34,7 @@ pub(crate) const LINE: &[u8] = b"there is no such line";
 
 pub(crate) const NEXT_ZERO: &[u8] = b"a listener cannot begin at sequence number 0";
 
-pub(crate) const WINDOW: &[u8] = b"a window is 1 to 65,536 messages";
+pub(crate) const WINDOW: &[u8] = b"a window is 1 to 1,048,576 messages";
 
 pub(crate) const ABSENT: &[u8] = b"there is nothing to return";
 

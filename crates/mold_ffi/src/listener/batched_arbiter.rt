@@ -2,7 +2,7 @@
 
 ghost use Rattle.std.specs.Prelude.{◌≡◌, ◌<◌, IfOk, IfErr, OnOk};
 ghost use Rattle.mold_ffi.specs.Listener.BatchedArbiter.{HasReceived, begun, cleared};
-ghost use Rattle.mold_receiver.specs.View.{IsWellFormed, IsWindow};
+ghost use Rattle.mold_receiver.specs.View.{IsWellFormed, IsWideWindow};
 ghost use Rattle.mold_receiver.specs.declared.error.ReceiverError.TheVariants.{NextZero, Window, Memory};
 
 use mold_receiver::laws::{followed_law, taken_law};
@@ -40,12 +40,12 @@ impl BatchedArbiter {
         window: u32,
     ) -> Result<BatchedArbiter, ReceiverError>
         ensures made { IfOk result (λ listener. listener ≡ begun session next window) }
-        ensures ok { OnOk result ((0 < next) × IsWindow window) }
+        ensures ok { OnOk result ((0 < next) × IsWideWindow window) }
         ensures zero { next ≡ 0 → IfErr result (λ error. error ≡ NextZero) }
-        ensures window { 0 < next → (IsWindow window → ⊥) → IfErr result (λ error. error ≡ Window) }
-        ensures memory { 0 < next → IsWindow window → IfErr result (λ error. error ≡ Memory) }
+        ensures window { 0 < next → (IsWideWindow window → ⊥) → IfErr result (λ error. error ≡ Window) }
+        ensures memory { 0 < next → IsWideWindow window → IfErr result (λ error. error ≡ Memory) }
     {
-        let receiver = Receiver::new(alloc, session, next, window)?;
+        let receiver = Receiver::wide(alloc, session, next, window)?;
         Ok(BatchedArbiter {
             arbiter: Arbiter::new(receiver),
             batch: Batch::new(alloc),

@@ -7,7 +7,7 @@ ghost use Rattle.mold_ffi.specs.Listener.Calls.{Takes};
 ghost use Rattle.mold_ffi.specs.Listener.Origin.{origin_at};
 ghost use Rattle.mold_ffi.specs.declared.code.TheConstants as codes;
 ghost use Rattle.mold_ffi.specs.declared.handle.held.Held.TheVariants.{Listener as AListener};
-ghost use Rattle.mold_receiver.specs.View.{IsWindow};
+ghost use Rattle.mold_receiver.specs.View.{IsWideWindow};
 ghost use Rattle.mold_receiver.specs.declared.origin.Origin.{Origin as AnOrigin};
 
 use crate::code::{BROKEN, DONE, LINE, MEMORY, NEXT_ZERO, WINDOW};
@@ -21,7 +21,7 @@ use mold_wire::Session;
 use std::alloc::Global;
 
 /// Makes a listener to a session, which begins at sequence number `next`. It stores a message above a gap if its number
-/// is less than the next number to deliver plus `window`, which is 1 to 65,536. The handle must be empty.
+/// is less than the next number to deliver plus `window`, which is 1 to 1,048,576. The handle must be empty.
 #[unsafe(no_mangle)]
 pub extern "C" fn mold_listener_new(
     alloc: Global,
@@ -34,9 +34,9 @@ pub extern "C" fn mold_listener_new(
         (result ≡ codes.BROKEN) × (listener.new.handle.value ≡ listener.old.handle.value) }
     ensures zero { listener.old.handle.value ≡ None → next ≡ 0 →
         (result ≡ codes.NEXT_ZERO) × (listener.new.handle.value ≡ None) }
-    ensures window { listener.old.handle.value ≡ None → 0 < next → (IsWindow window → ⊥) →
+    ensures window { listener.old.handle.value ≡ None → 0 < next → (IsWideWindow window → ⊥) →
         (result ≡ codes.WINDOW) × (listener.new.handle.value ≡ None) }
-    ensures made { listener.old.handle.value ≡ None → 0 < next → IsWindow window →
+    ensures made { listener.old.handle.value ≡ None → 0 < next → IsWideWindow window →
         ((result ≡ codes.DONE)
         × (listener.new.handle.value ≡ Some (AListener (begun (record { 0 = session.now }) next window))))
         ⊎ ((result ≡ codes.MEMORY) × (listener.new.handle.value ≡ None)) }
