@@ -1,8 +1,8 @@
 -- The places of a packet's blocks are written into empty slots.
-use Rattle.std.proofs.Common.{◌≡◌, ℕ, zero, suc, ◌+◌, ◌-◌, ◌*◌, ◌<◌, ◌≤◌, Bool, true, false, cond, eqb, ltb, ◌&&◌, List, []}
+use Rattle.std.proofs.Common.{◌≡◌, ℕ, zero, suc, ◌+◌, ◌*◌, ◌≤◌, Bool, true, false, cond, eqb, ◌&&◌, List, []}
 use Rattle.std.proofs.Common.{◌∷◌, ◌++◌, length, length-append, take, drop, slice_set, replicate, refl, sym, ap, subst, ◌∙◌, arith}
 use Rattle.std.proofs.Math.Seq.{take-suc-set}
-use Rattle.std.specs.Prelude.{Option, None, Some, is_none, is_some}
+use Rattle.std.specs.Prelude.{Option, Some, is_none, is_some}
 use Rattle.std.specs.List.{AllByRecursion}
 use Rattle.std.specs.Option.{option_map}
 use Rattle.std.proofs.lemmas.Bool.{cond-true, lt-ltb}
@@ -12,11 +12,11 @@ use Rattle.mold_receiver.specs.declared.place.Place.{Place}
 use Rattle.mold_receiver.specs.declared.segments.Segments.{Segments}
 use Rattle.mold_receiver.specs.declared.shelf.Shelf.{Shelf}
 use Rattle.mold_receiver.specs.Keeping.{AreFree, filled, fresh, is_fresh, put_fresh}
-use Rattle.mold_receiver.specs.Places.{IsBlockAt, count_in}
+use Rattle.mold_receiver.specs.Places.{count_in}
 use Rattle.mold_receiver.specs.Ring.{placed}
 use Rattle.mold_receiver.specs.Segments.{AreSegments, HasGained, bytes_at, count_at, one_at}
 use Rattle.mold_receiver.specs.Shelf.{AreBlocksAt, IsKept, message_on, slots_in, slots_on}
-use Rattle.mold_receiver.specs.Slots.{AreEmpty, AreSlots, Slot, slot_at}
+use Rattle.mold_receiver.specs.Slots.{AreSlots, Slot, slot_at}
 use Rattle.mold_receiver.specs.Store.{Message}
 use Rattle.mold_receiver.proofs.MarkLemmas.{block_there, is_there, message_there}
 use Rattle.mold_receiver.proofs.ShelfLemmas.{HasOld, count_put, no_place, slots_more, within_more, within_put}

@@ -383,3 +383,26 @@ module _ (places : List Place) (head : ℕ) (within : head < length places) wher
     pub ring_past_empty : i ≤ length places →
         ring_of places (index_of head (length places) i) ≡ drop i slots ++ replicate i None
     ring_past_empty few = ring_skipped None (place_in places) head (length places) i within few slots filled
+
+-- The first slot of a ring, and the ring after this slot was emptied and became the last one.
+module _ (places : List Place) (head : ℕ) (within : head < length places) where
+  first_index : index_of head (length places) 0 ≡ head
+  first_index = omega (arith, index_first head (length places) 0 within (omega (arith, within)))
+
+  pub first_place : (x : Place) → x ≡ get_or places head x → place_at (ring_of places head) 0 ≡ place_of x
+  first_place x is =
+      ring_place places head 0 within (omega (arith, within)) x
+      (is ∙ ap (λ (i : ℕ). get_or places i x) (sym first_index))
+
+  pub ring_popped : (slots : List (Option Place)) (place : Place) → ring_of places head ≡ slots →
+      place_of place ≡ None →
+      ring_of (set places head place) (index_of head (length places) 1) ≡ drop 1 slots ++ None ∷ []
+  ring_popped slots place are none =
+      let same = length-set places head place in
+      let long = ring_count places head slots are in
+      let emptied : ring_of (set places head place) head ≡ replicate 1 None ++ drop 1 slots =
+      ap (λ (i : ℕ). ring_of (set places i place) head) (sym first_index)
+      ∙ ring_emptied places head within 0 slots are long place none (omega (arith, within)) in
+      ap (λ (n : ℕ). ring_of (set places head place) (index_of head n 1)) (sym same)
+      ∙ ring_past_empty (set places head place) head (omega (arith, same, within)) 1 slots emptied (same ∙ long)
+      (omega (arith, same, within))

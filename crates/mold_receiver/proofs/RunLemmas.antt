@@ -1,14 +1,12 @@
 -- Runs of stored messages.
 use Rattle.std.proofs.Common.{◌≡◌, ℕ, zero, suc, ◌+◌, ◌-◌, ◌<◌, ◌≤◌, List, [], ◌∷◌, ◌++◌, length, length-append, take, drop}
-use Rattle.std.proofs.Common.{append_assoc, refl, sym, ap, subst, ◌∙◌, inl, inr, arith, add-one, min}
-use Rattle.std.specs.Prelude.{Option, None, Some, slice_get}
-use Rattle.std.specs.Option.{option_map}
-use Rattle.std.proofs.lemmas.Bool.{cases_eq}
+use Rattle.std.proofs.Common.{append_assoc, refl, sym, ap, subst, ◌∙◌, arith, add-one}
+use Rattle.std.specs.Prelude.{Some, slice_get}
 use Rattle.std.proofs.lemmas.List.{drop-drop, drop-take, length-drop, length-take}
 use Rattle.byteorder.specs.Endian.{big_number}
 use Rattle.mold_receiver.specs.Batch.{Handed, followed_by}
 use Rattle.mold_receiver.specs.Handing.{run_in}
-use Rattle.mold_receiver.specs.Places.{IsBlockAt, end_from, length_at, message_in, messages_from, place_at}
+use Rattle.mold_receiver.specs.Places.{end_from, length_at, message_in, messages_from}
 use Rattle.mold_receiver.specs.Slots.{Slot, slot_at}
 use Rattle.mold_receiver.specs.Store.{Message}
 use Rattle.mold_receiver.proofs.BatchLemmas.{IsHanding, followed_twice, run_more}

@@ -3,7 +3,7 @@ use Rattle.std.proofs.Common.{◌≡◌, ℕ, zero, suc, ◌+◌, ◌-◌, ◌<�
 use Rattle.std.proofs.Common.{replicate, length-append, refl, sym, ap, subst, ◌∙◌, arith}
 use Rattle.std.specs.Prelude.{Option, None, Some, is_some, map, slice_get}
 use Rattle.std.specs.Option.{option_flatten, option_map}
-use Rattle.std.proofs.lemmas.List.{append-nil, drop-map, length-drop, length-map, length-replicate, map-append, take-map}
+use Rattle.std.proofs.lemmas.List.{append-nil, drop-map, length-drop, length-replicate, map-append, take-map}
 use Rattle.mold_receiver.specs.declared.place.Place.{Place}
 use Rattle.mold_receiver.specs.declared.segments.Segments.{Segments}
 use Rattle.mold_receiver.specs.declared.shelf.Shelf.{Shelf}
@@ -38,6 +38,38 @@ module _ {A : Type 0} where
 place_skipped : (n : ℕ) (places : List (Option Place)) (i : ℕ) →
     place_at (drop n places ++ replicate n None) i ≡ place_at places (n + i)
 place_skipped n places i = item_padded (drop n places) n i ∙ item_dropped n places i
+
+-- One slot at a time.
+pub first_left : (places now : List (Option Place)) (n : ℕ) → now ≡ drop n places ++ replicate n None →
+    place_at now 0 ≡ place_at places n
+first_left places now n is =
+    ap (λ (t : List (Option Place)). place_at t 0) is
+    ∙ place_skipped n places 0
+    ∙ ap (λ (k : ℕ). place_at places k) (let e : n + 0 ≡ n = omega arith in e)
+
+module _ {A : Type 0} (x : A) where
+  replicate_last : (n : ℕ) → replicate n x ++ x ∷ [] ≡ replicate (suc n) x
+  replicate_last zero = refl
+  replicate_last (suc n) = ap (λ (t : List A). x ∷ t) (replicate_last n)
+
+  padded_more : (xs : List A) (n : ℕ) → (xs ++ replicate n x) ++ x ∷ [] ≡ xs ++ replicate (suc n) x
+  padded_more [] n = replicate_last n
+  padded_more (y ∷ xs) n = ap (λ (t : List A). y ∷ t) (padded_more xs n)
+
+  dropped_more : (n pad : ℕ) (xs : List A) → n < length xs →
+      drop 1 (drop n xs ++ replicate pad x) ++ x ∷ [] ≡ drop (suc n) xs ++ replicate (suc pad) x
+  dropped_more n pad [] inside = absurd (omega arith)
+  dropped_more zero pad (y ∷ xs) inside = padded_more xs pad
+  dropped_more (suc n) pad (y ∷ xs) inside = dropped_more n pad xs (omega arith)
+
+pub one_left : (places now after : List (Option Place)) (n : ℕ) → now ≡ drop n places ++ replicate n None →
+    after ≡ drop 1 now ++ None ∷ [] → n < length places →
+    after ≡ drop (n + 1) places ++ replicate (n + 1) None
+one_left places now after n is moved inside =
+    moved
+    ∙ ap (λ (t : List (Option Place)). drop 1 t ++ None ∷ []) is
+    ∙ dropped_more None n n places inside
+    ∙ ap (λ (k : ℕ). drop k places ++ replicate k None) (let e : suc n ≡ n + 1 = omega arith in e)
 
 slots_skipped : (segments : Segments) (n : ℕ) (places : List (Option Place)) →
     slots_in segments (drop n places ++ replicate n None) ≡ drop n (slots_in segments places) ++ replicate n None

@@ -100,17 +100,16 @@ impl Ring {
         }
     }
 
-    /// Drops the first `count` slots and appends as many empty ones.
-    pub(crate) fn skip(&mut self, count: usize)
-        requires { count ≤ length self.old }
-        ensures { self.new ≡ drop count self.old ++ replicate count None }
+    /// Drops the first slot and appends an empty one. Returns the place that the first slot had, or `None` if it was
+    /// empty.
+    pub(crate) fn pop(&mut self) -> Option<Place>
+        ensures place { result ≡ place_at self.old 0 }
+        ensures moved { self.new ≡ drop 1 self.old ++ None ∷ [] }
     {
-        let len = self.places.len();
-        let mut index = self.head;
-        for _ in 0..count {
-            self.places[index] = Place::none();
-            index = ring_index(index, len, 1);
-        }
-        self.head = index;
+        let next = ring_index(self.head, self.places.len(), 1);
+        let place = self.places[self.head];
+        self.places[self.head] = Place::none();
+        self.head = next;
+        place.held()
     }
 }

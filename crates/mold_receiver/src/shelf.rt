@@ -242,8 +242,7 @@ impl Shelf {
         ensures kept { IsKept self.new }
         ensures moved { slots_on self.new ≡ drop count (slots_on self.old) ++ replicate count None }
     {
-        self.held -= release(&mut self.segments, &self.ring, count);
-        self.ring.skip(count);
+        self.held -= release(&mut self.segments, &mut self.ring, count);
         self.occupied.skip(count);
     }
 

@@ -1,8 +1,7 @@
-use Rattle.std.proofs.Common.{◌≡◌, ℕ, ◌+◌, ◌-◌, ◌<◌, ◌++◌, sym, ap, subst, ◌∙◌, arith, List, length, None}
-use Rattle.std.specs.Prelude.{Result, Ok, Err, OnErr, IfNone}
+use Rattle.std.proofs.Common.{◌≡◌, ℕ, ◌+◌, ◌-◌, subst, arith, List, length}
+use Rattle.std.specs.Prelude.{Result, Ok, Err, OnErr}
 use Rattle.mold_receiver.specs.Handing.{run_in}
 use Rattle.mold_receiver.specs.Run.{messages_in}
-use Rattle.mold_receiver.specs.Slots.{slot_at}
 use Rattle.mold_receiver.specs.Store.{Message}
 use Rattle.mold_receiver.proofs.BatchLemmas.{IsHanding, grew_twice, handing_done, handing_length, run_none, slot_within}
 use Rattle.mold_receiver.proofs.RunLemmas.{handing_many, last_there, messages_long, run_many}

@@ -1,5 +1,4 @@
-use Rattle.std.proofs.Common.{◌≤◌, arith}
-use Rattle.mold_receiver.specs.Shelf.{slots_on}
+use Rattle.std.proofs.Common.{arith}
 use Rattle.mold_receiver.proofs.SkipLemmas.{held_first, kept_skipped, skipped}
 use Rattle.mold_receiver.proofs.shelf.Shelf.drop_first.Goals as goal
 
@@ -16,12 +15,12 @@ overflow_sub-self c =
 pub returns-clause-kept : goal.returns-clause-kept
 returns-clause-kept c =
     let old = c.args.self.now in
-    kept_skipped old c.skip.new.self c.release.new.segments c.args.count c.requires.kept c.requires.within
-    c.skip.ensures c.release.ensures.whole c.release.ensures.lost _ c.skip-2.new.self
-    (omega (arith, c.release.ensures.count)) c.skip-2.ensures
+    kept_skipped old c.release.new.ring c.release.new.segments c.args.count c.requires.kept c.requires.within
+    c.release.ensures.moved c.release.ensures.whole c.release.ensures.lost _ c.skip.new.self
+    (omega (arith, c.release.ensures.count)) c.skip.ensures
 
 pub returns-clause-moved : goal.returns-clause-moved
 returns-clause-moved c =
     let old = c.args.self.now in
-    skipped old c.skip.new.self c.release.new.segments c.args.count c.requires.kept c.requires.within
-    c.skip.ensures c.release.ensures.whole c.release.ensures.lost
+    skipped old c.release.new.ring c.release.new.segments c.args.count c.requires.kept c.requires.within
+    c.release.ensures.moved c.release.ensures.whole c.release.ensures.lost

@@ -1,7 +1,7 @@
-use Rattle.std.proofs.Common.{◌≡◌, ◌+◌, ◌<◌, ◌≤◌, ℕ, List, length, refl, sym, ap, subst, ◌∙◌, inl, inr, arith}
+use Rattle.std.proofs.Common.{◌≡◌, ◌+◌, ℕ, List, length, refl, sym, ap, ◌∙◌, inl, inr, arith}
 use Rattle.std.specs.Prelude.{Some}
 use Rattle.std.proofs.lemmas.Bool.{cases_eq}
-use Rattle.mold_receiver.specs.Places.{IsBlockAt, end_from, length_at, place_at}
+use Rattle.mold_receiver.specs.Places.{end_from, length_at, place_at}
 use Rattle.mold_receiver.specs.Segments.{bytes_at}
 use Rattle.mold_receiver.proofs.ReleaseLemmas.{place_there}
 use Rattle.mold_receiver.proofs.RunLemmas.{end_more}

@@ -1,5 +1,4 @@
 use Rattle.std.proofs.Common.{arith}
-use Rattle.mold_receiver.specs.Places.{places_of}
 use Rattle.mold_receiver.specs.Shelf.{slots_on}
 use Rattle.mold_receiver.proofs.KeptLemmas.{fresh_there, kept_put, put_on}
 use Rattle.mold_receiver.proofs.ShelfLemmas.{count_held_in}

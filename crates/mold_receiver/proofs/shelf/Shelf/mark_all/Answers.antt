@@ -1,6 +1,4 @@
-use Rattle.std.proofs.Common.{◌≡◌, ◌+◌, ◌-◌, ◌<◌, ◌≤◌, List, ℕ, length, length-drop, take, drop, replicate, true, ◌++◌, ap, ◌∙◌, sym, subst, arith}
-use Rattle.std.specs.Option.{option_map}
-use Rattle.mold_wire.specs.Block.{blocks}
+use Rattle.std.proofs.Common.{◌≡◌, ◌+◌, List, ℕ, length, length-drop, take, drop, replicate, true, ◌++◌, ap, ◌∙◌, subst, arith}
 use Rattle.mold_receiver.specs.Segments.{HasGained, bytes_at}
 use Rattle.mold_receiver.specs.Shelf.{slots_on}
 use Rattle.mold_receiver.proofs.PlacedLemmas.{blocks_long, filled_on, kept_filled}

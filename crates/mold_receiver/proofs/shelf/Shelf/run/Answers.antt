@@ -1,9 +1,7 @@
-use Rattle.std.proofs.Common.{◌≡◌, ℕ, ◌+◌, ◌-◌, ◌≤◌, ◌<◌, List, length, take, drop, sym, ap, subst, ◌∙◌, arith, None, Some}
+use Rattle.std.proofs.Common.{◌≡◌, ◌+◌, ◌-◌, take, drop, sym, ap, ◌∙◌, arith}
 use Rattle.std.specs.Option.{option_map}
-use Rattle.mold_receiver.specs.Places.{end_from, messages_from, place_at}
-use Rattle.mold_receiver.specs.Run.{IsRunAt}
 use Rattle.mold_receiver.specs.Segments.{bytes_at}
-use Rattle.mold_receiver.specs.Shelf.{message_on, slots_on}
+use Rattle.mold_receiver.specs.Shelf.{message_on}
 use Rattle.mold_receiver.proofs.ShelfLemmas.{slot_in}
 use Rattle.mold_receiver.proofs.RunLemmas.{end_low, span_get, span_whole}
 use Rattle.mold_receiver.proofs.shelf.Shelf.run.Goals as goal
