@@ -200,7 +200,7 @@ filled_segment before after more is filled fits few = record {
 }
 
 pub new_segment : (segment : Segment) (memory : Vec ℕ Global) (bytes : List ℕ)
-    → IsMemory memory (max 65536 (length bytes)) → segment.used ≡ length bytes
+    → IsMemory memory (max 16384 (length bytes)) → segment.used ≡ length bytes
     → length segment.bytes.items ≡ length memory.items → vec_capacity segment.bytes ≡ vec_capacity memory
     → length bytes < 4294967295 → IsSegment segment
 new_segment segment memory bytes is used size room few = record {
@@ -219,13 +219,13 @@ last_or (first ∷ list) last (suc i) bytes is = last_or list last i bytes is
 
 -- One more segment's memory is spare.
 pub spare_pushed : (old new : Vec (Vec ℕ Global) Global) (bytes : Vec ℕ Global) → AreSpare old
-    → new.items ≡ old.items ++ bytes ∷ [] → vec_capacity new ≡ vec_capacity old → IsMemory bytes 65536
+    → new.items ≡ old.items ++ bytes ∷ [] → vec_capacity new ≡ vec_capacity old → IsMemory bytes 16384
     → length old.items < 4 → AreSpare new
 spare_pushed old new bytes are is room memory few = record {
   each = λ i b at.
       elim (last_or old.items bytes i b (ap (λ (t : List (Vec ℕ Global)). slice_get t i) (sym is) ∙ at)) [
         | inl had ↦ are.each i b had
-        | inr same ↦ subst (λ (x : Vec ℕ Global). IsMemory x 65536) same memory
+        | inr same ↦ subst (λ (x : Vec ℕ Global). IsMemory x 16384) same memory
       ];
   few = omega (
     arith,

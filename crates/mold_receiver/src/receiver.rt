@@ -352,7 +352,7 @@ impl Receiver {
         self.slots.held()
     }
 
-    /// Returns the number of memory segments that the store has, including the spare ones. A segment has 65,536 bytes,
+    /// Returns the number of memory segments that the store has, including the spare ones. A segment has 16,384 bytes,
     /// or the bytes of one packet's messages if these are more.
     pub fn segments(&self) -> usize
         ensures { result ≤ finite.len self.now.store + 1 + MAX_SPARE }

@@ -10,9 +10,8 @@ use byteorder::{BigEndian, ByteOrder};
 use mold_wire::LENGTH_BYTES;
 use std::alloc::{AllocError, Global};
 
-/// The size of a segment in bytes. The blocks of a packet that arrives over UDP fit. Longer blocks have a longer
-/// segment of their own.
-pub(crate) const SEGMENT_BYTES: usize = 65536;
+/// The size of a segment in bytes. If the blocks of a packet are longer, their segment has exactly their length.
+pub(crate) const SEGMENT_BYTES: usize = 16384;
 
 /// A block of memory, of which the first bytes are in use.
 #[derive(Debug, Drop)]

@@ -337,10 +337,10 @@ fn take_backwards(rt: &impl Abort, reception: &mut Reception) -> Result<(), Refu
     reception.take_again(rt, DATA_1, (3, 0, 0), (1, 4, 2, 0, None))
 }
 
-/// A message of 40,000 bytes.
+/// A message of 10,000 bytes.
 fn long_message(alloc: Global) -> Result<Vec<u8>, Fail> {
     let mut message = Vec::new(alloc);
-    for i in 0..40000u32 {
+    for i in 0..10000u32 {
         message.push((i % 251) as u8)?;
     }
     Ok(message)
