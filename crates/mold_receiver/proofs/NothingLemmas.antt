@@ -1,5 +1,5 @@
 -- The view after a packet that has no message from `next` on.
-use Rattle.std.proofs.Common.{◌≡◌, ℕ, suc, ◌+◌, ◌-◌, ◌≤◌, max, leb, List, [], ◌∷◌, length, refl, ap, ◌∙◌, inl, inr}
+use Rattle.std.proofs.Common.{◌≡◌, ℕ, suc, ◌+◌, ◌-◌, ◌<◌, ◌≤◌, max, leb, List, [], ◌∷◌, length, refl, ap, ◌∙◌, inl, inr}
 use Rattle.std.proofs.Common.{◌⊎◌, arith, nat_cmp}
 use Rattle.std.specs.Prelude.{Option, None, Some, slice_get}
 use Rattle.std.specs.FinMap as finite
@@ -116,3 +116,31 @@ clear_no_conflict slots next n top (m ∷ ms) ends empty =
           (ap (λ (o : Option Message). differs o m) none)
           ∙ others
     ]
+
+-- Nor has one if all its numbers are greater than those of the stored messages.
+pub ahead_no_conflict : (s : Store) (known next n : ℕ) (ms : List Message) →
+    ((number : ℕ) (message : Message) → finite.get s number ≡ Some message → number < known) → known ≤ n →
+    first_conflict s (from_next next n ms) ≡ None
+ahead_no_conflict s known next n [] below ahead = refl
+ahead_no_conflict s known next n (m ∷ ms) below ahead =
+    let rest = from_next next (suc n) ms in
+    let others : first_conflict s rest ≡ None =
+    ahead_no_conflict s known next (suc n) ms below (omega (arith, ahead)) in
+    let none : finite.get s n ≡ None =
+    elim (finite.get s n) as (λ (o : Option Message). finite.get s n ≡ o → o ≡ None) [
+      | None ↦ λ _. refl
+      | Some message ↦ λ is. absurd (omega (arith, below n message is, ahead))
+    ] refl in
+    elim (cases_lt n next) [
+      | inl low ↦ ap (first_conflict s) (cond-false (leb next n) ((n, m) ∷ rest) rest (lt-leb next n low)) ∙ others
+      | inr high ↦
+          ap (first_conflict s) (cond-true (leb next n) ((n, m) ∷ rest) rest (le-leb next n high))
+          ∙ cond-false (differs (finite.get s n) m) (Some n) (first_conflict s rest)
+          (ap (λ (o : Option Message). differs o m) none)
+          ∙ others
+    ]
+
+pub known_no_conflict : (v : View) (n : ℕ) (ms : List Message) → IsWellFormed v → v.known ≤ n →
+    first_conflict v.store (from_next v.next n ms) ≡ None
+known_no_conflict v n ms well ahead =
+    ahead_no_conflict v.store v.known v.next n ms (λ number message at. (well.stored number message at).2) ahead

@@ -219,6 +219,10 @@ impl Receiver {
         ensures refused { IfErr result (λ refused. refusal self.now packet.now ≡ Some refused) }
     {
         let top = check_header(packet, Some(self.session), self.known, self.ended)?;
+        // Each stored message has a number below `known`.
+        if self.known <= packet.sequence {
+            return Ok(top);
+        }
         match conflict_of(&self.slots, self.next, packet, top) {
             Some(number) => Err(Refusal::Conflict { number }),
             None => Ok(top),
