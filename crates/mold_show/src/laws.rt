@@ -6,7 +6,7 @@ ghost use Rattle.std.specs.List.{AllByRecursion};
 ghost use Rattle.mold_wire.specs.Block.{IsBytes};
 ghost use Rattle.mold_wire.specs.declared.limits.TheConstants.{MESSAGE_OVERHEAD};
 ghost use Rattle.mold_devices.specs.Lines.{lines_of};
-ghost use Rattle.mold_input.specs.declared.input_format.InputFormat.TheVariants.{Lines};
+ghost use Rattle.mold_input.specs.declared.message_format.MessageFormat.TheVariants.{Lines};
 ghost use Rattle.mold_publish.specs.Publishing.{lines_published, packed_status};
 ghost use Rattle.mold_session.specs.Contents.{FileContents};
 ghost use Rattle.mold_session.specs.Journal.{IsWithin, fresh_journal};

@@ -2,7 +2,7 @@
 ghost use Rattle.std.specs.Prelude.{◌≡◌, [], ◌∷◌, IfSome, IsTrue, List, None, codes, false, true};
 ghost use Rattle.clap.specs.Words.{Text, fault_of, subcommand_of};
 ghost use Rattle.clap.specs.declared.error.kind.ErrorKind.TheVariants.{DisplayHelp, DisplayVersion, UnknownArgument};
-ghost use Rattle.mold_input.specs.declared.input_format.InputFormat.TheVariants.{Lines, Blocks, BlocksToEmpty};
+ghost use Rattle.mold_input.specs.declared.message_format.MessageFormat.TheVariants.{Lines, Blocks, BlocksToEmpty};
 ghost use Rattle.mold_words.specs.Orders.{AreTaken, Say, order_of};
 ghost use Rattle.mold_words.specs.Arguments.{check_lines_wanted, check_wanted, dump_wanted, listen_wanted, loop_wanted};
 ghost use Rattle.mold_words.specs.Arguments.{pack_wanted, publish_wanted, serve_wanted, show_wanted, sim_wanted};
