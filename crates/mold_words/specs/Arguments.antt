@@ -112,6 +112,8 @@ pub record DumpArguments : Type 0 where
   pub from : ℕ
   -- The maximum number of messages.
   pub count : ℕ
+  -- How the output encodes the messages.
+  pub output : MessageFormat
 
 -- The model of an order: the command and the values of its options. `pack` has a session, the maximum datagram
 -- length, and how its input encodes the messages. `upgrade` has the two files and whether the journal is closed.
@@ -188,4 +190,5 @@ view (Dump order) = dump_wanted (record {
   journal = string_bytes order.journal;
   from = order.from;
   count = order.count;
+  output = order.output;
 })

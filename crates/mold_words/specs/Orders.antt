@@ -70,7 +70,7 @@ format_of true false = Some Blocks
 format_of true true = Some BlocksToEmpty
 format_of false true = None
 
--- How the input encodes messages, if the flags are valid together. Without flags the input is lines.
+-- How the input, or the output of `dump`, encodes messages, if the flags are valid together. Without flags it is lines.
 unfoldable pub input_in : List Row → Option MessageFormat
 input_in rows = format_of (flag_in (codes "blocks") rows) (flag_in (codes "end-at-empty") rows)
 
@@ -268,7 +268,9 @@ dump_of rows =
     option_and_then
     (λ journal. option_and_then
     (λ from. option_and_then
-    (λ count. Some (dump_wanted (record { journal = journal; from = from; count = count })))
+    (λ count. option_and_then
+    (λ output. Some (dump_wanted (record { journal = journal; from = from; count = count; output = output })))
+    (input_in rows))
     (number_in (codes "count") MAX_NUMBER 0 MAX_NUMBER rows))
     (number_in (codes "from") 1 1 MAX_NUMBER rows))
     (first_of (codes "journal") rows)

@@ -166,7 +166,7 @@ pub(crate) fn report_in(options: &ArgMatches<'_>) -> bool
     flag_in(options, "report")
 }
 
-/// Returns how the input encodes messages. `--end-at-empty` is refused without `--blocks`.
+/// Returns how the input, or the output of `dump`, encodes messages. `--end-at-empty` is refused without `--blocks`.
 #[tactic(auto, unfolding(crate::specs::Orders::input_in))]
 pub(crate) fn input_in(options: &ArgMatches<'_>) -> Result<MessageFormat, NoOrder>
     ensures { MatchResult result
