@@ -12,7 +12,7 @@ _mold_options() {
     listen) printf '%s ' --session --next --window --a --b --server --burst --turns --live --report ;;
     loop) printf '%s ' --session --limit --server-limit --window --burst --drop-a --drop-b --turns --report ;;
     upgrade) printf '%s ' --journal --to --close ;;
-    dump) printf '%s ' --journal --from --count ;;
+    dump) printf '%s ' --journal --from --count --blocks --end-at-empty ;;
     esac
     printf '%s' --help
 }

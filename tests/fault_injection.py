@@ -126,6 +126,7 @@ def calls_of_files():
         Call("upgrade, refused", upgrade, files={"old": OLD[:-1]}, made=("new",), status=2),
         Call("dump", ["dump", "--journal", "@old"], files={"old": OLD}),
         Call("dump, refused", ["dump", "--journal", "@old"], files={"old": OLD[:-1]}, status=2),
+        Call("dump, blocks", ["dump", "--journal", "@old", "--blocks"], files={"old": OLD}),
     ]
 
 

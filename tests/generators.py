@@ -17,7 +17,7 @@ FAR = [1023, 1024, 65533, 65534, 65535, 65536, 65537]
 # Lines of a script that are not events, or events that are refused.
 BAD_EVENTS = [b"", b"publish", b"publish 4", b"publish  ", b"publish", b"request 0g", b"restart 0 +1", b"\xc3\xa9"]
 BAD_EVENTS += [b"ask -1", b"ask 18446744073709551615", b"ask 18446744073709551616", b"deliver 0 c 0", b"deliver 0 A 0"]
-# The flags of each form of an input of messages. Those of `none` are invalid.
+# The flags of each form of messages in an input or an output. Those of `none` are invalid.
 FLAGS = {"lines": [], "blocks": ["--blocks"], "blocks to empty": ["--blocks", "--end-at-empty"]}
 FLAGS["none"] = ["--end-at-empty"]
 # Valid and almost valid texts of option values.
@@ -43,7 +43,7 @@ class Case:
     arguments: list
 
     def form(self):
-        """How the input encodes messages: `lines`, `blocks` or `blocks to empty`."""
+        """How the input or the output encodes messages: `lines`, `blocks` or `blocks to empty`."""
         return self.options.get("form", "lines")
 
     def messages(self):
@@ -389,7 +389,9 @@ def dump(chance):
     drawn = {"from": first, "count": count}
     options = {name: value for name, value in drawn.items() if has(chance, 0.6)}
     given = {name: options.get(name, model.DEFAULTS[name]) for name in drawn}
-    return Case(given, [(file(chance),)], option_arguments(chance, options))
+    form = chance.choice(["lines", "blocks", "blocks to empty"])
+    arguments = option_arguments(chance, options) + FLAGS[form]
+    return Case(given | {"form": form}, [(file(chance),)], arguments)
 
 
 def maybe_live(chance, case):
@@ -456,7 +458,7 @@ def words(chance):
     if command in ("listen", "loop") and has(chance, 0.3):
         drawn.append("--report")
     form = "lines"
-    if command in ("pack", "publish"):
+    if command in ("pack", "publish", "dump"):
         form = chance.choice(sorted(FLAGS))
         drawn += FLAGS[form]
     return Case({"command": command, "values": values, "form": form}, [], drawn)

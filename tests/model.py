@@ -174,7 +174,7 @@ def is_value(name, text):
 
 def name_of_fault(command, values, form):
     """The name that follows `fault` if the values of the options are invalid, otherwise None. The values are given by
-    option name. An option that the command does not have is a usage fault. The form of the input is `none` if
+    option name. An option that the command does not have is a usage fault. The form of the messages is `none` if
     `--end-at-empty` is given without `--blocks`."""
     names = COMMANDS[command].split()
     if set(values) - set(names) or set(names) - set(values) - set(DEFAULTS):
@@ -375,13 +375,25 @@ def messages_before(some_bytes):
     return whole_blocks(some_bytes[size:])[0]
 
 
-def dump(first, count, some_bytes):
-    lines = [it.hex() for it in messages_before(some_bytes)[first - 1 : first - 1 + count]]
+def dump(first, count, some_bytes, form="lines"):
+    """Also returns what is printed on standard error."""
+    messages = messages_before(some_bytes)
+    shown = messages[first - 1 : first - 1 + count]
+    refusal, has_ended = None, False
     try:
-        journal_of(some_bytes)
+        # The mark of the end is printed unless the session goes on, or a message follows the range.
+        has_ended = journal_of(some_bytes).is_closed and not messages[first - 1 + count :]
     except Refused as why:
-        return text_of([*lines, f"refused {why}"]), 2
-    return text_of(lines), 0
+        refusal = str(why)
+    if form == "blocks to empty" and b"" in shown:
+        shown = shown[: shown.index(b"")]
+        refusal = f"Empty {first + len(shown)}"
+    report = [f"refused {refusal}"] if refusal else []
+    status = 2 if refusal else 0
+    if form == "lines":
+        return text_of([it.hex() for it in shown] + report), status, b""
+    mark = [b""] if form == "blocks to empty" and has_ended and not refusal else []
+    return blocks(shown + mark), status, text_of(report)
 
 
 # The server.

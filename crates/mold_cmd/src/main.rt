@@ -3,7 +3,7 @@
 
 ghost use Rattle.mold_commands.specs.Command.{IsStreamed};
 
-use mold_commands::{check_folder, dump_file, run_command, run_upgrade};
+use mold_commands::{DumpOptions, check_folder, dump_file, run_command, run_upgrade};
 use mold_devices::{CommandFault, FromRead, IntoWrite, NewFile};
 use mold_loop::run_loop;
 use mold_sockets::{run_listen, run_publish, run_serve};
@@ -91,14 +91,21 @@ fn upgrade_files(rt: &HostRuntime, order: &UpgradeOrder) -> Result<u8, CommandFa
     flushed(outcome, sink.into_inner().flush())
 }
 
-// Prints the messages of a journal file to standard output, which is flushed once.
+// Prints the messages of a journal file to standard output, which is flushed once. If these are blocks, a refusal goes
+// to standard error.
 fn run_dump(rt: &HostRuntime, order: &DumpOrder) -> Result<u8, CommandFault> {
     let Ok(file) = File::open(rt, order.journal.as_str()) else {
         return Err(CommandFault::Read);
     };
     let mut source = FromRead::new(file);
+    let options = DumpOptions {
+        from: order.from,
+        count: order.count,
+        format: order.output,
+    };
     let mut sink = IntoWrite::new(rt.stdout());
-    let outcome = dump_file(rt.alloc(), &mut source, order.from, order.count, &mut sink);
+    let mut errors = IntoWrite::new(rt.stderr());
+    let outcome = dump_file(rt.alloc(), &mut source, options, &mut sink, &mut errors);
     flushed(outcome, sink.into_inner().flush())
 }
 

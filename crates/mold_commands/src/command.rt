@@ -10,7 +10,7 @@ ghost use Rattle.mold_show.specs.Pack.{pack_status, pack_text};
 
 use mold_check::check_lines;
 use mold_devices::{CommandFault, Sink, Source, run_lines};
-use mold_input::{BlocksToEmpty, HexLines, InputFormat, MessageBlocks};
+use mold_input::{BlocksToEmpty, HexLines, MessageBlocks, MessageFormat};
 use mold_show::{Pack, PackOptions, Show};
 use mold_sim::Sim;
 use mold_wire::Session;
@@ -73,10 +73,10 @@ fn run_pack<S: Source, K: Sink>(
         (K.failed sink.old) (K.failed sink.new) result }
 {
     match order.input {
-        InputFormat::Lines => {
+        MessageFormat::Lines => {
             run_lines(alloc, &mut pack_of::<HexLines>(alloc, order)?, source, sink)
         }
-        InputFormat::Blocks => {
+        MessageFormat::Blocks => {
             run_lines(
                 alloc,
                 &mut pack_of::<MessageBlocks>(alloc, order)?,
@@ -84,7 +84,7 @@ fn run_pack<S: Source, K: Sink>(
                 sink,
             )
         }
-        InputFormat::BlocksToEmpty => {
+        MessageFormat::BlocksToEmpty => {
             run_lines(
                 alloc,
                 &mut pack_of::<BlocksToEmpty>(alloc, order)?,

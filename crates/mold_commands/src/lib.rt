@@ -7,5 +7,5 @@ mod upgrading;
 
 pub use command::run_command;
 pub use folder::check_folder;
-pub use mold_show::dump_file;
+pub use mold_show::{DumpOptions, dump_file};
 pub use upgrading::run_upgrade;

@@ -5,18 +5,18 @@
 mod blocks_to_empty;
 mod hex_lines;
 mod input_fault;
-mod input_format;
 mod input_kind;
 pub mod laws;
 mod message_blocks;
+mod message_format;
 mod message_reader;
 mod next;
 
 pub use blocks_to_empty::BlocksToEmpty;
 pub use hex_lines::HexLines;
 pub use input_fault::InputFault;
-pub use input_format::InputFormat;
 pub use input_kind::InputKind;
 pub use message_blocks::MessageBlocks;
+pub use message_format::MessageFormat;
 pub use message_reader::MessageReader;
 pub use next::Next;

@@ -1,11 +1,11 @@
 -- What is printed for a journal's file is published as the same messages.
-use Rattle.std.proofs.Common.{◌≡◌, ℕ, zero, suc, ◌+◌, ◌-◌, ◌/◌, ◌%◌, ◌<◌, ◌≤◌, ◌==◌, Bool, false, cond, nat_lt, List, [], ◌∷◌}
+use Rattle.std.proofs.Common.{◌≡◌, ℕ, zero, suc, ◌+◌, ◌-◌, ◌/◌, ◌%◌, ◌<◌, ◌≤◌, ◌==◌, Bool, true, false, cond, nat_lt, List, [], ◌∷◌}
 use Rattle.std.proofs.Common.{◌++◌, length, length-append, map, Option, None, Some, Result, Ok, refl, sym, ap}
 use Rattle.std.proofs.Common.{◌∙◌, append_assoc, append-nil, subst, arith}
 use Rattle.std.proofs.lemmas.Bool.Decides.{nat_tests}
 use Rattle.std.proofs.lemmas.List.{take_all}
-use Rattle.std.specs.List.{AllByRecursion}
-use Rattle.std.specs.Prelude.{slice_index}
+use Rattle.std.specs.List.{AllByRecursion, list_any}
+use Rattle.std.specs.Prelude.{◌&&◌, option_map, slice_index}
 use Rattle.hex.specs.Hex.{decode_of, encode_lower, encode_with, lower_digits}
 use Rattle.hex.proofs.HexLemmas.{decode_of-encode_lower}
 use Rattle.mold_wire.specs.Block.{IsBytes, be16, block, blocks}
@@ -19,11 +19,21 @@ use Rattle.mold_session.specs.declared.error.AppendError.{AppendError}
 use Rattle.mold_session.specs.declared.error.AppendError.TheVariants.{Closed, TooLong, Full}
 use Rattle.mold_session.specs.declared.error.FileError.{FileError}
 use Rattle.mold_session.specs.declared.loading.FileHead.{FileHead}
-use Rattle.mold_input.specs.declared.input_kind.InputKind.TheVariants.{Lines}
+use Rattle.mold_input.specs.declared.input_kind.InputKind.TheVariants as kind
+use Rattle.mold_input.specs.declared.message_format.MessageFormat.{MessageFormat}
+use Rattle.mold_input.specs.declared.message_format.MessageFormat.TheVariants.{Lines, Blocks, BlocksToEmpty}
 use Rattle.mold_publish.specs.Publishing.{PublishedInput, line_outcome, lines_published, published_from, unless_refused}
 use Rattle.mold_publish.specs.declared.message_refusal.MessageRefusal.{MessageRefusal}
 use Rattle.mold_text.specs.Line.{joined}
-use Rattle.mold_show.specs.Dump.{dump_text, dumped, fault_line, message_line, message_lines}
+use Rattle.mold_show.specs.Dump.{PrintsAll, dump_text, dumped, end_mark, ends_session, fault_line, fault_of}
+use Rattle.mold_show.specs.Dump.{fault_status, fault_text, has_unprintable, is_empty, last_text, message_line}
+use Rattle.mold_show.specs.Dump.{messages_text, printable, reaches_end}
+use Rattle.mold_show.specs.declared.dump_fault.DumpFault.{DumpFault}
+use Rattle.mold_show.specs.declared.dump_fault.DumpFault.TheVariants.{File}
+use Rattle.mold_show.specs.declared.dump_options.DumpOptions.{DumpOptions}
+use Rattle.mold_show.proofs.DumpLemmas.{FileLaws}
+use Rattle.mold_show.proofs.DumpedLemmas.{le_true, printable_all}
+use Rattle.mold_show.proofs.EndLemmas.{closed_of, file_fault}
 
 -- ---- lines of digits
 
@@ -67,10 +77,10 @@ line_is : (message : List ℕ) → message_line message ≡ encode_lower message
 unfolding joined
 line_is message = ap (λ (t : List ℕ). t ++ 10 ∷ []) (append-nil (encode_lower message))
 
-printed_lines : (messages : List (List ℕ)) → lines_of (message_lines messages) ≡ map encode_lower messages
+printed_lines : (messages : List (List ℕ)) → lines_of (messages_text Lines messages) ≡ map encode_lower messages
 printed_lines [] = refl
 printed_lines (message ∷ messages) =
-    let rest = message_lines messages in
+    let rest = messages_text Lines messages in
     ap (λ (t : List ℕ). lines_of (t ++ rest)) (line_is message)
     ∙ ap lines_of (append_assoc (encode_lower message) (10 ∷ []) rest)
     ∙ cut_line (encode_lower message) rest (digits_stay message)
@@ -141,7 +151,7 @@ all_published (message ∷ messages) journal opened are within few =
     let short : length message ≤ journal.max_message = within.0 in
     let outcome : line_outcome journal (decode_of (encode_lower message)) ≡ Ok message =
     ap (line_outcome journal) (decode_of-encode_lower message are.0)
-    ∙ ap (unless_refused Lines message) (not_refused journal message opened short (omega (arith, few)))
+    ∙ ap (unless_refused kind.Lines message) (not_refused journal message opened short (omega (arith, few)))
     in
     ap (λ (r : Result (List ℕ) MessageRefusal).
     published_from journal r (λ next. lines_published next (map encode_lower messages))) outcome
@@ -158,24 +168,103 @@ abbrev pub OneContents : Type 0
 OneContents = (bytes : List ℕ) (one other : FileContents bytes) →
     (one.messages ≡ other.messages) × (one.fault ≡ other.fault)
 
-whole_text : OneContents → (head : FileHead) (messages : List (List ℕ)) (bytes : List ℕ) (contents : FileContents bytes)
-    (count : ℕ) → SpellsFile head messages head.stated bytes → length messages ≤ count →
-    dump_text 1 count contents ≡ message_lines messages
-whole_text law head messages bytes contents count spelled all =
-    let same = law bytes contents (record { messages = messages; fault = None; gives = (head, spelled) }) in
-    ap (λ (ms : List (List ℕ)). message_lines (dumped 1 count ms) ++ fault_line contents.fault) same.0
-    ∙ ap (λ (e : Option FileError). message_lines (dumped 1 count messages) ++ fault_line e) same.1
-    ∙ append-nil (message_lines (dumped 1 count messages))
-    ∙ ap message_lines (take_all count messages all)
+-- The options of a dump of all of at most `count` messages.
+abbrev pub dump_all : ℕ → MessageFormat → DumpOptions
+dump_all count format = record { from = 1; count = count; format = format }
+
+-- The contents of the file of a journal.
+same_contents : OneContents → (head : FileHead) (messages : List (List ℕ)) (bytes : List ℕ)
+    (contents : FileContents bytes) → SpellsFile head messages head.stated bytes →
+    (contents.messages ≡ messages) × (contents.fault ≡ None)
+same_contents law head messages bytes contents spelled =
+    law bytes contents (record { messages = messages; fault = None; gives = (head, spelled) })
+
+lines_printed : OneContents → (head : FileHead) (messages : List (List ℕ)) (bytes : List ℕ)
+    (contents : FileContents bytes) (count : ℕ) → SpellsFile head messages head.stated bytes →
+    length messages ≤ count → dump_text (dump_all count Lines) contents ≡ messages_text Lines messages
+lines_printed law head messages bytes contents count spelled all =
+    let same = same_contents law head messages bytes contents spelled in
+    let options = dump_all count Lines in
+    ap (λ (ms : List (List ℕ)). messages_text Lines (dumped options ms) ++ fault_line (option_map File contents.fault))
+    same.0
+    ∙ ap (λ (e : Option FileError). messages_text Lines (dumped options messages) ++ fault_line (option_map File e))
+    same.1
+    ∙ append-nil (messages_text Lines (dumped options messages))
+    ∙ ap (messages_text Lines) (take_all count messages all)
 
 pub dump_published : OneContents → (head : FileHead) (messages : List (List ℕ)) (bytes : List ℕ)
     (contents : FileContents bytes) (limit count : ℕ) → IsBytes bytes → SpellsFile head messages head.stated bytes →
     AllByRecursion (IsWithin (limit - 22)) messages → length messages ≤ count →
-    lines_published (fresh_journal head.session (limit - MESSAGE_OVERHEAD)) (lines_of (dump_text 1 count contents))
+    lines_published (fresh_journal head.session (limit - MESSAGE_OVERHEAD))
+    (lines_of (dump_text (dump_all count Lines) contents))
     ≡ record { journal = record (fresh_journal head.session (limit - MESSAGE_OVERHEAD)) { messages = messages }; refused = None }
 dump_published law head messages bytes contents limit count are spelled within all =
     ap (λ (t : List ℕ). lines_published (fresh_journal head.session (limit - MESSAGE_OVERHEAD)) (lines_of t))
-    (whole_text law head messages bytes contents count spelled all)
+    (lines_printed law head messages bytes contents count spelled all)
     ∙ ap (lines_published (fresh_journal head.session (limit - MESSAGE_OVERHEAD))) (printed_lines messages)
     ∙ all_published messages (fresh_journal head.session (limit - MESSAGE_OVERHEAD)) refl (file_bytes bytes head messages head.stated are spelled) within
     (omega (arith, file_few bytes head messages head.stated spelled))
+
+-- ---- blocks
+
+module _ (law : OneContents) (head : FileHead) (messages : List (List ℕ)) (bytes : List ℕ)
+    (contents : FileContents bytes) (count : ℕ) (spelled : SpellsFile head messages head.stated bytes)
+    (all : length messages ≤ count) where
+  same_as_file : (contents.messages ≡ messages) × (contents.fault ≡ None)
+  same_as_file = same_contents law head messages bytes contents spelled
+
+  all_asked : (format : MessageFormat) → dumped (dump_all count format) contents.messages ≡ messages
+  all_asked format = ap (dumped (dump_all count format)) same_as_file.0 ∙ take_all count messages all
+
+  -- The file has no fault.
+  no_fault : (format : MessageFormat) → has_unprintable format messages ≡ false →
+      fault_of (dump_all count format) contents ≡ None
+  no_fault format none =
+      file_fault (dump_all count format) contents.messages contents.fault
+      (ap (has_unprintable format) (all_asked format) ∙ none)
+      ∙ ap (option_map File) same_as_file.1
+
+  no_errors : (format : MessageFormat) → fault_text format None ≡ []
+  no_errors Lines = refl
+  no_errors Blocks = refl
+  no_errors BlocksToEmpty = refl
+
+  -- What is printed, for a format whose end prints `mark`.
+  printed_all : (format : MessageFormat) (mark : List ℕ) → has_unprintable format messages ≡ false →
+      last_text format None (ends_session (dump_all count format) contents) ≡ mark →
+      PrintsAll (dump_all count format) contents (messages_text format messages ++ mark)
+  printed_all format mark none last =
+      let options = dump_all count format in
+      record {
+        output =
+            ap (λ (ms : List (List ℕ)). messages_text format ms ++ last_text format (fault_of options contents) (ends_session options contents))
+            (ap (printable format) (all_asked format) ∙ printable_all format messages none)
+            ∙ ap (λ (e : Option DumpFault). messages_text format messages ++ last_text format e (ends_session options contents))
+            (no_fault format none)
+            ∙ ap (λ (t : List ℕ). messages_text format messages ++ t) last;
+        errors = ap (fault_text format) (no_fault format none) ∙ no_errors format;
+        status = ap fault_status (no_fault format none);
+      }
+
+  pub blocks_printed : PrintsAll (dump_all count Blocks) contents (blocks messages)
+  blocks_printed =
+      subst (PrintsAll (dump_all count Blocks) contents) (append-nil (blocks messages)) (printed_all Blocks [] refl refl)
+
+  and_true : (b : Bool) → b && true ≡ b
+  and_true true = refl
+  and_true false = refl
+
+  -- Whether the session is dumped to its end.
+  ends_as : FileLaws → ends_session (dump_all count BlocksToEmpty) contents ≡ head.closed
+  ends_as laws =
+      let options = dump_all count BlocksToEmpty in
+      ap (λ (c : Bool). reaches_end options c (length contents.messages))
+      (closed_of laws head messages bytes contents.messages contents.fault contents.gives spelled same_as_file.1)
+      ∙ ap (λ (ms : List (List ℕ)). reaches_end options head.closed (length ms)) same_as_file.0
+      ∙ ap (λ (b : Bool). head.closed && b) (le_true (length messages - (1 - 1)) count (omega (arith, all)))
+      ∙ and_true head.closed
+
+  pub ended_printed : FileLaws → (closed : Bool) → list_any is_empty messages ≡ false → head.closed ≡ closed →
+      PrintsAll (dump_all count BlocksToEmpty) contents (blocks messages ++ end_mark closed)
+  ended_printed laws closed none is =
+      printed_all BlocksToEmpty (end_mark closed) none (ap end_mark (ends_as laws ∙ is))

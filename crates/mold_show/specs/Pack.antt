@@ -3,7 +3,7 @@ use Rattle.std.specs.Prelude.{ℕ, ◌+◌, List, [], ◌++◌, length, Option, 
 use Rattle.mold_devices.specs.Turns.{Printing}
 use Rattle.mold_input.specs.Entries.{Entry}
 use Rattle.mold_input.specs.Formats.{entries_of, kind_of}
-use Rattle.mold_input.specs.declared.input_format.InputFormat.{InputFormat}
+use Rattle.mold_input.specs.declared.message_format.MessageFormat.{MessageFormat}
 use Rattle.mold_input.specs.declared.input_kind.InputKind.{InputKind}
 use Rattle.mold_input.specs.declared.input_kind.InputKind.TheVariants.{Lines, Blocks}
 use Rattle.mold_session.specs.Journal.{JournalState}
@@ -36,12 +36,12 @@ pack_printing kind entries publisher = record {
 
 -- What is printed for a whole input in this format. The entries before the first refused one are the messages of the
 -- session. The first message has number 1.
-unfoldable pub pack_text : InputFormat → Session → ℕ → List ℕ → List ℕ
+unfoldable pub pack_text : MessageFormat → Session → ℕ → List ℕ → List ℕ
 pack_text format session limit input =
     (pack_printing (kind_of format) (entries_of format) (fresh_publisher session limit)).text input
 
 -- The exit status for a whole input in this format.
-unfoldable pub pack_status : InputFormat → Session → ℕ → List ℕ → ℕ
+unfoldable pub pack_status : MessageFormat → Session → ℕ → List ℕ → ℕ
 pack_status format session limit input =
     (pack_printing (kind_of format) (entries_of format) (fresh_publisher session limit)).status input
 

@@ -1,14 +1,17 @@
 //! The commands that convert between packets, messages and text: `show` prints packets, `pack` makes packets
-//! from lines, and `dump` prints a journal's messages as lines.
+//! from lines or blocks, and `dump` prints a journal's messages as lines or blocks.
 #![tactic(auto)]
 
 mod dump;
+mod dump_fault;
+mod dump_options;
 pub mod laws;
 mod pack;
 mod pack_options;
 mod show;
 
 pub use dump::dump_file;
+pub use dump_options::DumpOptions;
 pub use pack::Pack;
 pub use pack_options::PackOptions;
 pub use show::Show;

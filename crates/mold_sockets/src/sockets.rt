@@ -7,7 +7,7 @@ ghost use Rattle.mold_wiring.specs.Addresses.{IsSocketOf};
 
 use crate::options::{listen_options, publish_options, serve_turns};
 use mold_devices::{CommandFault, FromRead, IntoWrite, NewFile};
-use mold_input::{BlocksToEmpty, HexLines, InputFormat, MessageBlocks, MessageReader};
+use mold_input::{BlocksToEmpty, HexLines, MessageBlocks, MessageFormat, MessageReader};
 use mold_listen::{ListenPorts, listen};
 use mold_ports::UdpPort;
 use mold_send::{PublishDevices, publish};
@@ -115,9 +115,9 @@ fn listen_on(
 pub fn run_publish(rt: &HostRuntime, order: &PublishOrder) -> Result<u8, ProgramFault> {
     let mut port = open_port(rt, ANY)?;
     Ok(match order.input {
-        InputFormat::Lines => publish_on::<HexLines>(rt, order, &mut port),
-        InputFormat::Blocks => publish_on::<MessageBlocks>(rt, order, &mut port),
-        InputFormat::BlocksToEmpty => publish_on::<BlocksToEmpty>(rt, order, &mut port),
+        MessageFormat::Lines => publish_on::<HexLines>(rt, order, &mut port),
+        MessageFormat::Blocks => publish_on::<MessageBlocks>(rt, order, &mut port),
+        MessageFormat::BlocksToEmpty => publish_on::<BlocksToEmpty>(rt, order, &mut port),
     }?)
 }
 

@@ -1,7 +1,7 @@
 -- Defines the models of orders: what command-line arguments ask for.
 use Rattle.std.specs.Prelude.{ℕ, Bool, List, string_bytes}
 use Rattle.clap.specs.Words.{Text}
-use Rattle.mold_input.specs.declared.input_format.InputFormat.{InputFormat}
+use Rattle.mold_input.specs.declared.message_format.MessageFormat.{MessageFormat}
 use Rattle.mold_words.specs.declared.address.Address.{Address}
 use Rattle.mold_words.specs.declared.types.Order.{Order}
 use Rattle.mold_words.specs.declared.types.Order.TheVariants.{Show, Pack, Sim, Check, CheckLines, Publish, Serve}
@@ -45,7 +45,7 @@ pub record PublishArguments : Type 0 where
   -- The number of end packets after the heartbeats.
   pub ends : ℕ
   -- How the input encodes the messages.
-  pub input : InputFormat
+  pub input : MessageFormat
 
 -- The model of a `serve` order.
 pub record ServeArguments : Type 0 where
@@ -112,12 +112,14 @@ pub record DumpArguments : Type 0 where
   pub from : ℕ
   -- The maximum number of messages.
   pub count : ℕ
+  -- How the output encodes the messages.
+  pub output : MessageFormat
 
 -- The model of an order: the command and the values of its options. `pack` has a session, the maximum datagram
 -- length, and how its input encodes the messages. `upgrade` has the two files and whether the journal is closed.
 pub data Arguments : Type 0 where
   show_wanted : Bool → Arguments
-  pack_wanted : List ℕ → ℕ → InputFormat → Arguments
+  pack_wanted : List ℕ → ℕ → MessageFormat → Arguments
   sim_wanted : SimArguments → Arguments
   check_wanted : Text → Arguments
   check_lines_wanted : Arguments
@@ -188,4 +190,5 @@ view (Dump order) = dump_wanted (record {
   journal = string_bytes order.journal;
   from = order.from;
   count = order.count;
+  output = order.output;
 })

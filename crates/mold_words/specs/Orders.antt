@@ -5,8 +5,8 @@ use Rattle.std.specs.List.{list_any}
 use Rattle.std.specs.Option.{option_and_then, option_map_or}
 use Rattle.std.specs.Str.{bytes_eq}
 use Rattle.clap.specs.Words.{Row, Text, fault_of, first_of, subcommand_of}
-use Rattle.mold_input.specs.declared.input_format.InputFormat.{InputFormat}
-use Rattle.mold_input.specs.declared.input_format.InputFormat.TheVariants.{Lines, Blocks, BlocksToEmpty}
+use Rattle.mold_input.specs.declared.message_format.MessageFormat.{MessageFormat}
+use Rattle.mold_input.specs.declared.message_format.MessageFormat.TheVariants.{Lines, Blocks, BlocksToEmpty}
 use Rattle.mold_words.specs.Addresses.{address_of}
 use Rattle.mold_words.specs.Values.{session_of, number_of}
 use Rattle.mold_words.specs.Arguments.{Arguments, HostPort, check_lines_wanted, check_wanted, dump_wanted}
@@ -64,14 +64,14 @@ abbrev pub report_in : List Row → Bool
 report_in rows = flag_in (codes "report") rows
 
 -- The format that the flags `--blocks` and `--end-at-empty` choose. The second one requires the first one.
-abbrev pub format_of : Bool → Bool → Option InputFormat
+abbrev pub format_of : Bool → Bool → Option MessageFormat
 format_of false false = Some Lines
 format_of true false = Some Blocks
 format_of true true = Some BlocksToEmpty
 format_of false true = None
 
--- How the input encodes messages, if the flags are valid together. Without flags the input is lines.
-unfoldable pub input_in : List Row → Option InputFormat
+-- How the input, or the output of `dump`, encodes messages, if the flags are valid together. Without flags it is lines.
+unfoldable pub input_in : List Row → Option MessageFormat
 input_in rows = format_of (flag_in (codes "blocks") rows) (flag_in (codes "end-at-empty") rows)
 
 -- The limits of the publisher and of its server, if the server's is at least the publisher's.
@@ -268,7 +268,9 @@ dump_of rows =
     option_and_then
     (λ journal. option_and_then
     (λ from. option_and_then
-    (λ count. Some (dump_wanted (record { journal = journal; from = from; count = count })))
+    (λ count. option_and_then
+    (λ output. Some (dump_wanted (record { journal = journal; from = from; count = count; output = output })))
+    (input_in rows))
     (number_in (codes "count") MAX_NUMBER 0 MAX_NUMBER rows))
     (number_in (codes "from") 1 1 MAX_NUMBER rows))
     (first_of (codes "journal") rows)

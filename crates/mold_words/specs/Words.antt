@@ -47,7 +47,11 @@ commands =
           ∷ (codes "drop-b", Optional) ∷ (codes "turns", Optional) ∷ (codes "report", Flag) ∷ [],
     )
     ∷ (codes "upgrade", (codes "journal", Required) ∷ (codes "to", Required) ∷ (codes "close", Flag) ∷ [])
-    ∷ (codes "dump", (codes "journal", Required) ∷ (codes "from", Optional) ∷ (codes "count", Optional) ∷ [])
+    ∷ (
+      codes "dump",
+      (codes "journal", Required) ∷ (codes "from", Optional) ∷ (codes "count", Optional)
+          ∷ (codes "blocks", Flag) ∷ (codes "end-at-empty", Flag) ∷ [],
+    )
     ∷ []
 
 -- Whether the text is the name of a command.

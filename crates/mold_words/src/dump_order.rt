@@ -3,7 +3,9 @@
 ghost use Rattle.std.specs.Prelude.{◌≤◌};
 ghost use Rattle.mold_wire.specs.declared.limits.TheConstants.{MAX_NUMBER};
 
-/// Which messages of which journal file `dump` prints.
+use mold_input::MessageFormat;
+
+/// Which messages of which journal file `dump` prints, and how its output encodes them.
 #[derive(Debug, PartialEq, Eq, Drop)]
 pub struct DumpOrder {
     /// The name of the journal file.
@@ -13,5 +15,7 @@ pub struct DumpOrder {
     /// The maximum number of messages that are printed. With `MAX_NUMBER` all messages from `from` on are printed,
     /// since no journal has more.
     pub count: u64,
+    /// How the output encodes the messages.
+    pub output: MessageFormat,
     ghost first: { (1 ≤ from) × (from ≤ MAX_NUMBER) },
 }

@@ -2,7 +2,7 @@
 ghost use Rattle.std.specs.Prelude.{◌≡◌, [], ◌∷◌, IfSome, IsTrue, List, None, codes, false, true};
 ghost use Rattle.clap.specs.Words.{Text, fault_of, subcommand_of};
 ghost use Rattle.clap.specs.declared.error.kind.ErrorKind.TheVariants.{DisplayHelp, DisplayVersion, UnknownArgument};
-ghost use Rattle.mold_input.specs.declared.input_format.InputFormat.TheVariants.{Lines, Blocks, BlocksToEmpty};
+ghost use Rattle.mold_input.specs.declared.message_format.MessageFormat.TheVariants.{Lines, Blocks, BlocksToEmpty};
 ghost use Rattle.mold_words.specs.Orders.{AreTaken, Say, order_of};
 ghost use Rattle.mold_words.specs.Arguments.{check_lines_wanted, check_wanted, dump_wanted, listen_wanted, loop_wanted};
 ghost use Rattle.mold_words.specs.Arguments.{pack_wanted, publish_wanted, serve_wanted, show_wanted, sim_wanted};
@@ -246,20 +246,28 @@ pub fn upgrade_taken_law()
         (codes "upgrade" ∷ codes "--journal" ∷ codes "A" ∷ codes "--to" ∷ codes "A" ∷ []) ≡ None }
 {}
 
-/// `dump --journal J` is accepted, and asks to print all messages of the journal in `J` from message 1 on. `--from`
-/// sets another first message, and `--count` a maximum number. `--from 0` is refused, and so is a count that does not
-/// fit 64 bits.
+/// `dump --journal J` is accepted, and asks to print all messages of the journal in `J` from message 1 on, as lines.
+/// `--from` sets another first message, and `--count` a maximum number. `--from 0` is refused, and so is a count that
+/// does not fit 64 bits. `--blocks` asks to print blocks, and together with `--end-at-empty` to print blocks with an
+/// empty block as the mark of the end. `--end-at-empty` without `--blocks` is refused.
 pub fn dump_taken_law()
     ensures usual { Say (codes "dump" ∷ codes "--journal" ∷ codes "J" ∷ [])
-        (dump_wanted (record { journal = codes "J"; from = 1; count = 18446744073709551615 })) }
+        (dump_wanted (record { journal = codes "J"; from = 1; count = 18446744073709551615; output = Lines })) }
     ensures given { Say
         (codes "dump" ∷ codes "--count" ∷ codes "0" ∷ codes "--journal" ∷ codes "J"
         ∷ codes "--from" ∷ codes "18446744073709551615" ∷ [])
-        (dump_wanted (record { journal = codes "J"; from = 18446744073709551615; count = 0 })) }
+        (dump_wanted (record { journal = codes "J"; from = 18446744073709551615; count = 0; output = Lines })) }
     ensures zero { order_of
         (codes "dump" ∷ codes "--journal" ∷ codes "J" ∷ codes "--from" ∷ codes "0" ∷ []) ≡ None }
     ensures above { order_of
         (codes "dump" ∷ codes "--journal" ∷ codes "J" ∷ codes "--count" ∷ codes "18446744073709551616" ∷ []) ≡ None }
+    ensures blocks { Say (codes "dump" ∷ codes "--blocks" ∷ codes "--journal" ∷ codes "J" ∷ [])
+        (dump_wanted (record { journal = codes "J"; from = 1; count = 18446744073709551615; output = Blocks })) }
+    ensures to_empty { Say
+        (codes "dump" ∷ codes "--end-at-empty" ∷ codes "--journal" ∷ codes "J" ∷ codes "--blocks" ∷ [])
+        (dump_wanted (record { journal = codes "J"; from = 1; count = 18446744073709551615; output = BlocksToEmpty })) }
+    ensures no_blocks { order_of
+        (codes "dump" ∷ codes "--journal" ∷ codes "J" ∷ codes "--end-at-empty" ∷ []) ≡ None }
 {}
 
 /// `clap` reports help and the version as errors too. For each of `--help`, `show --help`, `--version`, `-V` and the

@@ -18,7 +18,7 @@ use crate::limits::Limits;
 use crate::no_order::NoOrder;
 use crate::values::{number_of, session_of};
 use clap::ArgMatches;
-use mold_input::InputFormat;
+use mold_input::MessageFormat;
 use mold_wire::{MAX_BURST, MAX_LIMIT, MAX_WINDOW, MIN_LIMIT};
 use std::alloc::Global;
 
@@ -166,17 +166,17 @@ pub(crate) fn report_in(options: &ArgMatches<'_>) -> bool
     flag_in(options, "report")
 }
 
-/// Returns how the input encodes messages. `--end-at-empty` is refused without `--blocks`.
+/// Returns how the input, or the output of `dump`, encodes messages. `--end-at-empty` is refused without `--blocks`.
 #[tactic(auto, unfolding(crate::specs::Orders::input_in))]
-pub(crate) fn input_in(options: &ArgMatches<'_>) -> Result<InputFormat, NoOrder>
+pub(crate) fn input_in(options: &ArgMatches<'_>) -> Result<MessageFormat, NoOrder>
     ensures { MatchResult result
         (λ format. input_in (rows_of (found_of options.now)) ≡ Some format)
         (LacksValue (input_in (rows_of (found_of options.now)))) }
 {
     match (flag_in(options, "blocks"), flag_in(options, "end-at-empty")) {
-        (false, false) => Ok(InputFormat::Lines),
-        (true, false) => Ok(InputFormat::Blocks),
-        (true, true) => Ok(InputFormat::BlocksToEmpty),
+        (false, false) => Ok(MessageFormat::Lines),
+        (true, false) => Ok(MessageFormat::Blocks),
+        (true, true) => Ok(MessageFormat::BlocksToEmpty),
         (false, true) => Err(NoOrder::EndWithoutBlocks),
     }
 }

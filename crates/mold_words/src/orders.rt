@@ -117,11 +117,13 @@ fn dump_order(alloc: Global, options: &ArgMatches<'_>) -> Result<Order, NoOrder>
 {
     let from = number_in(options, "from", 1, 1, MAX_NUMBER)?;
     let count = number_in(options, "count", MAX_NUMBER, 0, MAX_NUMBER)?;
+    let output = input_in(options)?;
     let journal = string_in(alloc, options, "journal")?;
     Ok(Order::Dump(DumpOrder {
         journal,
         from,
         count,
+        output,
     }))
 }
 

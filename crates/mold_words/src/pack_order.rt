@@ -5,7 +5,7 @@ ghost use Rattle.std.specs.List.{list_all};
 ghost use Rattle.mold_words.specs.Values.{is_character};
 ghost use Rattle.mold_wire.specs.declared.limits.TheConstants.{MAX_LIMIT, MIN_LIMIT};
 
-use mold_input::InputFormat;
+use mold_input::MessageFormat;
 
 /// The session whose packets `pack` prints, how long its datagrams may be, and how its input encodes messages.
 #[derive(Clone, Copy, Debug, PartialEq, Eq)]
@@ -15,7 +15,7 @@ pub struct PackOrder {
     /// The maximum length of a datagram in bytes, `MIN_LIMIT` to `MAX_LIMIT`.
     pub limit: usize,
     /// How the input encodes the messages.
-    pub input: InputFormat,
+    pub input: MessageFormat,
     ghost named: { list_all is_character session ≡ true },
     ghost limited: { (MIN_LIMIT ≤ limit) × (limit ≤ MAX_LIMIT) },
 }

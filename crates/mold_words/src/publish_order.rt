@@ -6,7 +6,7 @@ ghost use Rattle.mold_words.specs.Values.{is_character};
 ghost use Rattle.mold_wire.specs.declared.limits.TheConstants.{MAX_LIMIT, MIN_LIMIT};
 
 use crate::address::Address;
-use mold_input::InputFormat;
+use mold_input::MessageFormat;
 
 /// The session that `publish` sends on two lines, and how.
 #[derive(Debug, PartialEq, Eq, Drop)]
@@ -26,7 +26,7 @@ pub struct PublishOrder {
     /// How many end packets are sent after the heartbeats, 0 to 1,000.
     pub ends: u32,
     /// How the input encodes the messages.
-    pub input: InputFormat,
+    pub input: MessageFormat,
     ghost named: { list_all is_character session ≡ true },
     ghost limited: { (MIN_LIMIT ≤ limit) × (limit ≤ MAX_LIMIT) },
     ghost beating: { beats ≤ 1000 },

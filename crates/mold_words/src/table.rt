@@ -318,7 +318,7 @@ pub static COMMANDS: [CommandRow; 10] = [
     },
     CommandRow {
         name: "dump",
-        about: "Print the messages of a journal file as lines of hexadecimal digits",
+        about: "Print the messages of a journal file",
         options: &[
             OptionRow {
                 name: "journal",
@@ -334,6 +334,18 @@ pub static COMMANDS: [CommandRow; 10] = [
                 name: "count",
                 kind: Kind::Optional,
                 help: "The maximum number of messages, 0 to 18446744073709551615 [default: all]",
+            },
+            OptionRow {
+                name: "blocks",
+                kind: Kind::Flag,
+                help: "Print message blocks (BinaryFILE) instead of lines of hexadecimal digits,\n\
+                    and refusals on standard error",
+            },
+            OptionRow {
+                name: "end-at-empty",
+                kind: Kind::Flag,
+                help: "End the output of --blocks with an empty block if the journal is closed and\n\
+                    printed to its end; refuse an empty message",
             },
         ],
         example: "Example:\n  mold dump --journal day.journal | mold publish --session SESSION001 \\\

@@ -1,8 +1,10 @@
 //! The command `dump`.
 
+use crate::comparisons::{same_bytes, same_number, same_outcome};
 use crate::running::{Case, Run, expect_result, expect_whole_or_prefix, sink_of, source_of, whole};
-use mold_commands::dump_file;
-use mold_devices::{CommandFault, MemorySink, MemorySource, Source};
+use mold_commands::{DumpOptions, dump_file};
+use mold_devices::{CommandFault, MemorySink, MemorySource, Sink, Source};
+use mold_input::MessageFormat;
 use std::process::Abort;
 use std::test::Fail;
 
@@ -10,6 +12,9 @@ use std::test::Fail;
 const FILE_1: &[u8] = b"MOLDJNL1SESSION001\0\x02AB\0\0";
 
 const FILE_2: &[u8] = b"MOLDJNL2SESSION001\0\0\0\0\0\0\0\0\x02\0\x02AB\0\0";
+
+// The file of version 1 that ends within its second block.
+const CUT_FILE: &[u8] = b"MOLDJNL1SESSION001\0\x02AB\0";
 
 // The lines of both messages.
 const LINES: &[u8] = b"4142\n\n";
@@ -27,11 +32,22 @@ struct Dump {
     status: u8,
 }
 
+fn options_of(part: (u64, u64), format: MessageFormat) -> DumpOptions {
+    DumpOptions {
+        from: part.0,
+        count: part.1,
+        format,
+    }
+}
+
 fn expect_run(rt: &(impl Abort + AllocGlobal), part: (u64, u64), run: &Run<'_>) {
+    let options = options_of(part, MessageFormat::Lines);
     let mut source = source_of(run);
     let mut sink = sink_of(rt.alloc(), run);
-    let outcome = dump_file(rt.alloc(), &mut source, part.0, part.1, &mut sink);
+    let mut errors = MemorySink::new(rt.alloc());
+    let outcome = dump_file(rt.alloc(), &mut source, options, &mut sink, &mut errors);
     expect_result(rt, run, outcome, &sink, source.failures());
+    same_bytes(rt, errors.bytes(), b"", 0);
 }
 
 // Dumps in calls of at most 100 bytes, and of one byte.
@@ -262,7 +278,7 @@ fn a_part_of_a_file_that_is_not_a_journal(rt: HostRuntime) {
 
 // The cut file is read and its text written byte by byte, and a call fails.
 const CUT: Case = Case {
-    input: b"MOLDJNL1SESSION001\0\x02AB\0",
+    input: CUT_FILE,
     text: b"4142\nrefused BlockCut 2\n",
     status: 2,
 };
@@ -297,7 +313,9 @@ fn each_write_of_a_dump_that_fails_leaves_a_prefix(rt: HostRuntime) {
 fn expect_once(rt: &(impl Abort + AllocGlobal), case: &Case) -> Result<u8, CommandFault> {
     let mut source = MemorySource::new(case.input);
     let mut sink = MemorySink::new(rt.alloc());
-    let outcome = dump_file(rt.alloc(), &mut source, 1, ALL, &mut sink);
+    let mut errors = MemorySink::new(rt.alloc());
+    let options = options_of((1, ALL), MessageFormat::Lines);
+    let outcome = dump_file(rt.alloc(), &mut source, options, &mut sink, &mut errors);
     expect_whole_or_prefix(rt, outcome, &sink, case);
     outcome
 }
@@ -320,4 +338,146 @@ const WHOLE: Case = Case {
 fn out_of_memory_dumps_a_prefix(rt: HostRuntime) -> Result<(), Fail> {
     expect_again(&rt, &WHOLE)?;
     expect_again(&rt, &CUT)
+}
+
+// A file dumped as blocks: the part, what is printed on standard output and on standard error, and the status.
+struct Blocks {
+    file: &'static [u8],
+    part: (u64, u64),
+    format: MessageFormat,
+    text: &'static [u8],
+    errors: &'static [u8],
+    status: u8,
+}
+
+const CLOSED: &[u8] = b"MOLDJNL2SESSION001\x01\0\0\0\0\0\0\0\x02\0\x01A\0\x01B";
+
+const OPEN: &[u8] = b"MOLDJNL2SESSION001\0\0\0\0\0\0\0\0\x02\0\x01A\0\x01B";
+
+const BLOCKS: &[Blocks] = &[
+    Blocks {
+        file: FILE_2,
+        part: (1, ALL),
+        format: MessageFormat::Blocks,
+        text: b"\0\x02AB\0\0",
+        errors: b"",
+        status: 0,
+    },
+    Blocks {
+        file: FILE_2,
+        part: (2, 1),
+        format: MessageFormat::Blocks,
+        text: b"\0\0",
+        errors: b"",
+        status: 0,
+    },
+    Blocks {
+        file: CUT_FILE,
+        part: (1, ALL),
+        format: MessageFormat::Blocks,
+        text: b"\0\x02AB",
+        errors: b"refused BlockCut 2\n",
+        status: 2,
+    },
+    Blocks {
+        file: CUT_FILE,
+        part: (1, ALL),
+        format: MessageFormat::BlocksToEmpty,
+        text: b"\0\x02AB",
+        errors: b"refused BlockCut 2\n",
+        status: 2,
+    },
+    Blocks {
+        file: CLOSED,
+        part: (1, ALL),
+        format: MessageFormat::Blocks,
+        text: b"\0\x01A\0\x01B",
+        errors: b"",
+        status: 0,
+    },
+    Blocks {
+        file: CLOSED,
+        part: (1, 2),
+        format: MessageFormat::BlocksToEmpty,
+        text: b"\0\x01A\0\x01B\0\0",
+        errors: b"",
+        status: 0,
+    },
+    Blocks {
+        file: CLOSED,
+        part: (1, 1),
+        format: MessageFormat::BlocksToEmpty,
+        text: b"\0\x01A",
+        errors: b"",
+        status: 0,
+    },
+    Blocks {
+        file: CLOSED,
+        part: (3, 1),
+        format: MessageFormat::BlocksToEmpty,
+        text: b"\0\0",
+        errors: b"",
+        status: 0,
+    },
+    Blocks {
+        file: CLOSED,
+        part: (2, 0),
+        format: MessageFormat::BlocksToEmpty,
+        text: b"",
+        errors: b"",
+        status: 0,
+    },
+    Blocks {
+        file: OPEN,
+        part: (1, ALL),
+        format: MessageFormat::BlocksToEmpty,
+        text: b"\0\x01A\0\x01B",
+        errors: b"",
+        status: 0,
+    },
+    Blocks {
+        file: FILE_2,
+        part: (1, ALL),
+        format: MessageFormat::BlocksToEmpty,
+        text: b"\0\x02AB",
+        errors: b"refused Empty 2\n",
+        status: 2,
+    },
+    Blocks {
+        file: FILE_2,
+        part: (1, 1),
+        format: MessageFormat::BlocksToEmpty,
+        text: b"\0\x02AB",
+        errors: b"",
+        status: 0,
+    },
+];
+
+#[test]
+fn blocks_dumped(rt: HostRuntime) {
+    for dump in BLOCKS {
+        let mut source = MemorySource::new(dump.file);
+        let mut sink = MemorySink::new(rt.alloc());
+        let mut errors = MemorySink::new(rt.alloc());
+        let options = options_of(dump.part, dump.format);
+        let outcome = dump_file(rt.alloc(), &mut source, options, &mut sink, &mut errors);
+        same_outcome(&rt, outcome, Ok(dump.status), 0);
+        same_bytes(&rt, sink.bytes(), dump.text, 0);
+        same_bytes(&rt, errors.bytes(), dump.errors, 0);
+    }
+}
+
+// If the errors cannot be written, the messages were written, and the fault is `Write`.
+#[test]
+fn a_refusal_that_cannot_be_written(rt: HostRuntime) {
+    let mut source = MemorySource::new(CUT.input);
+    let mut sink = MemorySink::new(rt.alloc());
+    let mut errors = MemorySink::new(rt.alloc());
+    errors.fail_at(1);
+    let options = options_of((1, ALL), MessageFormat::Blocks);
+    let outcome = dump_file(rt.alloc(), &mut source, options, &mut sink, &mut errors);
+    same_outcome(&rt, outcome, Err(CommandFault::Write), 0);
+    same_bytes(&rt, sink.bytes(), b"\0\x02AB", 0);
+    same_bytes(&rt, errors.bytes(), b"", 0);
+    same_number(&rt, errors.failures(), 1, 0);
 }

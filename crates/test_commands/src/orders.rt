@@ -2,7 +2,7 @@
 
 ghost use Rattle.mold_commands.specs.Command.{IsStreamed};
 
-use mold_input::InputFormat;
+use mold_input::MessageFormat;
 use mold_words::{Limits, Order, PackOrder, SimOrder};
 
 /// A command with its options. The session is `SESSION001`, and packets have up to 64 bytes.
@@ -21,7 +21,7 @@ pub enum Command {
     CheckLines,
 }
 
-fn pack_order(input: InputFormat) -> Order
+fn pack_order(input: MessageFormat) -> Order
     ensures { IsStreamed result }
 {
     Order::Pack(PackOrder {
@@ -38,9 +38,9 @@ pub fn order_of(command: Command) -> Order
     match command {
         Command::Show => Order::Show { request: false },
         Command::ShowRequests => Order::Show { request: true },
-        Command::Pack => pack_order(InputFormat::Lines),
-        Command::PackBlocks => pack_order(InputFormat::Blocks),
-        Command::PackToEmpty => pack_order(InputFormat::BlocksToEmpty),
+        Command::Pack => pack_order(MessageFormat::Lines),
+        Command::PackBlocks => pack_order(MessageFormat::Blocks),
+        Command::PackToEmpty => pack_order(MessageFormat::BlocksToEmpty),
         Command::Sim => Order::Sim(SimOrder {
             session: *b"SESSION001",
             limits: Limits {

@@ -157,6 +157,8 @@ const NO_COMMANDS: &[&str] = &[
     "dump --journal J --from 0",
     "dump --journal J --from 18446744073709551616",
     "dump --journal J --count 18446744073709551616",
+    "dump --journal J --end-at-empty",
+    "dump --journal J --blocks --blocks",
 ];
 
 #[test]

@@ -16,7 +16,7 @@ Commands:
   listen   Receive a session on two lines, request what is missing, and print the messages
   loop     Publish, serve and listen in one process over ports of 127.0.0.1
   upgrade  Write a journal file anew, in version 2 of the format
-  dump     Print the messages of a journal file as lines of hexadecimal digits
+  dump     Print the messages of a journal file
   help     Print this message or the help of the given subcommand(s)
 
 Options:
@@ -101,7 +101,7 @@ Example:
   mold upgrade --journal old.journal --to new.journal
 ";
 
-const DUMP_HELP: &str = "Print the messages of a journal file as lines of hexadecimal digits
+const DUMP_HELP: &str = "Print the messages of a journal file
 
 Usage: mold dump [OPTIONS] --journal <FILE>
 
@@ -109,6 +109,10 @@ Options:
       --journal <FILE>  The journal file
       --from <NUMBER>   The number of the first message, 1 to 18446744073709551615 [default: 1]
       --count <COUNT>   The maximum number of messages, 0 to 18446744073709551615 [default: all]
+      --blocks          Print message blocks (BinaryFILE) instead of lines of hexadecimal digits,
+                        and refusals on standard error
+      --end-at-empty    End the output of --blocks with an empty block if the journal is closed and
+                        printed to its end; refuse an empty message
   -h, --help            Print help
 
 Example:

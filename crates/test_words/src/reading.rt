@@ -1,7 +1,7 @@
 //! Reads the arguments of a line, and compares the order or the fault. Each kind of comparison is in one function,
 //! and each of the two results is owned by one function: the proof of a test grows with both.
 
-use mold_input::InputFormat;
+use mold_input::MessageFormat;
 use mold_words::{
     Address, ListenOrder, LoopOrder, Order, PublishOrder, ServeOrder, SimOrder, UsageFault,
     read_words,
@@ -36,11 +36,11 @@ fn arguments_of(alloc: Global, line: &str) -> Result<Vec<String>, AllocError> {
 }
 
 // The number of a format: 0 for lines, 1 for blocks, 2 for blocks up to the first empty one.
-fn number_of(input: InputFormat) -> u64 {
-    match input {
-        InputFormat::Lines => 0,
-        InputFormat::Blocks => 1,
-        InputFormat::BlocksToEmpty => 2,
+fn number_of(format: MessageFormat) -> u64 {
+    match format {
+        MessageFormat::Lines => 0,
+        MessageFormat::Blocks => 1,
+        MessageFormat::BlocksToEmpty => 2,
     }
 }
 
@@ -215,7 +215,7 @@ fn expect_order(rt: &impl Abort, order: &Order, wanted: &Values<'_>, line: &str)
             expect_small(rt, "upgrade", b"", &numbers, &texts, wanted, line);
         }
         Order::Dump(order) => {
-            let numbers = [order.from, order.count];
+            let numbers = [order.from, order.count, number_of(order.output)];
             let texts = [order.journal.as_str()];
             expect_small(rt, "dump", b"", &numbers, &texts, wanted, line);
         }

@@ -302,14 +302,14 @@ fn arguments_of_upgrade(rt: HostRuntime) {
     expect_orders(&rt, UPGRADE);
 }
 
-// The first message and the most messages.
+// The first message, the maximum number of messages, and the format of the output.
 const DUMP: &[OrderLine] = &[
     (
         "dump --journal J",
         Values {
             command: "dump",
             session: b"",
-            numbers: &[1, u64::MAX],
+            numbers: &[1, u64::MAX, 0],
             addresses: &[],
             texts: &["J"],
         },
@@ -319,7 +319,7 @@ const DUMP: &[OrderLine] = &[
         Values {
             command: "dump",
             session: b"",
-            numbers: &[u64::MAX, 0],
+            numbers: &[u64::MAX, 0, 0],
             addresses: &[],
             texts: &["J"],
         },
@@ -329,7 +329,27 @@ const DUMP: &[OrderLine] = &[
         Values {
             command: "dump",
             session: b"",
-            numbers: &[1, u64::MAX],
+            numbers: &[1, u64::MAX, 0],
+            addresses: &[],
+            texts: &["J"],
+        },
+    ),
+    (
+        "dump --blocks --journal J",
+        Values {
+            command: "dump",
+            session: b"",
+            numbers: &[1, u64::MAX, 1],
+            addresses: &[],
+            texts: &["J"],
+        },
+    ),
+    (
+        "dump --end-at-empty --journal J --blocks --from 2",
+        Values {
+            command: "dump",
+            session: b"",
+            numbers: &[2, u64::MAX, 2],
             addresses: &[],
             texts: &["J"],
         },
