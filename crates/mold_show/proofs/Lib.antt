@@ -1,5 +1,6 @@
 pub mod DumpLawLemmas
 pub mod DumpLemmas
 pub mod DumpedLemmas
+pub mod PackJournalLemmas
 pub mod PackLemmas
 pub mod ShowLemmas

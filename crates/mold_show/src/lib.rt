@@ -5,10 +5,14 @@
 mod dump;
 pub mod laws;
 mod pack;
+mod pack_journal;
 mod pack_options;
+mod save_outcome;
 mod show;
 
 pub use dump::dump_file;
 pub use pack::Pack;
+pub use pack_journal::pack_into_journal;
 pub use pack_options::PackOptions;
+pub use save_outcome::SaveOutcome;
 pub use show::Show;
