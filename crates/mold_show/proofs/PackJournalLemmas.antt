@@ -10,7 +10,7 @@ use Rattle.mold_input.specs.declared.input_kind.InputKind.{InputKind}
 use Rattle.mold_input.specs.declared.next.Next.TheVariants as next
 use Rattle.mold_session.specs.File.{AppendsFile}
 use Rattle.mold_session.specs.Journal.{JournalState, appended}
-use Rattle.mold_publish.specs.Publishing.{InputPublished, PublishedInput, entries_published, entry_outcome}
+use Rattle.mold_publish.specs.Publishing.{InputPublished, entries_published, entry_outcome}
 use Rattle.mold_publish.specs.Publishing.{input_published, published_from}
 use Rattle.mold_publish.specs.declared.filling.Filled.TheVariants.{Full}
 use Rattle.mold_publish.specs.declared.message_refusal.MessageRefusal.{MessageRefusal}
