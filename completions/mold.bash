@@ -5,7 +5,7 @@
 _mold_options() {
     case $1 in
     show) printf '%s ' --request ;;
-    pack) printf '%s ' --session --limit --blocks --end-at-empty ;;
+    pack) printf '%s ' --session --limit --journal --blocks --end-at-empty ;;
     sim) printf '%s ' --session --limit --server-limit --window --receivers --burst ;;
     publish) printf '%s ' --session --limit --a --b --journal --beats --ends --blocks --end-at-empty ;;
     serve) printf '%s ' --journal --limit --burst --bind --turns --live ;;

@@ -115,12 +115,16 @@ def address(port):
 
 
 def calls_of_files():
+    pack = ["pack", "--session", "SESSION001", "--limit", "64", "--journal", "@new"]
     upgrade = ["upgrade", "--journal", "@old", "--to", "@new", "--close"]
     folder = {"b.pkt": data(1, b"AB", b""), "a.pkt": model.encoding(model.Packet("end", S, 5)), "c.txt": b""}
     conflict = {"b.pkt": data(2, b"X"), "a.pkt": data(2, b"Y")}
     return [
         Call("check", ["check", "@"], files=folder, status=1),
         Call("check, refused", ["check", "@"], files=conflict, status=2),
+        Call("pack --journal", pack, LINES, made=("new",)),
+        Call("pack --journal over a file", pack, LINES, files={"new": b"old content"}, made=("new",)),
+        Call("pack --journal, refused", pack, MESSAGES + b"4\n", made=("new",), status=2),
         Call("upgrade", upgrade, files={"old": OLD}, made=("new",)),
         Call("upgrade over a file", upgrade, files={"old": OLD, "new": b"old content"}, made=("new",)),
         Call("upgrade, refused", upgrade, files={"old": OLD[:-1]}, made=("new",), status=2),

@@ -210,6 +210,7 @@ def pack(chance):
         # About as many messages as fit in the largest packet.
         options["limit"] = 65507
         return case_of(chance, options, [(b"",)] * chance.randint(32741, 32746))
+    options["is_saved"] = has(chance, 0.3)
     return in_some_form(chance, options, chance.choice([3, 12, 60]))
 
 
@@ -445,7 +446,7 @@ def text_of_value(chance, name):
 def words(chance):
     """Arguments for the options of a command. A required option may be missing, and a foreign option may be present."""
     command = chance.choice(sorted(model.COMMANDS))
-    names = [it for it in model.COMMANDS[command].split() if it not in model.DEFAULTS or has(chance, 0.6)]
+    names = [it for it in model.COMMANDS[command].split() if model.is_required(command, it) or has(chance, 0.6)]
     if has(chance, 0.05):
         names.remove(chance.choice(names))
     if has(chance, 0.05):

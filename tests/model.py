@@ -142,9 +142,9 @@ VALUES |= {"drop-a": (0, 1000), "drop-b": (0, 1000), "a": ADDRESS, "b": ADDRESS,
 VALUES |= {"journal": NAME, "to": NAME, "from": (1, (1 << 64) - 1), "count": (0, (1 << 64) - 1)}
 DEFAULTS = {"limit": 1400, "server-limit": 1400, "window": 1024, "receivers": 2, "burst": 1, "next": 1, "turns": 1000}
 DEFAULTS |= {"beats": 1, "ends": 1, "drop-a": 0, "drop-b": 0, "from": 1, "count": (1 << 64) - 1}
-# The options with values of each command. Options without a default are required.
+# The options with values of each command. Options without a default are required, except the journal of `pack`.
 COMMANDS = {
-    "pack": "session limit",
+    "pack": "session limit journal",
     "sim": "session limit server-limit window receivers burst",
     "publish": "session limit a b journal beats ends",
     "serve": "journal limit burst bind turns",
@@ -153,6 +153,11 @@ COMMANDS = {
     "upgrade": "journal to",
     "dump": "journal from count",
 }
+
+
+def is_required(command, name):
+    """Whether a command needs this option."""
+    return name not in DEFAULTS and (command, name) != ("pack", "journal")
 
 
 def is_address(text):
@@ -177,7 +182,7 @@ def name_of_fault(command, values, form):
     option name. An option that the command does not have is a usage fault. The form of the messages is `none` if
     `--end-at-empty` is given without `--blocks`."""
     names = COMMANDS[command].split()
-    if set(values) - set(names) or set(names) - set(values) - set(DEFAULTS):
+    if set(values) - set(names) or any(is_required(command, it) for it in set(names) - set(values)):
         return "Usage"
     bad = [name for name, text in values.items() if not is_value(name, text)]
     if any(VALUES[name] == ADDRESS for name in bad):
@@ -288,6 +293,14 @@ def pack(session, limit, some_bytes, form="lines"):
         return text_of([encoding(it).hex() for it in packets] + [refusal]), 2
     packets.append(Packet("end", session, len(messages) + 1))
     return text_of(encoding(it).hex() for it in packets), 0
+
+
+def pack_journal(session, limit, some_bytes, form):
+    """The text, the status, and the journal file, or None."""
+    messages, _, refusal = packets_of(session, limit, some_bytes, form)
+    if refusal:
+        return text_of([refusal]), 2, None
+    return text_of([f"saved {len(messages)}"]), 0, journal_file(session, messages, True)
 
 
 def publish(session, limit, beats, ends, some_bytes, form="lines"):

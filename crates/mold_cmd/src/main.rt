@@ -3,12 +3,14 @@
 
 ghost use Rattle.mold_commands.specs.Command.{IsStreamed};
 
-use mold_commands::{DumpOptions, check_folder, dump_file, run_command, run_upgrade};
+use mold_commands::{
+    DumpOptions, check_folder, dump_file, run_command, run_pack_journal, run_upgrade,
+};
 use mold_devices::{CommandFault, FromRead, IntoWrite, NewFile};
 use mold_loop::run_loop;
 use mold_sockets::{run_listen, run_publish, run_serve};
 use mold_wiring::{ProgramFault, exit_code, flushed, print_fault};
-use mold_words::{DumpOrder, Order, UpgradeOrder, UsageFault, read_words};
+use mold_words::{DumpOrder, Order, PackJournalOrder, UpgradeOrder, UsageFault, read_words};
 use std::fs::File;
 use std::io::{ErrorKind, Write};
 use std::process::ExitCode;
@@ -66,6 +68,21 @@ fn run_streamed(rt: &HostRuntime, order: &Order) -> Result<u8, CommandFault>
     flushed(outcome, sink.into_inner().flush())
 }
 
+// Saves the messages on standard input as a journal. Its file is created at its first write.
+fn pack_file(rt: &HostRuntime, order: &PackJournalOrder) -> Result<u8, CommandFault> {
+    let mut source = FromRead::new(rt.stdin());
+    let mut journal = IntoWrite::new(NewFile::new(rt, order.journal.as_str()));
+    let mut sink = IntoWrite::new(rt.stdout());
+    let outcome = run_pack_journal(
+        rt.alloc(),
+        &order.pack,
+        &mut source,
+        &mut journal,
+        &mut sink,
+    );
+    flushed(outcome, sink.into_inner().flush())
+}
+
 // Checks the folder, and flushes standard output once.
 fn run_check(rt: &HostRuntime, folder: &str) -> Result<u8, CommandFault> {
     let mut sink = IntoWrite::new(rt.stdout());
@@ -113,6 +130,7 @@ fn run(rt: &HostRuntime, order: &Order) -> Result<u8, ProgramFault> {
     match order {
         Order::Show { request: _ } => Ok(run_streamed(rt, order)?),
         Order::Pack(_) => Ok(run_streamed(rt, order)?),
+        Order::PackJournal(order) => Ok(pack_file(rt, order)?),
         Order::Sim(_) => Ok(run_streamed(rt, order)?),
         Order::Check { folder } => Ok(run_check(rt, folder.as_str())?),
         Order::CheckLines => Ok(run_streamed(rt, order)?),

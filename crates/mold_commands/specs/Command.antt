@@ -6,19 +6,21 @@ use Rattle.mold_show.specs.Show.{show_text, show_status}
 use Rattle.mold_sim.specs.Sim.{SimState, sim_beginning, sim_status, sim_text}
 use Rattle.mold_words.specs.declared.sim_order.SimOrder.{SimOrder}
 use Rattle.mold_words.specs.declared.types.Order.{Order}
-use Rattle.mold_words.specs.declared.types.Order.TheVariants.{Show, Pack, Sim, Check, CheckLines, Publish, Serve}
-use Rattle.mold_words.specs.declared.types.Order.TheVariants.{Listen, Loop, Upgrade, Dump}
+use Rattle.mold_words.specs.declared.types.Order.TheVariants.{Show, Pack, PackJournal, Sim, Check, CheckLines}
+use Rattle.mold_words.specs.declared.types.Order.TheVariants.{Publish, Serve, Listen, Loop, Upgrade, Dump}
 
 -- The state of the simulation at the start of the order's script.
 abbrev pub sim_start : SimOrder → SimState
 sim_start order = sim_beginning (record { 0 = order.session }) order.limits.limit order.limits.server_limit order.burst
     order.window order.receivers
 
--- The order reads lines or message blocks from a source and prints text: it is `show`, `pack`, `sim` or `check -`. A
--- check of a folder, an upgrade and a dump read files instead, and the remaining orders use ports.
+-- The order reads lines or message blocks from a source and prints text: it is `show`, `pack` without a journal, `sim`
+-- or `check -`. `pack` with a journal writes a file too. A check of a folder, an upgrade and a dump read files instead,
+-- and the remaining orders use ports.
 abbrev pub IsStreamed : Order → Type 0
 IsStreamed (Show requests) = ⊤
 IsStreamed (Pack order) = ⊤
+IsStreamed (PackJournal order) = ⊥
 IsStreamed (Sim order) = ⊤
 IsStreamed (Check folder) = ⊥
 IsStreamed CheckLines = ⊤
@@ -33,6 +35,7 @@ IsStreamed (Dump order) = ⊥
 abbrev pub text : Order → List ℕ → List ℕ
 text (Show requests) input = show_text requests input
 text (Pack order) input = pack_text order.input (record { 0 = order.session }) order.limit input
+text (PackJournal order) input = []
 text (Sim order) input = sim_text (sim_start order) input
 text (Check folder) input = []
 text CheckLines input = check_text input
@@ -48,6 +51,7 @@ text (Dump order) input = []
 abbrev pub status : Order → List ℕ → ℕ
 status (Show requests) input = show_status requests input
 status (Pack order) input = pack_status order.input (record { 0 = order.session }) order.limit input
+status (PackJournal order) input = 0
 status (Sim order) input = sim_status (sim_start order) input
 status (Check folder) input = 0
 status CheckLines input = check_status input

@@ -46,7 +46,8 @@ pub fn run_command<S: Source, K: Sink>(
         Order::Sim(order) => run_lines(alloc, &mut sim_of(alloc, order)?, source, sink),
         Order::CheckLines => check_lines(alloc, source, sink),
         // The contract requires an order that reads the source.
-        Order::Check { folder: _ }
+        Order::PackJournal(_)
+        | Order::Check { folder: _ }
         | Order::Publish(_)
         | Order::Serve(_)
         | Order::Listen(_)

@@ -2,5 +2,6 @@ pub mod DumpLawLemmas
 pub mod DumpLemmas
 pub mod DumpedLemmas
 pub mod EndLemmas
+pub mod PackJournalLemmas
 pub mod PackLemmas
 pub mod ShowLemmas

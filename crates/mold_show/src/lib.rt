@@ -7,11 +7,15 @@ mod dump_fault;
 mod dump_options;
 pub mod laws;
 mod pack;
+mod pack_journal;
 mod pack_options;
+mod save_outcome;
 mod show;
 
 pub use dump::dump_file;
 pub use dump_options::DumpOptions;
 pub use pack::Pack;
+pub use pack_journal::pack_into_journal;
 pub use pack_options::PackOptions;
+pub use save_outcome::SaveOutcome;
 pub use show::Show;

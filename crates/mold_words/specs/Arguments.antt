@@ -4,8 +4,8 @@ use Rattle.clap.specs.Words.{Text}
 use Rattle.mold_input.specs.declared.message_format.MessageFormat.{MessageFormat}
 use Rattle.mold_words.specs.declared.address.Address.{Address}
 use Rattle.mold_words.specs.declared.types.Order.{Order}
-use Rattle.mold_words.specs.declared.types.Order.TheVariants.{Show, Pack, Sim, Check, CheckLines, Publish, Serve}
-use Rattle.mold_words.specs.declared.types.Order.TheVariants.{Listen, Loop, Upgrade, Dump}
+use Rattle.mold_words.specs.declared.types.Order.TheVariants.{Show, Pack, PackJournal, Sim, Check, CheckLines}
+use Rattle.mold_words.specs.declared.types.Order.TheVariants.{Publish, Serve, Listen, Loop, Upgrade, Dump}
 
 -- The model of a `sim` order.
 pub record SimArguments : Type 0 where
@@ -116,10 +116,12 @@ pub record DumpArguments : Type 0 where
   pub output : MessageFormat
 
 -- The model of an order: the command and the values of its options. `pack` has a session, the maximum datagram
--- length, and how its input encodes the messages. `upgrade` has the two files and whether the journal is closed.
+-- length, how its input encodes the messages, and the journal file if there is one. `upgrade` has the two files and
+-- whether the journal is closed.
 pub data Arguments : Type 0 where
   show_wanted : Bool → Arguments
   pack_wanted : List ℕ → ℕ → MessageFormat → Arguments
+  pack_journal_wanted : List ℕ → ℕ → MessageFormat → Text → Arguments
   sim_wanted : SimArguments → Arguments
   check_wanted : Text → Arguments
   check_lines_wanted : Arguments
@@ -134,6 +136,8 @@ pub data Arguments : Type 0 where
 abbrev pub view : Order → Arguments
 view (Show request) = show_wanted request
 view (Pack order) = pack_wanted order.session order.limit order.input
+view (PackJournal order) =
+    pack_journal_wanted order.pack.session order.pack.limit order.pack.input (string_bytes order.journal)
 view (Sim order) = sim_wanted (record {
   session = order.session;
   limit = order.limits.limit;

@@ -10,8 +10,8 @@ use Rattle.mold_input.specs.declared.message_format.MessageFormat.TheVariants.{L
 use Rattle.mold_words.specs.Addresses.{address_of}
 use Rattle.mold_words.specs.Values.{session_of, number_of}
 use Rattle.mold_words.specs.Arguments.{Arguments, HostPort, check_lines_wanted, check_wanted, dump_wanted}
-use Rattle.mold_words.specs.Arguments.{listen_wanted, loop_wanted, pack_wanted, publish_wanted, serve_wanted}
-use Rattle.mold_words.specs.Arguments.{show_wanted, sim_wanted, upgrade_wanted}
+use Rattle.mold_words.specs.Arguments.{listen_wanted, loop_wanted, pack_journal_wanted, pack_wanted, publish_wanted}
+use Rattle.mold_words.specs.Arguments.{serve_wanted, show_wanted, sim_wanted, upgrade_wanted}
 use Rattle.mold_words.specs.Words.{mold_app}
 use Rattle.mold_words.specs.declared.options.TheConstants.{MAX_TURNS}
 use Rattle.mold_wire.specs.declared.limits.TheConstants.{MAX_BURST, MAX_WINDOW}
@@ -100,12 +100,17 @@ has_no_address rows =
 unfoldable pub show_of : List Row → Arguments
 show_of rows = show_wanted (flag_in (codes "request") rows)
 
+-- What `pack` asks for: to print packets, or to save a journal if the name of a file is given.
+abbrev pub packed_to : List ℕ → ℕ → MessageFormat → Option Text → Arguments
+packed_to session limit input None = pack_wanted session limit input
+packed_to session limit input (Some journal) = pack_journal_wanted session limit input journal
+
 -- What `pack` asks for with these options, if their values are valid.
 unfoldable pub pack_of : List Row → Option Arguments
 pack_of rows =
     option_and_then
     (λ session. option_and_then
-    (λ limit. option_map (λ input. pack_wanted session limit input) (input_in rows))
+    (λ limit. option_map (λ input. packed_to session limit input (first_of (codes "journal") rows)) (input_in rows))
     (limit_in (codes "limit") rows))
     (session_in (codes "session") rows)
 

@@ -13,8 +13,8 @@ commands =
     (codes "show", (codes "request", Flag) ∷ [])
     ∷ (
       codes "pack",
-      (codes "session", Required) ∷ (codes "limit", Optional) ∷ (codes "blocks", Flag)
-          ∷ (codes "end-at-empty", Flag) ∷ [],
+      (codes "session", Required) ∷ (codes "limit", Optional) ∷ (codes "journal", Optional)
+          ∷ (codes "blocks", Flag) ∷ (codes "end-at-empty", Flag) ∷ [],
     )
     ∷ (
       codes "sim",

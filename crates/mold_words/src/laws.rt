@@ -5,8 +5,8 @@ ghost use Rattle.clap.specs.declared.error.kind.ErrorKind.TheVariants.{DisplayHe
 ghost use Rattle.mold_input.specs.declared.message_format.MessageFormat.TheVariants.{Lines, Blocks, BlocksToEmpty};
 ghost use Rattle.mold_words.specs.Orders.{AreTaken, Say, order_of};
 ghost use Rattle.mold_words.specs.Arguments.{check_lines_wanted, check_wanted, dump_wanted, listen_wanted, loop_wanted};
-ghost use Rattle.mold_words.specs.Arguments.{pack_wanted, publish_wanted, serve_wanted, show_wanted, sim_wanted};
-ghost use Rattle.mold_words.specs.Arguments.{upgrade_wanted};
+ghost use Rattle.mold_words.specs.Arguments.{pack_journal_wanted, pack_wanted, publish_wanted, serve_wanted};
+ghost use Rattle.mold_words.specs.Arguments.{show_wanted, sim_wanted, upgrade_wanted};
 ghost use Rattle.mold_words.specs.Words.{is_command, mold_app};
 
 /// `show` is accepted, and asks to show packets, as `--` alone does. `show --request` is accepted, and asks to show
@@ -20,7 +20,7 @@ pub fn show_taken_law()
 /// `pack --session MKT` is accepted, and asks to pack the session `MKT`, padded with seven spaces, into datagrams of up
 /// to 1,400 bytes. Its input is lines. `--limit` sets another limit. A limit below 64 is refused. `--blocks` asks to
 /// read blocks, and together with `--end-at-empty` to read blocks up to the first empty one. `--end-at-empty` without
-/// `--blocks` is refused.
+/// `--blocks` is refused. `--journal J` asks to save the messages as a journal in `J`, in each of these formats.
 pub fn pack_taken_law()
     ensures usual { Say (codes "pack" ∷ codes "--session" ∷ codes "MKT" ∷ [])
         (pack_wanted (codes "MKT       ") 1400 Lines) }
@@ -36,6 +36,17 @@ pub fn pack_taken_law()
         (pack_wanted (codes "MKT       ") 1400 BlocksToEmpty) }
     ensures no_blocks { order_of
         (codes "pack" ∷ codes "--session" ∷ codes "MKT" ∷ codes "--end-at-empty" ∷ []) ≡ None }
+    ensures journal { Say
+        (codes "pack" ∷ codes "--journal" ∷ codes "J" ∷ codes "--session" ∷ codes "MKT" ∷ [])
+        (pack_journal_wanted (codes "MKT       ") 1400 Lines (codes "J")) }
+    ensures journal_of_blocks { Say
+        (codes "pack" ∷ codes "--session" ∷ codes "SESSION001" ∷ codes "--limit" ∷ codes "64" ∷ codes "--blocks"
+        ∷ codes "--journal" ∷ codes "J" ∷ [])
+        (pack_journal_wanted (codes "SESSION001") 64 Blocks (codes "J")) }
+    ensures journal_to_empty { Say
+        (codes "pack" ∷ codes "--end-at-empty" ∷ codes "--blocks" ∷ codes "--session" ∷ codes "MKT"
+        ∷ codes "--journal" ∷ codes "J" ∷ [])
+        (pack_journal_wanted (codes "MKT       ") 1400 BlocksToEmpty (codes "J")) }
 {}
 
 /// `sim --session MKT` is accepted, and asks for two receivers of the session `MKT`. The windows are 1,024 messages,

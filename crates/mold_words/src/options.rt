@@ -98,8 +98,8 @@ pub(crate) fn number_in(
     }
 }
 
-// Returns the value of the option, if it has one.
-fn text_in<'a>(options: &ArgMatches<'a>, name: &str) -> Option<&'a str>
+/// Returns the value of the option, if it has one.
+pub(crate) fn text_in<'a>(options: &ArgMatches<'a>, name: &str) -> Option<&'a str>
     ensures { option_map (λ text. text.now) result
         ≡ first_of name.now (rows_of (found_of options.now)) }
 {

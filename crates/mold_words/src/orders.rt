@@ -13,8 +13,9 @@ use crate::loop_order::LoopOrder;
 use crate::no_order::NoOrder;
 use crate::options::{
     address_in, burst_in, check_addresses, flag_in, input_in, limit_in, limits_in, live_in,
-    number_in, report_in, required_in, session_in, string_in, turns_in, window_in,
+    number_in, report_in, required_in, session_in, string_in, text_in, turns_in, window_in,
 };
+use crate::pack_journal_order::PackJournalOrder;
 use crate::pack_order::PackOrder;
 use crate::publish_order::PublishOrder;
 use crate::serve_order::ServeOrder;
@@ -53,7 +54,7 @@ fn order_at(alloc: Global, name: &str, options: &ArgMatches<'_>) -> Result<Order
 {
     match name {
         "show" => Ok(show_order(options)),
-        "pack" => pack_order(options),
+        "pack" => pack_order(alloc, options),
         "sim" => sim_order(options),
         "check" => check_order(alloc, options),
         "publish" => publish_order(alloc, options),
@@ -76,7 +77,7 @@ fn show_order(options: &ArgMatches<'_>) -> Order
 }
 
 #[tactic(auto, unfolding(crate::specs::Orders::pack_of))]
-fn pack_order(options: &ArgMatches<'_>) -> Result<Order, NoOrder>
+fn pack_order(alloc: Global, options: &ArgMatches<'_>) -> Result<Order, NoOrder>
     ensures { MatchResult result
         (λ order. pack_of (rows_of (found_of options.now)) ≡ Some (view order))
         (LacksOrder (pack_of (rows_of (found_of options.now)))) }
@@ -84,11 +85,18 @@ fn pack_order(options: &ArgMatches<'_>) -> Result<Order, NoOrder>
     let session = session_in(options, "session")?;
     let limit = limit_in(options, "limit")?;
     let input = input_in(options)?;
-    Ok(Order::Pack(PackOrder {
+    let pack = PackOrder {
         session,
         limit,
         input,
-    }))
+    };
+    match text_in(options, "journal") {
+        None => Ok(Order::Pack(pack)),
+        Some(journal) => Ok(Order::PackJournal(PackJournalOrder {
+            pack,
+            journal: String::from_str(alloc, journal)?,
+        })),
+    }
 }
 
 #[tactic(auto, unfolding(crate::specs::Orders::upgrade_of))]

@@ -130,7 +130,17 @@ pub static COMMANDS: [CommandRow; 10] = [
     CommandRow {
         name: "pack",
         about: "Pack messages from standard input and print the packets",
-        options: &[SESSION, LIMIT, BLOCKS, END_AT_EMPTY],
+        options: &[
+            SESSION,
+            LIMIT,
+            OptionRow {
+                name: "journal",
+                kind: Kind::Optional,
+                help: "The file to save a journal in instead of printing packets",
+            },
+            BLOCKS,
+            END_AT_EMPTY,
+        ],
         example: "Example:\n  printf '4142\\n4344\\n' | mold pack --session SESSION001",
     },
     CommandRow {

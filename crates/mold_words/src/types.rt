@@ -3,13 +3,14 @@
 use crate::dump_order::DumpOrder;
 use crate::listen_order::ListenOrder;
 use crate::loop_order::LoopOrder;
+use crate::pack_journal_order::PackJournalOrder;
 use crate::pack_order::PackOrder;
 use crate::publish_order::PublishOrder;
 use crate::serve_order::ServeOrder;
 use crate::sim_order::SimOrder;
 use crate::upgrade_order::UpgradeOrder;
 
-/// The parsed command line. There is one variant for each command, and two for `check`.
+/// The parsed command line. There is one variant for each command, and two for `check` and for `pack`.
 #[derive(Debug, PartialEq, Eq, Drop)]
 pub enum Order {
     /// Prints the packets on standard input, each given as a line of hexadecimal digits.
@@ -19,6 +20,8 @@ pub enum Order {
     },
     /// Prints the packets of a session as lines of hexadecimal digits. Its messages are read from standard input.
     Pack(PackOrder),
+    /// Saves the same messages as a journal in a file, and prints no packets.
+    PackJournal(PackJournalOrder),
     /// Runs a script of events from standard input, and prints the result of each event.
     Sim(SimOrder),
     /// Checks whether the datagrams in a folder are those of one complete session.

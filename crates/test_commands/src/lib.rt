@@ -16,6 +16,8 @@ mod pack;
 #[cfg(test)]
 mod pack_blocks;
 #[cfg(test)]
+mod pack_journal;
+#[cfg(test)]
 mod running;
 #[cfg(test)]
 mod show;

@@ -45,6 +45,7 @@ Usage: mold pack [OPTIONS] --session <NAME>
 Options:
       --session <NAME>  The session's name, 1 to 10 characters from space to ~
       --limit <BYTES>   The maximum size of a packet in bytes, 64 to 65507 [default: 1400]
+      --journal <FILE>  The file to save a journal in instead of printing packets
       --blocks          Read message blocks (BinaryFILE). A block is the length of a message in two
                         bytes, most significant first, and the message
       --end-at-empty    End the input of --blocks before its first empty block, which must exist

@@ -200,6 +200,20 @@ fn expect_order(rt: &impl Abort, order: &Order, wanted: &Values<'_>, line: &str)
             let numbers = [order.limit as u64, number_of(order.input)];
             expect_small(rt, "pack", &order.session, &numbers, &[], wanted, line);
         }
+        Order::PackJournal(order) => {
+            let numbers = [order.pack.limit as u64, number_of(order.pack.input)];
+            let texts = [order.journal.as_str()];
+            let session = &order.pack.session;
+            expect_small(
+                rt,
+                "pack --journal",
+                session,
+                &numbers,
+                &texts,
+                wanted,
+                line,
+            );
+        }
         Order::Sim(order) => expect_sim(rt, order, wanted, line),
         Order::Check { folder } => {
             expect_small(rt, "check", b"", &[], &[folder.as_str()], wanted, line);

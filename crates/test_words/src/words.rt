@@ -51,7 +51,7 @@ fn arguments_of_show(rt: HostRuntime) {
     expect_orders(&rt, SHOW);
 }
 
-// The limit, and the format of the input.
+// The limit, the format of the input, and the journal if one is saved.
 const PACK: &[OrderLine] = &[
     (
         "pack --session MKT",
@@ -101,6 +101,26 @@ const PACK: &[OrderLine] = &[
             numbers: &[1400, 2],
             addresses: &[],
             texts: &[],
+        },
+    ),
+    (
+        "pack --session MKT --journal day.journal",
+        Values {
+            command: "pack --journal",
+            session: b"MKT       ",
+            numbers: &[1400, 0],
+            addresses: &[],
+            texts: &["day.journal"],
+        },
+    ),
+    (
+        "pack --journal=- --blocks --limit 64 --end-at-empty --session SESSION001",
+        Values {
+            command: "pack --journal",
+            session: b"SESSION001",
+            numbers: &[64, 2],
+            addresses: &[],
+            texts: &["-"],
         },
     ),
 ];

@@ -15,4 +15,7 @@ returns c = record {
   blocks = (refl, refl);
   to_empty = (refl, refl);
   no_blocks = refl;
+  journal = (refl, refl);
+  journal_of_blocks = (refl, refl);
+  journal_to_empty = (refl, refl);
 }
