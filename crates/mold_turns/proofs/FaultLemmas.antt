@@ -55,6 +55,14 @@ two_faults sink_old sink_new errors_old errors_new Read counted none = counted
 two_faults sink_old sink_new errors_old errors_new Write counted none = inl (counted, none)
 two_faults sink_old sink_new errors_old errors_new Memory counted none = (counted, none)
 
+-- the same, where the counts before are those of an earlier call
+pub two_faults_after : (sink_old sink_mid sink_new errors_old errors_new : ℕ) (fault : CommandFault) →
+    sink_mid ≡ sink_old → CountsSinkFault sink_mid sink_new fault → errors_new ≡ errors_old →
+    CountsSinksFault sink_old sink_new errors_old errors_new fault
+two_faults_after sink_old sink_mid sink_new errors_old errors_new fault same counted none =
+    two_faults sink_old sink_new errors_old errors_new fault
+    (subst (λ (n : ℕ). CountsSinkFault n sink_new fault) same counted) none
+
 -- a write to the first sink failed, and none failed before
 pub two_write : {T : Type 0} (result : Result T CommandFault) (cause : CommandFault)
     (sink_old sink_mid sink_new errors_old errors_new : ℕ) → IsErrAnd result (λ fault. fault ≡ cause) →

@@ -62,6 +62,31 @@ said_before outgoing =
     outgoing_is outgoing (with_fronts [] outgoing.side (said_out outgoing)) refl (sym (append-nil outgoing.side)) refl
     refl
 
+-- the text for standard error was written, and then a prefix of the text
+pub said_front : (old mid new : OutgoingState) (front : List ℕ) → mid ≡ said_out old → mid.text ≡ front ++ new.text →
+    new.failures ≡ mid.failures → new.side ≡ mid.side → new.format ≡ mid.format →
+    old ≡ with_front front (with_fronts [] old.side new)
+said_front old mid new front is parts failures side format =
+    said_before old
+    ∙ ap (with_fronts [] old.side) (sym is ∙ written_front mid new front parts failures side format)
+
+-- an empty note changes nothing
+pub note_none : (outgoing : OutgoingState) → outgoing ≡ with_note [] outgoing
+note_none outgoing =
+    outgoing_is outgoing (with_note [] outgoing)
+    (sym (append-nil outgoing.text) ∙ ap (λ (t : List ℕ). outgoing.text ++ t) (texts outgoing.format))
+    (sym (append-nil outgoing.side) ∙ ap (λ (t : List ℕ). outgoing.side ++ t) (sides outgoing.format)) refl refl
+  where
+    texts : (format : MessageFormat) → [] ≡ note_text format []
+    texts Lines = refl
+    texts Blocks = refl
+    texts BlocksToEmpty = refl
+
+    sides : (format : MessageFormat) → [] ≡ note_side format []
+    sides Lines = refl
+    sides Blocks = refl
+    sides BlocksToEmpty = refl
+
 -- two notes are one
 pub note_twice : (one two : List ℕ) (outgoing : OutgoingState) →
     with_note two (with_note one outgoing) ≡ with_note (one ++ two) outgoing
