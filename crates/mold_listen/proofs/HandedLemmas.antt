@@ -8,7 +8,9 @@ use Rattle.mold_receiver.specs.Batch.{first_in, after_in}
 use Rattle.mold_receiver.specs.Store.{Message}
 use Rattle.mold_digits.specs.Writing.{IsWritten}
 use Rattle.mold_input.specs.declared.message_format.MessageFormat.{MessageFormat}
+use Rattle.mold_input.specs.declared.message_format.MessageFormat.TheVariants.{Blocks, BlocksToEmpty}
 use Rattle.mold_listen.specs.Text.{handed_text, message_text}
+use Rattle.mold_wire.specs.Block.{block}
 
 -- bytes at `at` or after changed, so the former text is still a prefix
 pub kept_below : (old now later rest more : List ℕ) (at : ℕ) → length old ≤ at → at ≤ length now →
@@ -72,6 +74,12 @@ pub handed_init : (format : MessageFormat) (first : ℕ) (ms : List Message) (ol
     old ++ handed_text format first (drop (first - first) ms) ≡ old ++ handed_text format first ms
 handed_init format first ms old =
     ap (λ (k : ℕ). old ++ handed_text format first (drop k ms)) (let e : first - first ≡ 0 = omega arith in e)
+
+-- a mark of the end changes no block of a message
+pub same_blocks : (number : ℕ) (ms : List Message) → handed_text Blocks number ms ≡ handed_text BlocksToEmpty number ms
+unfolding handed_text
+same_blocks number [] = refl
+same_blocks number (message ∷ ms) = ap (λ (text : List ℕ). block message ++ text) (same_blocks (number + 1) ms)
 
 -- the end of written text is within its buffer
 pub written_within : (old new : List ℕ) (at end : ℕ) (text : List ℕ) → at ≤ length old →

@@ -1,7 +1,7 @@
 //! The text that is printed for delivered messages: lines or blocks.
 
 ghost use Rattle.std.specs.Prelude.{◌≡◌, ◌++◌, ◌+◌, ◌≤◌, length, take, OnErr, OnOk};
-ghost use Rattle.mold_input.specs.declared.message_format.MessageFormat.TheVariants.{Blocks, Lines};
+ghost use Rattle.mold_input.specs.declared.message_format.MessageFormat.TheVariants.{Blocks, BlocksToEmpty, Lines};
 ghost use Rattle.mold_listen.specs.Text.{handed_text};
 ghost use Rattle.mold_wire.specs.Block.{be16, block};
 
@@ -73,6 +73,8 @@ fn push_block(out: &mut Vec<u8>, message: &[u8]) -> Result<(), AllocError>
 pub(crate) fn push_blocks(out: &mut Vec<u8>, batch: &Batch) -> Result<(), AllocError>
     ensures text { OnOk result
         (out.new.items ≡ out.old.items ++ handed_text Blocks batch.now.first batch.now.messages) }
+    ensures marked { OnOk result
+        (out.new.items ≡ out.old.items ++ handed_text BlocksToEmpty batch.now.first batch.now.messages) }
     ensures kept { OnErr result (take (length out.old.items) out.new.items ≡ out.old.items) }
 {
     let (Some(first), Some(after)) = (batch.first(), batch.after()) else {

@@ -23,7 +23,8 @@ fn print_handed(outgoing: &mut Outgoing, batch: &Batch) -> Result<(), AllocError
 {
     match outgoing.format() {
         MessageFormat::Lines => push_lines(&mut outgoing.text, batch),
-        MessageFormat::Blocks | MessageFormat::BlocksToEmpty => push_blocks(&mut outgoing.text, batch),
+        MessageFormat::Blocks => push_blocks(&mut outgoing.text, batch),
+        MessageFormat::BlocksToEmpty => push_blocks(&mut outgoing.text, batch),
     }
 }
 

@@ -13,7 +13,7 @@ use crate::loop_order::LoopOrder;
 use crate::no_order::NoOrder;
 use crate::options::{
     address_in, burst_in, check_addresses, flag_in, input_in, limit_in, limits_in, live_in,
-    number_in, report_in, required_in, session_in, string_in, turns_in, window_in,
+    number_in, output_in, report_in, required_in, session_in, string_in, turns_in, window_in,
 };
 use crate::pack_order::PackOrder;
 use crate::publish_order::PublishOrder;
@@ -232,6 +232,7 @@ fn listen_order(options: &ArgMatches<'_>) -> Result<Order, NoOrder>
         turns,
         live: live_in(options),
         report: report_in(options),
+        output: output_in(options),
     }))
 }
 

@@ -36,8 +36,8 @@ fn arguments_of(alloc: Global, line: &str) -> Result<Vec<String>, AllocError> {
 }
 
 // The number of a format: 0 for lines, 1 for blocks, 2 for blocks up to the first empty one.
-fn number_of(input: MessageFormat) -> u64 {
-    match input {
+fn number_of(format: MessageFormat) -> u64 {
+    match format {
         MessageFormat::Lines => 0,
         MessageFormat::Blocks => 1,
         MessageFormat::BlocksToEmpty => 2,
@@ -139,6 +139,7 @@ fn expect_listen(rt: &impl Abort, order: &ListenOrder, wanted: &Values<'_>, line
         u64::from(order.turns),
         u64::from(order.live),
         u64::from(order.report),
+        number_of(order.output),
     ];
     let found = Values {
         command: "listen",

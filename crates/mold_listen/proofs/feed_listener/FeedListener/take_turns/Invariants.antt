@@ -7,7 +7,7 @@ use Rattle.mold_listen.proofs.feed_listener.FeedListener.take_turns.Given as goa
 -- some turns were made, and the run continues from here; the text is bounded, and no sink failed
 abbrev pub invariant-loop-turn : goal.invariant-loop-turn
 invariant-loop-turn g l = record {
-  going : g.D.Datagrams.modeled ≡ true → GoingBeside (listening l.options.0 l.options.1.0) put_before put_beside
+  going : g.D.Datagrams.modeled ≡ true → GoingBeside (listening l.options.server l.options.burst) put_before put_beside
       (state g.D.Datagrams.port l.fn.self)
       (g.K.Sink.held l.fn.sink) (g.K.Sink.held l.sink) (g.E.Sink.held l.fn.errors) (g.E.Sink.held l.errors) l._turn
       (state g.D.Datagrams.port l.self);

@@ -50,6 +50,7 @@ pub returns-in_default-clause-sinks : goal.returns-in_default-clause-sinks
 returns-in_default-clause-sinks g c = two_faults _ _ _ _ c.end_with.result (ends_sink c.end_with.ensures.ends) refl
 
 pub returns-in_err-send_side-clause-run : goal.returns-in_err-send_side-clause-run
+unfolding turn_cut
 returns-in_err-send_side-clause-run g c = λ t.
     let turned = c.in-Ok.ensures.turned t in
     let made = state g.D.Datagrams.port c.take_turn.new.self in
@@ -82,6 +83,7 @@ returns-in_err-send_side-clause-kept g c =
     c.in_err-send_side.ensures.fault
 
 pub returns-in_err-send_large-clause-run : goal.returns-in_err-send_large-clause-run
+unfolding turn_cut
 returns-in_err-send_large-clause-run g c = λ t.
     let turned = c.in-Ok.ensures.turned t in
     let made = state g.D.Datagrams.port c.take_turn.new.self in
@@ -111,6 +113,7 @@ returns-in_err-send_large-clause-sinks g c =
     c.in_ok-send_side.ensures.sink
 
 pub returns-clause-run : goal.returns-clause-run
+unfolding turn_sent
 returns-clause-run g c = λ t.
     let turned = c.in-Ok.ensures.turned t in
     let made = state g.D.Datagrams.port c.take_turn.new.self in
