@@ -36,7 +36,11 @@ fn print_refused(outgoing: &mut Outgoing, why: Refusal) -> Result<(), AllocError
     let words = [Word::Text(b"refused")];
     match outgoing.format() {
         MessageFormat::Lines => push_refusal(&mut outgoing.text, &words, why),
-        MessageFormat::Blocks | MessageFormat::BlocksToEmpty => push_refusal(&mut outgoing.side, &words, why),
+        MessageFormat::Blocks | MessageFormat::BlocksToEmpty => push_refusal(
+            &mut outgoing.side,
+            &words,
+            why,
+        ),
     }
 }
 

@@ -3,7 +3,7 @@ use Rattle.std.proofs.Common.{arith, ◌≡◌, ◌∙◌, ℕ, Bool, List, [], 
 use Rattle.mold_input.specs.declared.message_format.MessageFormat.{MessageFormat}
 use Rattle.mold_input.specs.declared.message_format.MessageFormat.TheVariants.{Lines, Blocks, BlocksToEmpty}
 use Rattle.mold_turns.specs.Outgoing.{IsBounded, OutgoingState, note_side, note_text, said_out, with_both, with_front}
-use Rattle.mold_turns.specs.Outgoing.{with_fronts, with_more, with_note, written_out}
+use Rattle.mold_turns.specs.Outgoing.{with_fronts, with_more, with_note}
 
 -- two states with the same parts are the same
 pub outgoing_is : (one two : OutgoingState) → one.text ≡ two.text → one.side ≡ two.side →
@@ -108,8 +108,3 @@ note_twice one two outgoing =
     sides Lines one two = refl
     sides Blocks one two = refl
     sides BlocksToEmpty one two = refl
-
--- if no text is left and nothing failed meanwhile, all text was written
-pub all_written : (old new : OutgoingState) → new.text ≡ [] → new.side ≡ [] → new.failures ≡ old.failures →
-    new.format ≡ old.format → new ≡ written_out old
-all_written old new none quiet failures format = outgoing_is new (written_out old) none quiet failures format

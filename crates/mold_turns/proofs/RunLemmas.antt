@@ -568,15 +568,15 @@ module _ {C S M : Type 0} {loop : Loop C S M} {behind beside : List ℕ → S �
       loop.over after ≡ false → GoingBeside loop behind beside start old new errors_old errors_new (count + 1) after
   beside_turned {T} {E} {value} {start} {now} {old} {mid} {new} {errors_old} {errors_mid} {errors_new} {count} after
       going turned on = record {
-    said = going.said ++ turned.said;
-    appended =
-        Appends-trans errors_old errors_mid errors_new going.said turned.said going.appended turned.appended;
-    going =
-        subst (λ (s : S). Going loop behind start old new (count + 1) s) (apart.twice going.said turned.said after)
-        (going_turned is (beside going.said (beside turned.said after)) going.going
-        (turn_beside {T = T} {E = E} (Ok value) going.said turned.turn)
-        (apart.over going.said (beside turned.said after) ∙ apart.over turned.said after ∙ on));
-  }
+        said = going.said ++ turned.said;
+        appended =
+            Appends-trans errors_old errors_mid errors_new going.said turned.said going.appended turned.appended;
+        going =
+            subst (λ (s : S). Going loop behind start old new (count + 1) s) (apart.twice going.said turned.said after)
+            (going_turned is (beside going.said (beside turned.said after)) going.going
+            (turn_beside {T = T} {E = E} (Ok value) going.said turned.turn)
+            (apart.over going.said (beside turned.said after) ∙ apart.over turned.said after ∙ on));
+      }
 
   -- after a success, what was written to standard error is a prefix of the run's text there
   said_begins : {T E : Type 0} {value : T} {start now : S} {old new : Option (List ℕ)} {turns : ℕ} (said : List ℕ)

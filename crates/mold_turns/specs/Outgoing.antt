@@ -86,10 +86,6 @@ said_out outgoing = record {
   format = outgoing.format;
 }
 
--- The state after all of the text was written.
-abbrev pub written_out : OutgoingState → OutgoingState
-written_out outgoing = record { text = []; side = []; failures = outgoing.failures; format = outgoing.format }
-
 -- The state after one send or receive failed.
 abbrev pub failed_once : OutgoingState → OutgoingState
 failed_once outgoing = record {

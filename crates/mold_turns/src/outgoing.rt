@@ -38,10 +38,10 @@ impl Model for Outgoing {
     ghost Value = { OutgoingState };
 
     ghost view = { λ d. record {
-        text = d.text.items;
-        side = d.side.items;
-        failures = d.failures;
-        format = d.format;
+      text = d.text.items;
+      side = d.side.items;
+      failures = d.failures;
+      format = d.format;
     } };
 }
 
@@ -120,7 +120,10 @@ impl Outgoing {
     {
         match self.format {
             MessageFormat::Lines => push_line(&mut self.text, words),
-            MessageFormat::Blocks | MessageFormat::BlocksToEmpty => push_line(&mut self.side, words),
+            MessageFormat::Blocks | MessageFormat::BlocksToEmpty => push_line(
+                &mut self.side,
+                words,
+            ),
         }
     }
 
