@@ -1,12 +1,12 @@
 -- What a listener that prints blocks has written at its end: the blocks of the published messages.
-use Rattle.std.proofs.Common.{◌≡◌, ℕ, ◌+◌, ◌≤◌, Bool, true, false, List, [], ◌∷◌, ◌++◌, length, Option, Result, ap, append-nil}
-use Rattle.std.proofs.Common.{refl, subst, sym, ◌∙◌, arith}
-use Rattle.std.specs.Prelude.{IfOk, if◌then◌else◌}
+use Rattle.std.proofs.Common.{◌≡◌, ℕ, ◌+◌, Bool, true, false, List, [], ◌∷◌, ◌++◌, Option, Result, ap, append-nil}
+use Rattle.std.proofs.Common.{refl, subst, sym, ◌∙◌}
+use Rattle.std.specs.Prelude.{IfOk}
 use Rattle.std.specs.Io.KnownBytes.{Appends}
 use Rattle.std.proofs.lemmas.Result.{IfOk-weaker}
 use Rattle.mold_devices.specs.Devices.{AppendsPrefix}
 use Rattle.mold_feed.specs.Received.{Handed, HasFinished, HasListened, PrintedLine, PrintsBlocks, Refuses, messages_text}
-use Rattle.mold_feed.specs.Received.{printed_lines_text}
+use Rattle.mold_feed.specs.Received.{closing_status, printed_lines_text}
 use Rattle.mold_feed.proofs.LinesTextLemmas.{messages_said}
 use Rattle.mold_input.specs.declared.message_format.MessageFormat.{MessageFormat}
 use Rattle.mold_input.specs.declared.message_format.MessageFormat.TheVariants.{Blocks}
@@ -33,12 +33,12 @@ blocks_alone (Handed number message ∷ printed_lines) =
     ap (λ (text : List ℕ). block message ++ text) (blocks_alone printed_lines)
 blocks_alone (Refuses bytes why ∷ printed_lines) = blocks_alone printed_lines
 
-finishes : (over : Bool) → (if over then 0 else 1) ≡ 0 → over ≡ true
+finishes : (over : Bool) → closing_status over ≡ 0 → over ≡ true
 finishes true is = refl
 finishes false is = let no : ⊥ = cc in absurd no
 
 -- a listener that prints blocks has written the blocks of the published messages
-pub blocks_come : {P E : Type 0} {reporting : Bool} {first : ℕ} {end : ListenerState P} {result : Result ℕ E}
+pub blocks_come : {P E : Type 0} (reporting : Bool) {first : ℕ} (end : ListenerState P) {result : Result ℕ E}
     {old new : Option (List ℕ)} (journal : JournalState) (Came : List ℕ → Type 0) →
     HasListened Blocks journal Came first [] end.progress →
     (is_finished end.progress ≡ true → HasFinished journal end.progress) →
@@ -46,7 +46,7 @@ pub blocks_come : {P E : Type 0} {reporting : Bool} {first : ℕ} {end : Listene
     Appends old new (end.progress.outgoing.text ++ listened_lines reporting end) × (answer ≡ status end)) →
     AppendsPrefix old new (end.progress.outgoing.text ++ listened_lines reporting end) →
     PrintsBlocks journal.messages first result old new
-blocks_come {P} {E} {reporting} {first} {end} {result} {old} {new} journal Came listened finished whole front =
+blocks_come {P} {E} reporting {first} end {result} {old} {new} journal Came listened finished whole front =
     let next : ℕ = end.progress.arbitration.view.next in
     let messages : List Message = between journal.messages first next in
     let text : end.progress.outgoing.text ++ listened_lines reporting end ≡ blocks messages =

@@ -203,7 +203,7 @@ module _ {P : Type 0} (laws : FeedLaws P) (limit : ℕ) (journal : JournalState)
       session_prints_blocks in_blocks fed =
           let hears = hears_weaker (IsFed P journal limit lines) (IsHarmless (left_by journal lines)) fed_harmless start
           fed in
-          blocks_come (left_by journal lines) (CanReceive start)
+          blocks_come reporting ending (left_by journal lines) (CanReceive start)
           (subst (λ (f : MessageFormat). HasListened f (left_by journal lines) (CanReceive start) first [] ending.progress)
           in_blocks (has_received hears)) (has_finished hears) ran.whole ran.front
 
