@@ -1,3 +1,4 @@
+pub mod BlocksPrintedLemmas
 pub mod PrintedLineLemmas
 pub mod TakingLemmas
 pub mod ReceivedTurnLemmas

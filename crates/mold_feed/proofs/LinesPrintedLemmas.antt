@@ -1,5 +1,5 @@
 -- What a listener has printed at its end: the published lines, and then the last line for its status.
-use Rattle.std.proofs.Common.{◌≡◌, ℕ, ◌+◌, ◌≤◌, Bool, true, List, [], ◌++◌, length, Option, Result, ap, subst}
+use Rattle.std.proofs.Common.{◌≡◌, ℕ, ◌+◌, ◌≤◌, Bool, true, List, [], ◌++◌, length, Option, Result, ap, subst, ◌∙◌}
 use Rattle.std.proofs.Common.{arith}
 use Rattle.std.specs.Prelude.{IfOk}
 use Rattle.std.specs.Io.KnownBytes.{Appends}
@@ -8,7 +8,10 @@ use Rattle.std.proofs.lemmas.Result.{IfOk-weaker}
 use Rattle.mold_devices.specs.Devices.{AppendsPrefix}
 use Rattle.mold_feed.specs.Received.{HasFinished, HasListened, PrintsAmong, PrintsLines, RefusesForeign, PrintedLine, lines_text}
 use Rattle.mold_feed.specs.Received.{closing_lines, closing_status, messages_text, printed_lines_text}
-use Rattle.mold_listen.specs.Listening.{Progress, ListenerState, is_finished, listened_lines, status}
+use Rattle.mold_input.specs.declared.message_format.MessageFormat.{MessageFormat}
+use Rattle.mold_input.specs.declared.message_format.MessageFormat.TheVariants.{Lines}
+use Rattle.mold_turns.specs.Outgoing.{note_text}
+use Rattle.mold_listen.specs.Listening.{Progress, ListenerState, is_finished, last_note, listened_lines, status}
 use Rattle.mold_feed.proofs.LinesTextLemmas.{AreSpelled, lines_said, spelled_length}
 use Rattle.mold_session.specs.Answer.{between}
 use Rattle.mold_session.specs.Journal.{JournalState}
@@ -23,6 +26,8 @@ end_lines reporting e =
 -- a listener that started at the line `first` has ended: its text and its last lines are written
 pub record HasCome {P E : Type 0} (reporting : Bool) (lines : List (List ℕ)) (first : ℕ) (end : ListenerState P)
     (result : Result ℕ E) (old new : Option (List ℕ)) : Type 0 where
+  -- it printed lines
+  pub plain : end.progress.outgoing.format ≡ Lines
   pub whole : IfOk result (λ answer.
       Appends old new (end.progress.outgoing.text ++ listened_lines reporting end) × (answer ≡ status end))
   pub front : AppendsPrefix old new (end.progress.outgoing.text ++ listened_lines reporting end)
@@ -35,13 +40,14 @@ pub record HasCome {P E : Type 0} (reporting : Bool) (lines : List (List ℕ)) (
 -- a listener has ended in this way if the messages of the session are those of the lines
 pub has_come : {P E : Type 0} {reporting : Bool} {lines : List (List ℕ)} {first : ℕ} {end : ListenerState P} {result : Result ℕ E}
     {old new : Option (List ℕ)} (journal : JournalState) (Came : List ℕ → Type 0) → AreSpelled lines journal.messages →
-    HasListened journal Came first [] end.progress → (is_finished end.progress ≡ true → HasFinished journal end.progress) →
+    HasListened Lines journal Came first [] end.progress → (is_finished end.progress ≡ true → HasFinished journal end.progress) →
     IfOk result (λ answer.
     Appends old new (end.progress.outgoing.text ++ listened_lines reporting end) × (answer ≡ status end)) →
     AppendsPrefix old new (end.progress.outgoing.text ++ listened_lines reporting end) → HasCome reporting lines first end result old new
 has_come {P} {E} {reporting} {lines} {first} {end} {result} {old} {new} journal Came spelled listened finished whole front =
     let many : length lines ≡ length journal.messages = spelled_length lines journal.messages spelled in
     record {
+      plain = listened.kept;
       whole = whole;
       front = front;
       from = listened.from;
@@ -65,6 +71,7 @@ written_of : {P E : Type 0} {reporting : Bool} {lines : List (List ℕ)} {first 
 written_of {P} {E} {reporting} {lines} {first} {end} {result} {old} {new} come text is =
     let same : end.progress.outgoing.text ++ listened_lines reporting end ≡ text ++ end_lines reporting end.progress =
     ap (λ (t : List ℕ). t ++ listened_lines reporting end) is
+    ∙ ap (λ (f : MessageFormat). text ++ note_text f (last_note reporting end.progress)) come.plain
     in (
       IfOk-weaker result _ _
           (λ answer written. (written.1, subst (λ (t : List ℕ). Appends old new t) same written.0)) come.whole,
@@ -96,10 +103,10 @@ prints_lines {P} {E} {reporting} {lines} {first} {end} {result} {old} {new} come
 pub prints_among : {P E : Type 0} {reporting : Bool} {lines : List (List ℕ)} {first : ℕ} {end : ListenerState P} {result : Result ℕ E}
     {old new : Option (List ℕ)} (session : Session) (Came : List ℕ → Type 0) (printed_lines : List PrintedLine) →
     HasCome reporting lines first end result old new →
-    AllByRecursion (RefusesForeign Came session) printed_lines → messages_text printed_lines ≡ printed lines first end →
-    end.progress.outgoing.text ≡ printed_lines_text printed_lines → PrintsAmong reporting session Came lines first result old new
+    AllByRecursion (RefusesForeign Came session) printed_lines → messages_text Lines printed_lines ≡ printed lines first end →
+    end.progress.outgoing.text ≡ printed_lines_text Lines printed_lines → PrintsAmong reporting session Came lines first result old new
 prints_among {P} {E} {reporting} {lines} {first} {end} {result} {old} {new} session Came printed_lines come refused messages is =
-    let written = written_of come (printed_lines_text printed_lines) is in
+    let written = written_of come (printed_lines_text Lines printed_lines) is in
     record {
       next = end.progress.arbitration.view.next;
       finished = is_finished end.progress;
@@ -121,7 +128,7 @@ prints_among {P} {E} {reporting} {lines} {first} {end} {result} {old} {new} sess
 -- what a listener received of the session is lines with refusals between them
 pub listened_among : {P E : Type 0} {reporting : Bool} {lines : List (List ℕ)} {first : ℕ} {end : ListenerState P} {result : Result ℕ E}
     {old new : Option (List ℕ)} (journal : JournalState) (Came : List ℕ → Type 0) → AreSpelled lines journal.messages →
-    HasListened journal Came first [] end.progress → HasCome reporting lines first end result old new →
+    HasListened Lines journal Came first [] end.progress → HasCome reporting lines first end result old new →
     PrintsAmong reporting journal.session Came lines first result old new
 listened_among {P} {E} {reporting} {lines} {first} {end} journal Came spelled listened come =
     prints_among journal.session Came listened.printed_lines come listened.refused

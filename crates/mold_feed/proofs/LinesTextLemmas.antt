@@ -11,7 +11,9 @@ use Rattle.hex.specs.Hex.{decode_of, decode_pairs, digit_or_error, encode_lower,
 use Rattle.hex.specs.Hex.{pair_value, value_at, ◌>>=◌}
 use Rattle.hex.specs.declared.error.FromHexError.{FromHexError}
 use Rattle.mold_feed.specs.Received.{PrintedLine, Handed, Refuses, handed_of, lines_text, lower_digit, messages_text, printed_lines_text, shown}
-use Rattle.mold_listen.specs.Text.{handed_line, handed_text}
+use Rattle.mold_input.specs.declared.message_format.MessageFormat.{MessageFormat}
+use Rattle.mold_input.specs.declared.message_format.MessageFormat.TheVariants.{Lines}
+use Rattle.mold_listen.specs.Text.{handed_text, message_text}
 use Rattle.mold_receiver.specs.Store.{Message, numbered}
 use Rattle.mold_rule.specs.declared.refusal.Refusal.{Refusal}
 use Rattle.mold_session.specs.Answer.{between}
@@ -119,7 +121,7 @@ spelled_length lines messages spelled =
 
 -- the text of messages is the text of the lines that encode them
 pub spelled_text : (number : ℕ) (lines : List (List ℕ)) (messages : List Message) → AreSpelled lines messages →
-    handed_text number messages ≡ lines_text number lines
+    handed_text Lines number messages ≡ lines_text number lines
 unfolding handed_text lines_text
 spelled_text number [] [] spelled = refl
 spelled_text number [] (message ∷ messages) spelled = let no : ⊥ = cc in absurd no
@@ -127,7 +129,7 @@ spelled_text number (line ∷ lines) [] spelled = let no : ⊥ = cc in absurd no
 spelled_text number (line ∷ lines) (message ∷ messages) spelled =
     let first : decode_of line ≡ Ok message = cc in
     let behind : AreSpelled lines messages = cc in
-    ap (λ (digits : List ℕ). line_of (decimal number ∷ digits ∷ []) ++ handed_text (number + 1) messages)
+    ap (λ (digits : List ℕ). line_of (decimal number ∷ digits ∷ []) ++ handed_text Lines (number + 1) messages)
     (digits_shown line message first)
     ∙ ap (λ (text : List ℕ). line_of (decimal number ∷ shown line ∷ []) ++ text)
     (spelled_text (number + 1) lines messages behind)
@@ -146,7 +148,7 @@ spelled_between lines messages first next spelled =
 
 -- the text of the messages between two numbers is the text of the lines between them
 pub text_between : (lines : List (List ℕ)) (messages : List Message) (first next : ℕ) → AreSpelled lines messages →
-    handed_text first (between messages first next) ≡ lines_text first (between lines first next)
+    handed_text Lines first (between messages first next) ≡ lines_text first (between lines first next)
 text_between lines messages first next spelled =
     spelled_text first (between lines first next) (between messages first next)
     (spelled_between lines messages first next spelled)
@@ -157,35 +159,41 @@ same_parts : {X : Type 0} (x y : X) (xs ys : List X) → x ∷ xs ≡ y ∷ ys �
 same_parts x y xs ys same = (cc, cc)
 
 -- the messages among printed lines are printed one after the other
-pub messages_said : (printed_lines : List PrintedLine) (number : ℕ) (messages : List Message) →
-    handed_of printed_lines ≡ numbered number messages → messages_text printed_lines ≡ handed_text number messages
+pub messages_said : (format : MessageFormat) (printed_lines : List PrintedLine) (number : ℕ) (messages : List Message) →
+    handed_of printed_lines ≡ numbered number messages →
+    messages_text format printed_lines ≡ handed_text format number messages
 unfolding handed_text
-messages_said [] number [] handed = refl
-messages_said [] number (message ∷ messages) handed = let no : ⊥ = cc in absurd no
-messages_said (Handed index said ∷ printed_lines) number [] handed = let no : ⊥ = cc in absurd no
-messages_said (Handed index said ∷ printed_lines) number (message ∷ messages) handed =
+messages_said format [] number [] handed = refl
+messages_said format [] number (message ∷ messages) handed = let no : ⊥ = cc in absurd no
+messages_said format (Handed index said ∷ printed_lines) number [] handed = let no : ⊥ = cc in absurd no
+messages_said format (Handed index said ∷ printed_lines) number (message ∷ messages) handed =
     let parts = same_parts (index, said) (number, message) (handed_of printed_lines) (numbered (suc number) messages) handed in
     let at : index ≡ number = ap (λ (pair : ℕ × Message). pair.0) parts.0 in
     let same : said ≡ message = ap (λ (pair : ℕ × Message). pair.1) parts.0 in
     let after : suc number ≡ number + 1 = omega arith in
-    ap (λ (n : ℕ). handed_line n said ++ messages_text printed_lines) at
-    ∙ ap (λ (m : Message). handed_line number m ++ messages_text printed_lines) same
-    ∙ ap (λ (text : List ℕ). handed_line number message ++ text)
-    (messages_said printed_lines (suc number) messages parts.1 ∙ ap (λ (n : ℕ). handed_text n messages) after)
-messages_said (Refuses bytes why ∷ printed_lines) number messages handed = messages_said printed_lines number messages handed
+    ap (λ (n : ℕ). message_text format n said ++ messages_text format printed_lines) at
+    ∙ ap (λ (m : Message). message_text format number m ++ messages_text format printed_lines) same
+    ∙ ap (λ (text : List ℕ). message_text format number message ++ text)
+    (messages_said format printed_lines (suc number) messages parts.1
+    ∙ ap (λ (n : ℕ). handed_text format n messages) after)
+messages_said format (Refuses bytes why ∷ printed_lines) number messages handed =
+    messages_said format printed_lines number messages handed
 
 -- printed lines without a refusal are lines of messages
-pub all_messages : (Q : PrintedLine → Type 0) → ((bytes : List ℕ) (why : Refusal) → Q (Refuses bytes why) → ⊥) →
-    (printed_lines : List PrintedLine) → AllByRecursion Q printed_lines → printed_lines_text printed_lines ≡ messages_text printed_lines
-all_messages Q none [] each = refl
-all_messages Q none (Handed number message ∷ printed_lines) each =
-    ap (λ (text : List ℕ). handed_line number message ++ text) (all_messages Q none printed_lines each.1)
-all_messages Q none (Refuses bytes why ∷ printed_lines) each = absurd (none bytes why each.0)
+pub all_messages : (format : MessageFormat) (Q : PrintedLine → Type 0) →
+    ((bytes : List ℕ) (why : Refusal) → Q (Refuses bytes why) → ⊥) →
+    (printed_lines : List PrintedLine) → AllByRecursion Q printed_lines →
+    printed_lines_text format printed_lines ≡ messages_text format printed_lines
+all_messages format Q none [] each = refl
+all_messages format Q none (Handed number message ∷ printed_lines) each =
+    ap (λ (text : List ℕ). message_text format number message ++ text)
+    (all_messages format Q none printed_lines each.1)
+all_messages format Q none (Refuses bytes why ∷ printed_lines) each = absurd (none bytes why each.0)
 
 -- the messages among a listener's printed lines are the lines
 pub lines_said : (lines : List (List ℕ)) (messages : List Message) (printed_lines : List PrintedLine) (first next : ℕ) →
     AreSpelled lines messages → handed_of printed_lines ≡ numbered first (between messages first next) →
-    messages_text printed_lines ≡ lines_text first (between lines first next)
+    messages_text Lines printed_lines ≡ lines_text first (between lines first next)
 lines_said lines messages printed_lines first next spelled handed =
-    messages_said printed_lines first (between messages first next) handed
+    messages_said Lines printed_lines first (between messages first next) handed
     ∙ text_between lines messages first next spelled

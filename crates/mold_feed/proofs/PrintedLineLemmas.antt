@@ -7,13 +7,14 @@ use Rattle.std.proofs.lemmas.List.{drop-drop, drop-take, get_or_default, get_or-
 use Rattle.std.proofs.lemmas.List.{same_lists, take-take}
 use Rattle.std.proofs.lemmas.List.Concat.{flat_map-append}
 use Rattle.std.proofs.lemmas.Option.{get_or_from_slice_get, slice_get-get_or, slice_get_within}
+use Rattle.mold_input.specs.declared.message_format.MessageFormat.{MessageFormat}
 use Rattle.mold_receiver.specs.Store.{Message, numbered}
 use Rattle.mold_session.specs.Answer.{between}
 use Rattle.mold_wire.specs.Truth.{published_at}
 use Rattle.mold_wire.specs.declared.session.Session.{Session}
 use Rattle.mold_wire.proofs.TruthLemmas.{message_at-from}
 use Rattle.mold_feed.specs.Received.{PrintedLine, Handed, Refuses, RefusesForeign, handed_of, printed_line, printed_lines_text}
-use Rattle.mold_listen.specs.Text.{handed_line, handed_text}
+use Rattle.mold_listen.specs.Text.{handed_text, message_text}
 
 -- ---- between two numbers
 
@@ -136,13 +137,14 @@ handed_of-handing number [] = refl
 handed_of-handing number (message ∷ messages) =
     ap (λ (l : List (ℕ × Message)). (number, message) ∷ l) (handed_of-handing (suc number) messages)
 
-pub text-handing : (number : ℕ) (messages : List Message) → printed_lines_text (handing number messages) ≡ handed_text number messages
+pub text-handing : (format : MessageFormat) (number : ℕ) (messages : List Message) →
+    printed_lines_text format (handing number messages) ≡ handed_text format number messages
 unfolding handing handed_text
-text-handing number [] = refl
-text-handing number (message ∷ messages) =
-    ap (λ (l : List ℕ). handed_line number message ++ l)
-    (text-handing (suc number) messages
-    ∙ ap (λ (n : ℕ). handed_text n messages) (let e : suc number ≡ number + 1 = omega arith in e))
+text-handing format number [] = refl
+text-handing format number (message ∷ messages) =
+    ap (λ (l : List ℕ). message_text format number message ++ l)
+    (text-handing format (suc number) messages
+    ∙ ap (λ (n : ℕ). handed_text format n messages) (let e : suc number ≡ number + 1 = omega arith in e))
 
 pub refused-handing : (Good : List ℕ → Type 0) (session : Session) (number : ℕ) (messages : List Message) →
     AllByRecursion (RefusesForeign Good session) (handing number messages)
@@ -157,8 +159,9 @@ handed_of-append (Handed number message ∷ xs) ys =
     ap (λ (l : List (ℕ × Message)). (number, message) ∷ l) (handed_of-append xs ys)
 handed_of-append (Refuses bytes why ∷ xs) ys = handed_of-append xs ys
 
-pub text-append : (xs ys : List PrintedLine) → printed_lines_text (xs ++ ys) ≡ printed_lines_text xs ++ printed_lines_text ys
-text-append xs ys = flat_map-append printed_line xs ys
+pub text-append : (format : MessageFormat) (xs ys : List PrintedLine) →
+    printed_lines_text format (xs ++ ys) ≡ printed_lines_text format xs ++ printed_lines_text format ys
+text-append format xs ys = flat_map-append (printed_line format) xs ys
 
 pub refused-append : (Good : List ℕ → Type 0) (session : Session) (xs ys : List PrintedLine) →
     AllByRecursion (RefusesForeign Good session) xs → AllByRecursion (RefusesForeign Good session) ys →

@@ -66,8 +66,8 @@ module _ (journal : JournalState) (Plain : Type 0) (Good : List ℕ → Type 0) 
       Gives Good receipt → HasHeard journal Plain Good e (with_receipt line (cut MAX_LIMIT receipt) e)
   receipt_received line (Datagram from bytes) e sound gives =
       taken_received journal Plain Good laws may line (take MAX_LIMIT bytes) e sound gives
-  receipt_received line Quiet e sound gives = nothing_received journal Plain Good e e sound refl refl
-  receipt_received line Failure e sound gives = nothing_received journal Plain Good e (missed e) sound refl refl
+  receipt_received line Quiet e sound gives = nothing_received journal Plain Good e e sound refl refl refl
+  receipt_received line Failure e sound gives = nothing_received journal Plain Good e (missed e) sound refl refl refl
 
   pub port_received : {P : Type 0} (line : Option Line) (port : Port P) (e : Progress) → IsSound journal e →
       GivesOnly Good port → HasHeard journal Plain Good e (with_next_receipt line port e)
@@ -80,7 +80,7 @@ module _ (journal : JournalState) (Plain : Type 0) (Good : List ℕ → Type 0) 
       HeardAnswers journal Plain Good s.progress (receive_responses count s)
   unfolding receive_responses
   after_responses zero s sound gives = record {
-    received = nothing_received journal Plain Good s.progress s.progress sound refl refl;
+    received = nothing_received journal Plain Good s.progress s.progress sound refl refl refl;
     gives = gives;
   }
   after_responses (suc count) s sound gives =
@@ -95,11 +95,11 @@ module _ (journal : JournalState) (Plain : Type 0) (Good : List ℕ → Type 0) 
       IsSound journal s.progress → GivesOnly Good s.port →
       HeardAnswers journal Plain Good s.progress (asked wish server burst fails s)
   asked_received None server burst fails s sound gives = record {
-    received = nothing_received journal Plain Good s.progress s.progress sound refl refl;
+    received = nothing_received journal Plain Good s.progress s.progress sound refl refl refl;
     gives = gives;
   }
   asked_received (Some request) server burst true s sound gives = record {
-    received = nothing_received journal Plain Good s.progress (missed s.progress) sound refl refl;
+    received = nothing_received journal Plain Good s.progress (missed s.progress) sound refl refl refl;
     gives = gives;
   }
   asked_received (Some request) server burst false s sound gives =
@@ -135,7 +135,7 @@ module _ (journal : JournalState) (Plain : Type 0) (Good : List ℕ → Type 0) 
       HeardTurns journal Plain Good s.progress (run (listening server burst) choices s)
   unfolding run
   run_received server burst [] s sound gives = record {
-    received = nothing_received journal Plain Good s.progress s.progress sound refl refl;
+    received = nothing_received journal Plain Good s.progress s.progress sound refl refl refl;
     gives = gives;
   }
   run_received {P} server burst (fails ∷ more) s sound gives =
@@ -191,7 +191,8 @@ ports_give Good s hears = record {
 pub run_listened : {P : Type 0} → HearingLaws → (journal : JournalState) (server : P) (burst : ℕ) (choices : List Bool)
     (start : ListenerState P) → IsHonest start.progress.arbitration.view journal.messages journal.closed →
     start.progress.arbitration.view.session ≡ journal.session → ReceivesOnly (IsHarmless journal) start →
-    HasListened journal (CanReceive start) start.progress.arbitration.view.next start.progress.outgoing.text
+    HasListened start.progress.outgoing.format journal (CanReceive start) start.progress.arbitration.view.next
+    start.progress.outgoing.text
     (run (listening server burst) choices start).progress
 run_listened {P} laws journal server burst choices start honest session hears =
     let Good : List ℕ → Type 0 = Both (IsHarmless journal) (CanReceive start) in
@@ -200,6 +201,7 @@ run_listened {P} laws journal server burst choices start honest session hears =
     (record { harmless = λ bytes good. good.0; told = λ never bytes good. absurd never }) server burst choices start
     (record { honest = honest; session = session }) (ports_give (IsHarmless journal) start hears)).received in
     record {
+      kept = done.format;
       printed_lines = done.printed_lines;
       text = done.text;
       refused = refused-weaker Good (CanReceive start) journal.session (λ bytes good. good.1) done.printed_lines done.refused;
@@ -215,7 +217,7 @@ pub run_plain : {P : Type 0} → HearingLaws → (journal : JournalState) (serve
     (start : ListenerState P) → IsHonest start.progress.arbitration.view journal.messages journal.closed →
     start.progress.arbitration.view.session ≡ journal.session → ReceivesOnly (IsTrueDatagram journal) start →
     (run (listening server burst) choices start).progress.outgoing.text
-    ≡ start.progress.outgoing.text ++ handed_text start.progress.arbitration.view.next
+    ≡ start.progress.outgoing.text ++ handed_text start.progress.outgoing.format start.progress.arbitration.view.next
     (between journal.messages start.progress.arbitration.view.next
     (run (listening server burst) choices start).progress.arbitration.view.next)
 run_plain {P} laws journal server burst choices start honest session hears =
@@ -226,8 +228,8 @@ run_plain {P} laws journal server burst choices start honest session hears =
     (record { harmless = λ bytes told. inl told; told = λ is_plain bytes told. told }) server burst choices start
     (record { honest = honest; session = session }) hears).received in
     done.text
-    ∙ ap (λ (l : List PrintedLine). front ++ printed_lines_text l) (done.plain tt)
-    ∙ ap (λ (l : List ℕ). front ++ l) (text-handing from
+    ∙ ap (λ (l : List PrintedLine). front ++ printed_lines_text start.progress.outgoing.format l) (done.plain tt)
+    ∙ ap (λ (l : List ℕ). front ++ l) (text-handing start.progress.outgoing.format from
     (between journal.messages from (run (listening server burst) choices start).progress.arbitration.view.next))
 
 pub ends_so : (ended : Option ℕ) (next : ℕ) → ends_at ended next ≡ true → ended ≡ Some next

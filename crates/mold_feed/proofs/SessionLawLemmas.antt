@@ -9,14 +9,18 @@ use Rattle.std.proofs.lemmas.Result.{IfOk-weaker}
 use Rattle.mold_devices.specs.Devices.{AppendsPrefix}
 use Rattle.mold_devices.specs.declared.fault.CommandFault.{CommandFault}
 use Rattle.mold_feed.specs.Received.{Gives, GivesOnly, HasFinished, HasListened, CanReceive, ReceivesOnly, IsFed, IsHarmless, IsForeign, PrintsAmong}
-use Rattle.mold_feed.specs.Received.{PrintsLines, PrintsOpen, lines_text, closing_lines, closing_status}
-use Rattle.mold_listen.specs.Listening.{ListenerState, beginning, is_finished, listened_lines, listening, status}
+use Rattle.mold_feed.specs.Received.{PrintsBlocks, PrintsLines, PrintsOpen, lines_text, closing_lines, closing_status}
+use Rattle.mold_listen.specs.Listening.{ListenerState, beginning, is_finished, last_note, listened_lines, listening, status}
+use Rattle.mold_input.specs.declared.message_format.MessageFormat.{MessageFormat}
+use Rattle.mold_input.specs.declared.message_format.MessageFormat.TheVariants.{Blocks, Lines}
+use Rattle.mold_turns.specs.Outgoing.{note_text}
 use Rattle.mold_send.specs.PublishLoop.{PublishRun, closed_unless}
 use Rattle.mold_turns.specs.Runs.{Ran, run}
 use Rattle.mold_feed.specs.Sent.{AllSent, HasLines, HasLinesBefore, IsCopy, IsOpening, IsPublished, IsSent, IsServed}
 use Rattle.mold_serve.specs.Serving.{ResponderState, Service, serving}
 use Rattle.mold_listen.specs.Text.{handed_text}
 use Rattle.mold_feed.proofs.PrintedLineLemmas.{between_front}
+use Rattle.mold_feed.proofs.BlocksPrintedLemmas.{blocks_come}
 use Rattle.mold_feed.proofs.LinesPrintedLemmas.{HasCome, has_come, listened_among, prints_lines}
 use Rattle.mold_feed.proofs.LinesTextLemmas.{text_between}
 use Rattle.mold_feed.proofs.OpeningLemmas.{OpeningLaws, begins_at, begins_honest, begins_in, left_by, left_messages, left_session}
@@ -52,13 +56,14 @@ pub record FeedLaws (P : Type 0) : Type 0 where
   pub received : (journal : JournalState) (server : P) (burst : ℕ) (choices : List Bool) (start : ListenerState P) →
       IsHonest start.progress.arbitration.view journal.messages journal.closed →
       start.progress.arbitration.view.session ≡ journal.session → ReceivesOnly (IsHarmless journal) start →
-      HasListened journal (CanReceive start) start.progress.arbitration.view.next start.progress.outgoing.text
+      HasListened start.progress.outgoing.format journal (CanReceive start) start.progress.arbitration.view.next
+      start.progress.outgoing.text
       (run (listening server burst) choices start).progress
   pub plain : (journal : JournalState) (server : P) (burst : ℕ) (choices : List Bool) (start : ListenerState P) →
       IsHonest start.progress.arbitration.view journal.messages journal.closed →
       start.progress.arbitration.view.session ≡ journal.session → ReceivesOnly (IsTrueDatagram journal) start →
       (run (listening server burst) choices start).progress.outgoing.text
-      ≡ start.progress.outgoing.text ++ handed_text start.progress.arbitration.view.next
+      ≡ start.progress.outgoing.text ++ handed_text start.progress.outgoing.format start.progress.arbitration.view.next
       (between journal.messages start.progress.arbitration.view.next
       (run (listening server burst) choices start).progress.arbitration.view.next)
   pub finished : (journal : JournalState) (server : P) (burst : ℕ) (choices : List Bool) (start : ListenerState P) →
@@ -150,12 +155,13 @@ module _ {P : Type 0} (laws : FeedLaws P) (limit : ℕ) (journal : JournalState)
     at_first : arbitration.view.next ≡ first
     at_first = begins_at laws.opening limit journal lines opening first window least within arbitration anew
 
-    module _ (reporting : Bool) (burst turns : ℕ) (server : P) (a b requests : Port P) {E : Type 0} (agrees : ListenerState P → Type 0)
+    module _ (format : MessageFormat) (reporting : Bool) (burst turns : ℕ) (server : P) (a b requests : Port P)
+        {E : Type 0} (agrees : ListenerState P → Type 0)
         (result : Result ℕ E) (old new : Option (List ℕ)) (sent : List (P × List ℕ))
-        (ran : Ran (listening server burst) turns (beginning a b requests arbitration)
+        (ran : Ran (listening server burst) turns (beginning format a b requests arbitration)
         (listened_lines reporting) status agrees result old new sent) where
       abbrev start : ListenerState P
-      start = beginning a b requests arbitration
+      start = beginning format a b requests arbitration
 
       abbrev ending : ListenerState P
       ending = run (listening server burst) ran.choices start
@@ -164,9 +170,9 @@ module _ {P : Type 0} (laws : FeedLaws P) (limit : ℕ) (journal : JournalState)
       next = ending.progress.arbitration.view.next
 
       has_received : ReceivesOnly (IsHarmless (left_by journal lines)) start →
-          HasListened (left_by journal lines) (CanReceive start) first [] ending.progress
+          HasListened format (left_by journal lines) (CanReceive start) first [] ending.progress
       has_received hears =
-          subst (λ (n : ℕ). HasListened (left_by journal lines) (CanReceive start) n [] ending.progress) at_first
+          subst (λ (n : ℕ). HasListened format (left_by journal lines) (CanReceive start) n [] ending.progress) at_first
           (laws.received (left_by journal lines) server burst ran.choices start honest in_session hears)
 
       has_finished : ReceivesOnly (IsHarmless (left_by journal lines)) start → is_finished ending.progress ≡ true →
@@ -186,20 +192,36 @@ module _ {P : Type 0} (laws : FeedLaws P) (limit : ℕ) (journal : JournalState)
           (λ bytes modeled. inl modeled) start hears
 
       text_received : ReceivesOnly (IsTrueDatagram (left_by journal lines)) start →
-          ending.progress.outgoing.text ≡ handed_text first (between (left_by journal lines).messages first next)
+          ending.progress.outgoing.text ≡ handed_text format first (between (left_by journal lines).messages first next)
       text_received hears =
           laws.plain (left_by journal lines) server burst ran.choices start honest in_session hears
-          ∙ ap (λ (n : ℕ). handed_text n (between (left_by journal lines).messages n next)) at_first
+          ∙ ap (λ (n : ℕ). handed_text format n (between (left_by journal lines).messages n next)) at_first
+
+      -- the messages of blocks are printed, whatever else the ports give
+      pub session_prints_blocks : format ≡ Blocks → ReceivesOnly (IsFed P journal limit lines) start →
+          PrintsBlocks (left_by journal lines).messages first result old new
+      session_prints_blocks in_blocks fed =
+          let hears = hears_weaker (IsFed P journal limit lines) (IsHarmless (left_by journal lines)) fed_harmless start
+          fed in
+          blocks_come reporting ending (left_by journal lines) (CanReceive start)
+          (subst (λ (f : MessageFormat). HasListened f (left_by journal lines) (CanReceive start) first [] ending.progress)
+          in_blocks (has_received hears)) (has_finished hears) ran.whole ran.front
 
       -- no line is refused
 
-      module _ (unrefused : (lines_published journal lines).refused ≡ None) where
+      module _ (plain : format ≡ Lines) (unrefused : (lines_published journal lines).refused ≡ None) where
         has_lines : HasLines lines (left_by journal lines)
         has_lines = laws.opening.lines limit journal lines opening unrefused
 
+        lines_received : ReceivesOnly (IsHarmless (left_by journal lines)) start →
+            HasListened Lines (left_by journal lines) (CanReceive start) first [] ending.progress
+        lines_received hears =
+            subst (λ (f : MessageFormat). HasListened f (left_by journal lines) (CanReceive start) first [] ending.progress)
+            plain (has_received hears)
+
         comes_to : ReceivesOnly (IsHarmless (left_by journal lines)) start → HasCome reporting lines first ending result old new
         comes_to hears =
-            has_come (left_by journal lines) (CanReceive start) has_lines.spelled (has_received hears) (has_finished hears)
+            has_come (left_by journal lines) (CanReceive start) has_lines.spelled (lines_received hears) (has_finished hears)
             ran.whole ran.front
 
         pub session_prints_among : ReceivesOnly (IsFed P journal limit lines) start →
@@ -208,18 +230,20 @@ module _ {P : Type 0} (laws : FeedLaws P) (limit : ℕ) (journal : JournalState)
             let hears = hears_weaker (IsFed P journal limit lines) (IsHarmless (left_by journal lines)) fed_harmless start
             fed in
             subst (λ (s : Session). PrintsAmong reporting s (CanReceive start) lines first result old new) (left_session journal lines)
-            (listened_among (left_by journal lines) (CanReceive start) has_lines.spelled (has_received hears) (comes_to hears))
+            (listened_among (left_by journal lines) (CanReceive start) has_lines.spelled (lines_received hears) (comes_to hears))
 
         pub session_prints_lines : ReceivesOnly (IsSent P journal limit lines) start →
             PrintsLines reporting lines first result old new
         session_prints_lines sent =
             let hears = all_true sent in
             prints_lines (comes_to (all_harmless hears))
-            (text_received hears ∙ text_between lines (left_by journal lines).messages first next has_lines.spelled)
+            (text_received hears
+            ∙ ap (λ (f : MessageFormat). handed_text f first (between (left_by journal lines).messages first next)) plain
+            ∙ text_between lines (left_by journal lines).messages first next has_lines.spelled)
 
       -- a line is refused
 
-      module _ (why : MessageRefusal) (refused : (lines_published journal lines).refused ≡ Some why) where
+      module _ (plain : format ≡ Lines) (why : MessageRefusal) (refused : (lines_published journal lines).refused ≡ Some why) where
         abbrev count : ℕ
         count = length (lines_published journal lines).journal.messages
 
@@ -256,7 +280,8 @@ module _ {P : Type 0} (laws : FeedLaws P) (limit : ℕ) (journal : JournalState)
             ending.progress.outgoing.text ≡ lines_text first (between lines first next)
         lines_printed hears =
             text_received hears
-            ∙ ap (λ (messages : List Message). handed_text first (between messages first next)) same
+            ∙ ap (λ (f : MessageFormat). handed_text f first (between (left_by journal lines).messages first next)) plain
+            ∙ ap (λ (messages : List Message). handed_text Lines first (between messages first next)) same
             ∙ text_between (take count lines) (lines_published journal lines).journal.messages first next before.spelled
             ∙ ap (lines_text first)
             (between_front lines count first next least (has_received (all_harmless hears)).from (up_to (all_harmless hears)))
@@ -268,6 +293,9 @@ module _ {P : Type 0} (laws : FeedLaws P) (limit : ℕ) (journal : JournalState)
             ending.progress.arbitration.view.known ending.progress.outgoing.failures
         all_printed hears =
             ap (λ (text : List ℕ). text ++ listened_lines reporting ending) (lines_printed hears)
+            ∙ ap (λ (f : MessageFormat). lines_text first (between lines first next)
+            ++ note_text f (last_note reporting ending.progress))
+            ((has_received (all_harmless hears)).kept ∙ plain)
             ∙ ap (λ (finished : Bool). lines_text first (between lines first next)
             ++ closing_lines reporting ending.progress.arbitration.reports finished next
             ending.progress.arbitration.view.known ending.progress.outgoing.failures)

@@ -30,7 +30,9 @@ use Rattle.mold_wire.specs.declared.error.DecodeError.{DecodeError}
 use Rattle.mold_wire.specs.declared.packet.Packet.{Packet}
 use Rattle.mold_wire.specs.declared.session.Session.{Session}
 use Rattle.mold_feed.specs.Received.{IsHarmless, IsReason, IsForeign, RefusesForeign, PrintedLine, Refuses, handed_of, printed_lines_text}
+use Rattle.mold_input.specs.declared.message_format.MessageFormat.{MessageFormat}
 use Rattle.mold_listen.specs.Listening.{Progress, taken}
+use Rattle.mold_turns.specs.Outgoing.{note_text}
 use Rattle.mold_listen.specs.Text.{handed_text, taking_text}
 use Rattle.mold_feed.proofs.PrintedLineLemmas.{between_none, counted_joined, handed_between, handed_of-append}
 use Rattle.mold_feed.proofs.PrintedLineLemmas.{handed_of-handing, handing, handing-append, numbered-append}
@@ -60,7 +62,8 @@ pub record IsSound (journal : JournalState) (e : Progress) : Type 0 where
 -- the two next numbers, and that refuse bytes which may be received. If `Plain` holds, it refused nothing.
 pub record HasHeard (journal : JournalState) (Plain : Type 0) (Good : List ℕ → Type 0) (old new : Progress) : Type 0 where
   pub printed_lines : List PrintedLine
-  pub text : new.outgoing.text ≡ old.outgoing.text ++ printed_lines_text printed_lines
+  pub text : new.outgoing.text ≡ old.outgoing.text ++ printed_lines_text old.outgoing.format printed_lines
+  pub format : new.outgoing.format ≡ old.outgoing.format
   pub refused : AllByRecursion (RefusesForeign Good journal.session) printed_lines
   pub from : old.arbitration.view.next ≤ new.arbitration.view.next
   pub handed : handed_of printed_lines ≡ numbered old.arbitration.view.next
@@ -141,13 +144,15 @@ has_reason laws v session bytes (Ok packet) why same strange is refused =
 module _ (journal : JournalState) (Plain : Type 0) (Good : List ℕ → Type 0) where
   -- nothing is printed
   pub nothing_received : (old new : Progress) → IsSound journal old → new.arbitration.view ≡ old.arbitration.view →
-      new.outgoing.text ≡ old.outgoing.text → HasHeard journal Plain Good old new
+      new.outgoing.text ≡ old.outgoing.text → new.outgoing.format ≡ old.outgoing.format →
+      HasHeard journal Plain Good old new
   unfolding handing
-  nothing_received old new sound same text =
+  nothing_received old new sound same text format =
       let next : new.arbitration.view.next ≡ old.arbitration.view.next = ap (λ (v : View). v.next) same in
       record {
         printed_lines = [];
         text = text ∙ sym (append-nil old.outgoing.text);
+        format = format;
         refused = tt;
         from = omega (arith, next);
         handed = sym (ap (numbered old.arbitration.view.next) (still_next journal old new same));
@@ -158,18 +163,22 @@ module _ (journal : JournalState) (Plain : Type 0) (Good : List ℕ → Type 0) 
   -- messages are delivered, and each is the published one with its number
   messages_received : (old new : Progress) (messages : List Message) → IsSound journal old →
       new.arbitration.view.next ≡ old.arbitration.view.next + length messages →
-      new.outgoing.text ≡ old.outgoing.text ++ handed_text old.arbitration.view.next messages →
+      new.outgoing.text ≡ old.outgoing.text ++ handed_text old.outgoing.format old.arbitration.view.next messages →
+      new.outgoing.format ≡ old.outgoing.format →
       ((i : ℕ) (m : Message) → slice_get messages i ≡ Some m →
       published_at journal.messages (old.arbitration.view.next + i) ≡ Some m) → IsSound journal new →
       HasHeard journal Plain Good old new
-  messages_received old new messages sound next text each after =
+  messages_received old new messages sound next text format each after =
       let from : ℕ = old.arbitration.view.next in
       let piece : messages ≡ between journal.messages from new.arbitration.view.next =
       handed_between journal.messages messages from new.arbitration.view.next (first_number journal old sound)
       (last_number journal old sound) next each in
       record {
         printed_lines = handing from messages;
-        text = text ∙ ap (λ (l : List ℕ). old.outgoing.text ++ l) (sym (text-handing from messages));
+        text =
+            text
+            ∙ ap (λ (l : List ℕ). old.outgoing.text ++ l) (sym (text-handing old.outgoing.format from messages));
+        format = format;
         refused = refused-handing Good journal.session from messages;
         from = omega (arith, next);
         handed = handed_of-handing from messages ∙ ap (numbered from) piece;
@@ -190,9 +199,13 @@ module _ (journal : JournalState) (Plain : Type 0) (Good : List ℕ → Type 0) 
         printed_lines = before.printed_lines ++ behind.printed_lines;
         text =
             behind.text
-            ∙ ap (λ (l : List ℕ). l ++ printed_lines_text behind.printed_lines) before.text
-            ∙ append_assoc old.outgoing.text (printed_lines_text before.printed_lines) (printed_lines_text behind.printed_lines)
-            ∙ ap (λ (l : List ℕ). old.outgoing.text ++ l) (sym (text-append before.printed_lines behind.printed_lines));
+            ∙ ap (λ (f : MessageFormat). mid.outgoing.text ++ printed_lines_text f behind.printed_lines) before.format
+            ∙ ap (λ (l : List ℕ). l ++ printed_lines_text old.outgoing.format behind.printed_lines) before.text
+            ∙ append_assoc old.outgoing.text (printed_lines_text old.outgoing.format before.printed_lines)
+            (printed_lines_text old.outgoing.format behind.printed_lines)
+            ∙ ap (λ (l : List ℕ). old.outgoing.text ++ l)
+            (sym (text-append old.outgoing.format before.printed_lines behind.printed_lines));
+        format = behind.format ∙ before.format;
         refused =
             refused-append Good journal.session before.printed_lines behind.printed_lines before.refused behind.refused;
         from = omega (arith, before.from, behind.from);
@@ -227,7 +240,8 @@ module _ (journal : JournalState) (Plain : Type 0) (Good : List ℕ → Type 0) 
         ap (λ (r : Reception). r.view.next) rule.taken
         ∙ ap (λ (r : Reception). v.next + length r.handed) (sym rule.taken) in
         messages_received e (taken line bytes e) took.reception.handed sound (ap (λ (w : View). w.next) view ∙ next)
-        (ap (λ (t : Result Reception Refusal). e.outgoing.text ++ taking_text v.next t) took.received) took.handed
+        (ap (λ (t : Result Reception Refusal). e.outgoing.text ++ taking_text e.outgoing.format v.next t) took.received)
+        refl took.handed
         (record {
           honest = subst (λ (w : View). IsHonest w journal.messages journal.closed) (sym view) took.honest;
           session =
@@ -249,8 +263,11 @@ module _ (journal : JournalState) (Plain : Type 0) (Good : List ℕ → Type 0) 
         record {
           printed_lines = Refuses bytes why ∷ [];
           text =
-              ap (λ (t : Result Reception Refusal). e.outgoing.text ++ taking_text e.arbitration.view.next t) is
-              ∙ ap (λ (l : List ℕ). e.outgoing.text ++ l) (sym (append-nil (refused_line (refusal_words why))));
+              ap (λ (t : Result Reception Refusal).
+              e.outgoing.text ++ taking_text e.outgoing.format e.arbitration.view.next t) is
+              ∙ ap (λ (l : List ℕ). e.outgoing.text ++ l)
+              (sym (append-nil (note_text e.outgoing.format (refused_line (refusal_words why)))));
+          format = refl;
           refused = ((good, strange, reason), tt);
           from = omega (arith, next);
           handed = sym (ap (numbered e.arbitration.view.next) (still_next journal e new view));

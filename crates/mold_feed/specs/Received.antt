@@ -4,6 +4,8 @@ use Rattle.std.specs.Prelude.{List, [], ◌∷◌, ◌++◌, codes, decimal, len
 use Rattle.std.specs.Io.KnownBytes.{Appends}
 use Rattle.std.specs.List.{AllByRecursion, Contains, flat_map}
 use Rattle.mold_devices.specs.Devices.{AppendsPrefix}
+use Rattle.mold_input.specs.declared.message_format.MessageFormat.{MessageFormat}
+use Rattle.mold_input.specs.declared.message_format.MessageFormat.TheVariants.{Lines}
 use Rattle.mold_ports.specs.Ports.{Port, Receipt, Datagram, Quiet, Failure}
 use Rattle.mold_publish.specs.Publishing.{refused_text}
 use Rattle.mold_publish.specs.declared.message_refusal.MessageRefusal.{MessageRefusal}
@@ -17,7 +19,7 @@ use Rattle.mold_session.specs.Journal.{JournalState}
 use Rattle.mold_session.specs.Truthful.{IsTrueDatagram}
 use Rattle.mold_text.specs.Line.{line_of}
 use Rattle.mold_text.specs.Text.{refusal_words, refused_line}
-use Rattle.mold_wire.specs.Block.{IsBytes}
+use Rattle.mold_wire.specs.Block.{IsBytes, blocks}
 use Rattle.mold_wire.specs.Fault.{FaultAt}
 use Rattle.mold_wire.specs.Packet.{Spells}
 use Rattle.mold_wire.specs.Truth.{AreForeign}
@@ -26,7 +28,8 @@ use Rattle.mold_wire.specs.declared.packet.Packet.{Packet}
 use Rattle.mold_wire.specs.declared.session.Session.{Session}
 use Rattle.mold_listen.specs.Listening.{Progress, ListenerState}
 use Rattle.mold_feed.specs.Sent.{IsSent}
-use Rattle.mold_listen.specs.Text.{finished_line, handed_line, open_line, reports_text}
+use Rattle.mold_listen.specs.Text.{finished_line, message_text, open_line, reports_text}
+use Rattle.mold_turns.specs.Outgoing.{note_text}
 use Rattle.mold_wire.specs.declared.limits.TheConstants.{MAX_LIMIT}
 
 -- The bytes do not encode a packet of the session.
@@ -71,20 +74,20 @@ pub record IsReceived {P : Type 0} (port : Port P) (bytes : List ℕ) : Type 0 w
 abbrev pub CanReceive : {P : Type 0} → ListenerState P → List ℕ → Type 0
 CanReceive s bytes = IsReceived s.a bytes ⊎ IsReceived s.b bytes ⊎ IsReceived s.requests bytes
 
--- A line that a listener prints: a delivered message with its number, or some bytes with the reason why they are
--- refused.
+-- What a listener prints for a message or a refusal: a delivered message with its number, or some bytes with the
+-- reason why they are refused.
 pub data PrintedLine : Type 0 where
   Handed : ℕ → Message → PrintedLine
   Refuses : List ℕ → Refusal → PrintedLine
 
--- The text of one printed line.
-abbrev pub printed_line : PrintedLine → List ℕ
-printed_line (Handed number message) = handed_line number message
-printed_line (Refuses bytes why) = refused_line (refusal_words why)
+-- The text of one printed line on standard output. Among blocks a refusal has no text there.
+abbrev pub printed_line : MessageFormat → PrintedLine → List ℕ
+printed_line format (Handed number message) = message_text format number message
+printed_line format (Refuses bytes why) = note_text format (refused_line (refusal_words why))
 
--- The text of printed lines, in order.
-abbrev pub printed_lines_text : List PrintedLine → List ℕ
-printed_lines_text printed_lines = flat_map printed_line printed_lines
+-- The text of printed lines on standard output, in order.
+abbrev pub printed_lines_text : MessageFormat → List PrintedLine → List ℕ
+printed_lines_text format printed_lines = flat_map (printed_line format) printed_lines
 
 -- The messages that the printed lines deliver, each with its number.
 abbrev pub handed_of : List PrintedLine → List (ℕ × Message)
@@ -106,13 +109,14 @@ RefusesForeign Came session (Handed number message) = ⊤
 RefusesForeign Came session (Refuses bytes why) = Came bytes × IsForeign session bytes × IsReason session bytes why
 
 -- The state of a listener that started at message `first` with the text `before`, and is still honest. It has since
--- printed the published messages from `first` to just below its next number, and maybe refusals. Refused bytes satisfy
--- `Came` and do not encode a packet of the session.
-pub record HasListened (journal : JournalState) (Came : List ℕ → Type 0) (first : ℕ) (before : List ℕ) (e : Progress) :
-    Type 0 where
+-- printed the published messages from `first` to just below its next number in this format, and maybe refusals.
+-- Refused bytes satisfy `Came` and do not encode a packet of the session.
+pub record HasListened (format : MessageFormat) (journal : JournalState) (Came : List ℕ → Type 0) (first : ℕ)
+    (before : List ℕ) (e : Progress) : Type 0 where
+  pub kept : e.outgoing.format ≡ format
   -- the lines printed since the start
   pub printed_lines : List PrintedLine
-  pub text : e.outgoing.text ≡ before ++ printed_lines_text printed_lines
+  pub text : e.outgoing.text ≡ before ++ printed_lines_text format printed_lines
   -- each refusal is of received bytes that do not encode a packet of the session
   pub refused : AllByRecursion (RefusesForeign Came journal.session) printed_lines
   pub from : first ≤ e.arbitration.view.next
@@ -186,6 +190,21 @@ pub record PrintsLines {E : Type 0} (reporting : Bool) (lines : List (List ℕ))
   pub front : AppendsPrefix old new
       (lines_text first (between lines first next) ++ closing_lines reporting reports finished next known failures)
 
+-- What a listener that prints blocks and started at message `first` has written to standard output: the blocks of the
+-- published messages from there to `next - 1`. With status 0 it has printed all messages. After a fault, a prefix of
+-- such blocks is written.
+pub record PrintsBlocks {E : Type 0} (messages : List Message) (first : ℕ) (result : Result ℕ E)
+    (old new : Option (List ℕ)) : Type 0 where
+  -- the number of the next message to deliver
+  pub next : ℕ
+  pub from : first ≤ next
+  pub to : next ≤ length messages + 1
+  -- after a success, the blocks are written, and with status 0 no message is missing
+  pub text : IfOk result (λ status. Appends old new (blocks (between messages first next))
+      × (status ≡ 0 → next ≡ length messages + 1))
+  -- in any case, a prefix of the blocks is written
+  pub front : AppendsPrefix old new (blocks (between messages first next))
+
 -- What a listener that started at line `first` has written, if line `refused_at` is refused. Its text is as for
 -- `PrintsLines`. Both `next` and `known` are at most `refused_at`. The status is 1, since the session has no end. After
 -- a fault, a prefix of such a text is written.
@@ -226,10 +245,11 @@ pub record PrintsRefused {E : Type 0} (lines : List (List ℕ)) (refused_at : �
   pub front : AppendsPrefix old new (lines_text first (between lines first next) ++ refused_text refused_at why)
 
 -- The text of those printed lines that deliver a message.
-abbrev pub messages_text : List PrintedLine → List ℕ
-messages_text [] = []
-messages_text (Handed number message ∷ printed_lines) = handed_line number message ++ messages_text printed_lines
-messages_text (Refuses bytes why ∷ printed_lines) = messages_text printed_lines
+abbrev pub messages_text : MessageFormat → List PrintedLine → List ℕ
+messages_text format [] = []
+messages_text format (Handed number message ∷ printed_lines) =
+    message_text format number message ++ messages_text format printed_lines
+messages_text format (Refuses bytes why ∷ printed_lines) = messages_text format printed_lines
 
 -- What a listener that started at line `first` has written at its end, if its ports may also give foreign bytes. Such
 -- bytes do not encode a packet of the session. The text is as for `PrintsLines`, but lines that refuse such bytes may
@@ -250,7 +270,7 @@ pub record PrintsAmong {E : Type 0} (reporting : Bool) (session : Session) (Came
   -- each refusal is of received bytes that do not encode a packet of the session
   pub refused : AllByRecursion (RefusesForeign Came session) printed_lines
   -- without the refusals, the printed lines are the published lines
-  pub messages : messages_text printed_lines ≡ lines_text first (between lines first next)
+  pub messages : messages_text Lines printed_lines ≡ lines_text first (between lines first next)
   pub from : first ≤ next
   pub to : next ≤ length lines + 1
   pub ahead : next ≤ known
@@ -259,7 +279,7 @@ pub record PrintsAmong {E : Type 0} (reporting : Bool) (session : Session) (Came
   pub all : finished ≡ true → next ≡ length lines + 1
   -- after a success, the whole text is written
   pub text : IfOk result (λ status. (status ≡ closing_status finished) × Appends old new
-      (printed_lines_text printed_lines ++ closing_lines reporting reports finished next known failures))
+      (printed_lines_text Lines printed_lines ++ closing_lines reporting reports finished next known failures))
   -- in any case, a prefix of the text is written
   pub front : AppendsPrefix old new
-      (printed_lines_text printed_lines ++ closing_lines reporting reports finished next known failures)
+      (printed_lines_text Lines printed_lines ++ closing_lines reporting reports finished next known failures)

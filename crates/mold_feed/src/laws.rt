@@ -7,7 +7,8 @@ ghost use Rattle.std.specs.List.{AllByRecursion};
 ghost use Rattle.mold_devices.specs.declared.fault.CommandFault.{CommandFault};
 ghost use Rattle.mold_feed.specs.Received.{CanReceive, HasFinished, HasListened, IsFed, IsHarmless, PrintsAmong};
 ghost use Rattle.mold_feed.specs.Received.{ReceivesOnly};
-ghost use Rattle.mold_feed.specs.Received.{PrintsLines, PrintsOpen};
+ghost use Rattle.mold_feed.specs.Received.{PrintsBlocks, PrintsLines, PrintsOpen};
+ghost use Rattle.mold_input.specs.declared.message_format.MessageFormat.TheVariants.{Blocks, Lines};
 ghost use Rattle.mold_listen.specs.Listening.{Agrees, ListenerState, beginning, is_finished, listened_lines, listening};
 ghost use Rattle.mold_listen.specs.Listening.{status};
 ghost use Rattle.mold_send.specs.PublishLoop.{PublishRun, all_datagrams, left_journal};
@@ -86,13 +87,15 @@ pub fn listened_law<D: Datagrams>()
     ensures received { (journal : JournalState) (server : D.Peer) (burst : ℕ) (choices : List Bool)
         (start : ListenerState D.Peer) → IsHonest start.progress.arbitration.view journal.messages journal.closed →
         start.progress.arbitration.view.session ≡ journal.session → ReceivesOnly (IsHarmless journal) start →
-        HasListened journal (CanReceive start) start.progress.arbitration.view.next start.progress.outgoing.text
+        HasListened start.progress.outgoing.format journal (CanReceive start) start.progress.arbitration.view.next
+        start.progress.outgoing.text
         (run (listening server burst) choices start).progress }
     ensures plain { (journal : JournalState) (server : D.Peer) (burst : ℕ) (choices : List Bool)
         (start : ListenerState D.Peer) → IsHonest start.progress.arbitration.view journal.messages journal.closed →
         start.progress.arbitration.view.session ≡ journal.session → ReceivesOnly (IsTrueDatagram journal) start →
         (run (listening server burst) choices start).progress.outgoing.text
-        ≡ start.progress.outgoing.text ++ handed_text start.progress.arbitration.view.next
+        ≡ start.progress.outgoing.text
+        ++ handed_text start.progress.outgoing.format start.progress.arbitration.view.next
         (between journal.messages start.progress.arbitration.view.next
         (run (listening server burst) choices start).progress.arbitration.view.next) }
     ensures finished { (journal : JournalState) (server : D.Peer) (burst : ℕ) (choices : List Bool)
@@ -117,6 +120,9 @@ pub fn listened_law<D: Datagrams>()
 ///   messages.
 /// - If a line is refused, the listener prints only lines before that one, and its status is 1.
 /// - Reports of lines A and B are printed only if they were requested, and only just before the last line.
+/// - If messages are printed as blocks, standard output has the blocks of the published messages from the first one on,
+///   and nothing else, whatever bytes that do not encode a packet of the session the ports give too. With status 0 it
+///   has the blocks of all of them.
 pub fn session_law<D: Datagrams>()
     ensures printed { (reporting : Bool) (limit first window turns burst : ℕ) (journal : JournalState)
         (lines : List (List ℕ)) (server : D.Peer) (a b requests : Port D.Peer) (arbitration : Arbitration)
@@ -124,8 +130,8 @@ pub fn session_law<D: Datagrams>()
         (old new : Option (List ℕ)) (sent : List (D.Peer × List ℕ)) → IsOpening journal limit →
         (lines_published journal lines).refused ≡ None →
         1 ≤ first → first ≤ length lines + 1 → arbitration.view ≡ fresh journal.session first window →
-        ReceivesOnly (IsSent D.Peer journal limit lines) (beginning a b requests arbitration) →
-        Ran (listening server burst) turns (beginning a b requests arbitration) (listened_lines reporting) status
+        ReceivesOnly (IsSent D.Peer journal limit lines) (beginning Lines a b requests arbitration) →
+        Ran (listening server burst) turns (beginning Lines a b requests arbitration) (listened_lines reporting) status
         (Agrees a_left b_left requests_left left) result old new sent →
         PrintsLines reporting lines first result old new }
     ensures among { (reporting : Bool) (limit first window turns burst : ℕ) (journal : JournalState)
@@ -134,10 +140,10 @@ pub fn session_law<D: Datagrams>()
         (old new : Option (List ℕ)) (sent : List (D.Peer × List ℕ)) → IsOpening journal limit →
         (lines_published journal lines).refused ≡ None →
         1 ≤ first → first ≤ length lines + 1 → arbitration.view ≡ fresh journal.session first window →
-        ReceivesOnly (IsFed D.Peer journal limit lines) (beginning a b requests arbitration) →
-        Ran (listening server burst) turns (beginning a b requests arbitration) (listened_lines reporting) status
+        ReceivesOnly (IsFed D.Peer journal limit lines) (beginning Lines a b requests arbitration) →
+        Ran (listening server burst) turns (beginning Lines a b requests arbitration) (listened_lines reporting) status
         (Agrees a_left b_left requests_left left) result old new sent →
-        PrintsAmong reporting journal.session (CanReceive (beginning a b requests arbitration))
+        PrintsAmong reporting journal.session (CanReceive (beginning Lines a b requests arbitration))
         lines first result old new }
     ensures refused { (reporting : Bool) (limit first window turns burst : ℕ) (journal : JournalState)
         (lines : List (List ℕ)) (why : MessageRefusal) (server : D.Peer) (a b requests : Port D.Peer)
@@ -146,10 +152,20 @@ pub fn session_law<D: Datagrams>()
         IsOpening journal limit → (lines_published journal lines).refused ≡ Some why →
         1 ≤ first → first ≤ length (lines_published journal lines).journal.messages + 1 →
         arbitration.view ≡ fresh journal.session first window →
-        ReceivesOnly (IsSent D.Peer journal limit lines) (beginning a b requests arbitration) →
-        Ran (listening server burst) turns (beginning a b requests arbitration) (listened_lines reporting) status
+        ReceivesOnly (IsSent D.Peer journal limit lines) (beginning Lines a b requests arbitration) →
+        Ran (listening server burst) turns (beginning Lines a b requests arbitration) (listened_lines reporting) status
         (Agrees a_left b_left requests_left left) result old new sent →
         PrintsOpen reporting lines (length (lines_published journal lines).journal.messages + 1) first result old new }
+    ensures blocks { (reporting : Bool) (limit first window turns burst : ℕ) (journal : JournalState)
+        (lines : List (List ℕ)) (server : D.Peer) (a b requests : Port D.Peer) (arbitration : Arbitration)
+        (a_left b_left requests_left : Port D.Peer) (left : Arbitration) (result : Result ℕ CommandFault)
+        (old new : Option (List ℕ)) (sent : List (D.Peer × List ℕ)) → IsOpening journal limit → 1 ≤ first →
+        first ≤ length (left_journal (lines_published journal lines)).messages + 1 →
+        arbitration.view ≡ fresh journal.session first window →
+        ReceivesOnly (IsFed D.Peer journal limit lines) (beginning Blocks a b requests arbitration) →
+        Ran (listening server burst) turns (beginning Blocks a b requests arbitration) (listened_lines reporting) status
+        (Agrees a_left b_left requests_left left) result old new sent →
+        PrintsBlocks (left_journal (lines_published journal lines)).messages first result old new }
 {
     published_law::<D>();
     served_law::<D>();

@@ -7,7 +7,10 @@ use Rattle.std.specs.Prelude.{slice_get}
 use Rattle.mold_receiver.specs.Batch.{first_in, after_in}
 use Rattle.mold_receiver.specs.Store.{Message}
 use Rattle.mold_digits.specs.Writing.{IsWritten}
-use Rattle.mold_listen.specs.Text.{handed_line, handed_text}
+use Rattle.mold_input.specs.declared.message_format.MessageFormat.{MessageFormat}
+use Rattle.mold_input.specs.declared.message_format.MessageFormat.TheVariants.{Blocks, BlocksToEmpty}
+use Rattle.mold_listen.specs.Text.{handed_text, message_text}
+use Rattle.mold_wire.specs.Block.{block}
 
 -- bytes at `at` or after changed, so the former text is still a prefix
 pub kept_below : (old now later rest more : List ℕ) (at : ℕ) → length old ≤ at → at ≤ length now →
@@ -34,42 +37,49 @@ pub none_within : (ms : List Message) (k : ℕ) → None ≡ slice_get ms k → 
 none_within ms k none within = let some = slice_get-get_or ms k [] within in cc
 
 -- the line of the message at a number is the first of the remaining lines
-handed_step : (number first : ℕ) (ms : List Message) (message : Message) → first ≤ number →
+handed_step : (format : MessageFormat) (number first : ℕ) (ms : List Message) (message : Message) → first ≤ number →
     Some message ≡ slice_get ms (number - first) →
-    handed_text number (drop (number - first) ms)
-    ≡ handed_line number message ++ handed_text (number + 1) (drop (number + 1 - first) ms)
+    handed_text format number (drop (number - first) ms)
+    ≡ message_text format number message ++ handed_text format (number + 1) (drop (number + 1 - first) ms)
 unfolding handed_text
-handed_step number first ms message low is =
+handed_step format number first ms message low is =
     let buffer : ℕ = number - first in
     let here = get_or_from_slice_get ms buffer message [] (sym is) in
-    ap (handed_text number)
+    ap (handed_text format number)
     (drop_more ms buffer [] (slice_get_within ms buffer message (sym is))
     ∙ ap (λ (m : Message). m ∷ drop (buffer + 1) ms) here)
-    ∙ ap (λ (k : ℕ). handed_line number message ++ handed_text (number + 1) (drop k ms))
+    ∙ ap (λ (k : ℕ). message_text format number message ++ handed_text format (number + 1) (drop k ms))
     (let e : buffer + 1 ≡ number + 1 - first = omega arith in e)
 
 -- after its line is written, one line fewer remains
-pub handed_more : (number first : ℕ) (ms : List Message) (message : Message) (old new whole : List ℕ) →
-    first ≤ number → Some message ≡ slice_get ms (number - first) →
-    old ++ handed_text number (drop (number - first) ms) ≡ whole → new ≡ old ++ handed_line number message →
-    new ++ handed_text (number + 1) (drop (number + 1 - first) ms) ≡ whole
-handed_more number first ms message old new whole low is printed written =
-    let rest : List ℕ = handed_text (number + 1) (drop (number + 1 - first) ms) in
-    ap (λ (t : List ℕ). t ++ rest) written ∙ append_assoc old (handed_line number message) rest
-    ∙ ap (λ (t : List ℕ). old ++ t) (sym (handed_step number first ms message low is)) ∙ printed
+pub handed_more : (format : MessageFormat) (number first : ℕ) (ms : List Message) (message : Message)
+    (old new whole : List ℕ) → first ≤ number → Some message ≡ slice_get ms (number - first) →
+    old ++ handed_text format number (drop (number - first) ms) ≡ whole →
+    new ≡ old ++ message_text format number message →
+    new ++ handed_text format (number + 1) (drop (number + 1 - first) ms) ≡ whole
+handed_more format number first ms message old new whole low is printed written =
+    let rest : List ℕ = handed_text format (number + 1) (drop (number + 1 - first) ms) in
+    ap (λ (t : List ℕ). t ++ rest) written ∙ append_assoc old (message_text format number message) rest
+    ∙ ap (λ (t : List ℕ). old ++ t) (sym (handed_step format number first ms message low is)) ∙ printed
 
-pub handed_all : (number first : ℕ) (ms : List Message) (old whole : List ℕ) → first + length ms ≤ number →
-    old ++ handed_text number (drop (number - first) ms) ≡ whole → old ≡ whole
+pub handed_all : (format : MessageFormat) (number first : ℕ) (ms : List Message) (old whole : List ℕ) →
+    first + length ms ≤ number → old ++ handed_text format number (drop (number - first) ms) ≡ whole → old ≡ whole
 unfolding handed_text
-handed_all number first ms old whole high printed =
+handed_all format number first ms old whole high printed =
     sym (append-nil old)
-    ∙ ap (λ (l : List Message). old ++ handed_text number l) (sym (drop_of_length-le ms (omega arith)))
+    ∙ ap (λ (l : List Message). old ++ handed_text format number l) (sym (drop_of_length-le ms (omega arith)))
     ∙ printed
 
-pub handed_init : (first : ℕ) (ms : List Message) (old : List ℕ) →
-    old ++ handed_text first (drop (first - first) ms) ≡ old ++ handed_text first ms
-handed_init first ms old =
-    ap (λ (k : ℕ). old ++ handed_text first (drop k ms)) (let e : first - first ≡ 0 = omega arith in e)
+pub handed_init : (format : MessageFormat) (first : ℕ) (ms : List Message) (old : List ℕ) →
+    old ++ handed_text format first (drop (first - first) ms) ≡ old ++ handed_text format first ms
+handed_init format first ms old =
+    ap (λ (k : ℕ). old ++ handed_text format first (drop k ms)) (let e : first - first ≡ 0 = omega arith in e)
+
+-- a mark of the end changes no block of a message
+pub same_blocks : (number : ℕ) (ms : List Message) → handed_text Blocks number ms ≡ handed_text BlocksToEmpty number ms
+unfolding handed_text
+same_blocks number [] = refl
+same_blocks number (message ∷ ms) = ap (λ (text : List ℕ). block message ++ text) (same_blocks (number + 1) ms)
 
 -- the end of written text is within its buffer
 pub written_within : (old new : List ℕ) (at end : ℕ) (text : List ℕ) → at ≤ length old →

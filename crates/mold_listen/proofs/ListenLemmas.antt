@@ -1,5 +1,5 @@
 -- What each step of a listener changes.
-use Rattle.std.proofs.Common.{◌≡◌, ℕ, suc, Bool, true, false, List, [], ◌∷◌, Option, None, Some, Result, zero, ap, refl, sym, ◌∙◌}
+use Rattle.std.proofs.Common.{◌≡◌, ℕ, suc, Bool, true, false, List, [], ◌∷◌, Option, None, Some, Result, zero, ap, append-nil, refl, sym, ◌∙◌}
 use Rattle.std.proofs.lemmas.Result.{on_ok_weaker}
 use Rattle.std.specs.Prelude.{OnOk}
 use Rattle.mold_wire.specs.Request.{request_spelling}
@@ -10,37 +10,51 @@ use Rattle.mold_receiver.specs.Receive.{receive}
 use Rattle.mold_receiver.specs.Store.{Message}
 use Rattle.mold_receiver.specs.declared.line.Line.{Line}
 use Rattle.mold_receiver.specs.declared.taken.Taken.{Taken}
-use Rattle.mold_listen.specs.Text.{handed_text, taking_text}
+use Rattle.mold_input.specs.declared.message_format.MessageFormat.{MessageFormat}
+use Rattle.mold_listen.specs.Text.{handed_text, taking_side, taking_text}
 use Rattle.mold_ports.specs.Ports.{Port, Receipt, Datagram, Quiet, Failure, cut, next_of, offered, received}
 use Rattle.mold_listen.specs.Listening.{Asking, Progress, HasAsked, asked, asking, progress, with_next_receipt, receive_responses, with_receipt, is_datagram}
 use Rattle.mold_listen.specs.Listening.{receives, taken}
-use Rattle.mold_turns.specs.Outgoing.{OutgoingState, with_more}
+use Rattle.mold_turns.specs.Outgoing.{OutgoingState, with_both, with_more}
+use Rattle.mold_turns.proofs.OutgoingLemmas.{outgoing_is}
 use Rattle.mold_wire.specs.declared.limits.TheConstants.{MAX_LIMIT}
 
 -- an empty batch that was given messages has these, numbered from the same number on
-batch_text : (next : ℕ) (messages : List Message) →
-    handed_text (followed_by (record { first = 0; messages = [] }) next messages).first
+batch_text : (format : MessageFormat) (next : ℕ) (messages : List Message) →
+    handed_text format (followed_by (record { first = 0; messages = [] }) next messages).first
     (followed_by (record { first = 0; messages = [] }) next messages).messages
-    ≡ handed_text next messages
+    ≡ handed_text format next messages
 unfolding handed_text
-batch_text next [] = refl
-batch_text next (message ∷ messages) = refl
+batch_text format next [] = refl
+batch_text format next (message ∷ messages) = refl
+
+-- a datagram that is taken prints nothing to standard error
+more_alone : (text : List ℕ) (outgoing : OutgoingState) → with_more text outgoing ≡ with_both text [] outgoing
+more_alone text outgoing =
+    outgoing_is (with_more text outgoing) (with_both text [] outgoing) refl (sym (append-nil outgoing.side)) refl refl
 
 -- a datagram was taken, and what it delivers was written
 pub taken_ok : (line : Option Line) (bytes : List ℕ) (old new : Arbitration) (before after : Handed) (t : Taken)
     (outgoing out : OutgoingState) → before ≡ record { first = 0; messages = [] } →
     HasArbitrated line old bytes before new after t →
-    out ≡ with_more (handed_text after.first after.messages) outgoing →
+    out ≡ with_more (handed_text outgoing.format after.first after.messages) outgoing →
     progress new out ≡ taken line bytes (progress old outgoing)
 taken_ok line bytes old new before after t outgoing out empty has written =
     let batch : after ≡ followed_by (record { first = 0; messages = [] }) old.view.next has.reception.handed =
     has.batch ∙ ap (λ (b : Handed). followed_by b old.view.next has.reception.handed) empty in
-    let lines : handed_text after.first after.messages ≡ taking_text old.view.next (receive old.view bytes) =
-    ap (λ (b : Handed). handed_text b.first b.messages) batch
-    ∙ batch_text old.view.next has.reception.handed
-    ∙ ap (taking_text old.view.next) (sym has.received) in
+    let lines : handed_text outgoing.format after.first after.messages
+    ≡ taking_text outgoing.format old.view.next (receive old.view bytes) =
+    ap (λ (b : Handed). handed_text outgoing.format b.first b.messages) batch
+    ∙ batch_text outgoing.format old.view.next has.reception.handed
+    ∙ ap (taking_text outgoing.format old.view.next) (sym has.received) in
+    let none : [] ≡ taking_side outgoing.format (receive old.view bytes) =
+    ap (taking_side outgoing.format) (sym has.received) in
     ap (λ (a : Arbitration). progress a out) has.arbitration
-    ∙ ap (progress (arbitrates line bytes old)) (written ∙ ap (λ (l : List ℕ). with_more l outgoing) lines)
+    ∙ ap (progress (arbitrates line bytes old))
+    (written ∙ ap (λ (l : List ℕ). with_more l outgoing) lines
+    ∙ more_alone (taking_text outgoing.format old.view.next (receive old.view bytes)) outgoing
+    ∙ ap (λ (l : List ℕ). with_both (taking_text outgoing.format old.view.next (receive old.view bytes)) l outgoing)
+    none)
 
 -- ---- one receive
 

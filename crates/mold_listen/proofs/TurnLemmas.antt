@@ -10,74 +10,82 @@ use Rattle.mold_receiver.specs.View.{View}
 use Rattle.mold_receiver.specs.Wanted.{wanted}
 use Rattle.mold_receiver.specs.declared.line.Line.{Line}
 use Rattle.mold_receiver.specs.declared.line.Line.TheVariants.{A, B}
-use Rattle.mold_turns.specs.Runs.{Begins, Ran, WrittenInTime}
+use Rattle.mold_turns.specs.Runs.{Begins, WrittenInTime}
+use Rattle.mold_turns.specs.Sides.{RanBeside}
 use Rattle.mold_listen.specs.declared.feed_listener.FeedListener.{FeedListener}
-use Rattle.mold_turns.proofs.RunLemmas.{IsLoop, begins_more, begins_trans, begins_whole, none_ok}
+use Rattle.mold_turns.proofs.RunLemmas.{IsBeside, IsLoop, begins_more, begins_trans, begins_whole, none_ok}
 use Rattle.mold_wire.specs.Request.{request_spelling}
 use Rattle.mold_wire.specs.declared.request.Request.{Request}
-use Rattle.mold_listen.specs.Text.{finished_line, open_line, taking_text}
+use Rattle.mold_listen.specs.Text.{finished_line, open_line, taking_side, taking_text}
 use Rattle.mold_listen.specs.Listening.{Asking, Progress, HasAsked, HasTurned, ListenerState, asked, progress, last_line, listener_status}
-use Rattle.mold_turns.specs.Outgoing.{OutgoingState, with_front, with_more}
+use Rattle.mold_turns.specs.Outgoing.{OutgoingState, said_out, with_fronts, with_note}
 use Rattle.mold_listen.specs.Listening.{Agrees, IsInNextTurn, IsSame, ends_at, with_next_receipt, receive_responses, with_receipt, is_finished, listened_lines}
+use Rattle.mold_listen.specs.Listening.{listened_side, put_beside, side_text}
 use Rattle.mold_listen.specs.Listening.{after_lines, listening, listener, put_before, receives, status, turn, turn_asked}
 use Rattle.mold_listen.proofs.ListenLemmas.{hearing_sends, stepped}
-use Rattle.mold_turns.proofs.OutgoingLemmas.{front_twice, more_after, written_front}
+use Rattle.mold_turns.proofs.OutgoingLemmas.{both_after, front_twice, fronts_twice, said_front}
 use Rattle.mold_wire.specs.declared.limits.TheConstants.{MAX_LIMIT}
 
 -- ---- text put before
 
-abbrev pub hearing_before : List ℕ → Progress → Progress
-hearing_before front e = record { arbitration = e.arbitration; outgoing = with_front front e.outgoing }
+abbrev pub hearing_both : List ℕ → List ℕ → Progress → Progress
+hearing_both front said e = record { arbitration = e.arbitration; outgoing = with_fronts front said e.outgoing }
 
-abbrev pub asking_before : {P : Type 0} → List ℕ → Asking P → Asking P
-asking_before front s = record { port = s.port; progress = hearing_before front s.progress }
+abbrev pub asking_both : {P : Type 0} → List ℕ → List ℕ → Asking P → Asking P
+asking_both front said s = record { port = s.port; progress = hearing_both front said s.progress }
 
-received_before : {P : Type 0} (front : List ℕ) (line : Option Line) (receipt : Receipt P) (e : Progress) →
-    with_receipt line receipt (hearing_before front e) ≡ hearing_before front (with_receipt line receipt e)
-received_before front line (Datagram from bytes) e =
+abbrev pub put_both : {P : Type 0} → List ℕ → List ℕ → ListenerState P → ListenerState P
+put_both front said s =
+    listener s.a s.b s.requests s.progress.arbitration (with_fronts front said s.progress.outgoing)
+
+received_both : {P : Type 0} (front said : List ℕ) (line : Option Line) (receipt : Receipt P) (e : Progress) →
+    with_receipt line receipt (hearing_both front said e) ≡ hearing_both front said (with_receipt line receipt e)
+received_both front said line (Datagram from bytes) e =
     ap (progress (with_receipt line (Datagram from bytes) e).arbitration)
-    (more_after front (taking_text e.arbitration.view.next (receive e.arbitration.view bytes)) e.outgoing)
-received_before front line Quiet e = refl
-received_before front line Failure e = refl
+    (both_after front said
+    (taking_text e.outgoing.format e.arbitration.view.next (receive e.arbitration.view bytes))
+    (taking_side e.outgoing.format (receive e.arbitration.view bytes)) e.outgoing)
+received_both front said line Quiet e = refl
+received_both front said line Failure e = refl
 
-pub hear_before : {P : Type 0} (front : List ℕ) (line : Option Line) (port : Port P) (e : Progress) →
-    with_next_receipt line port (hearing_before front e) ≡ hearing_before front (with_next_receipt line port e)
+pub hear_both : {P : Type 0} (front said : List ℕ) (line : Option Line) (port : Port P) (e : Progress) →
+    with_next_receipt line port (hearing_both front said e) ≡ hearing_both front said (with_next_receipt line port e)
 unfolding with_next_receipt
-hear_before front line port e = received_before front line (cut MAX_LIMIT (next_of port)) e
+hear_both front said line port e = received_both front said line (cut MAX_LIMIT (next_of port)) e
 
-pub answers_before : {P : Type 0} (front : List ℕ) (count : ℕ) (s : Asking P) →
-    receive_responses count (asking_before front s) ≡ asking_before front (receive_responses count s)
+pub answers_both : {P : Type 0} (front said : List ℕ) (count : ℕ) (s : Asking P) →
+    receive_responses count (asking_both front said s) ≡ asking_both front said (receive_responses count s)
 unfolding receive_responses
-answers_before front zero s = refl
-answers_before {P} front (suc count) s =
+answers_both front said zero s = refl
+answers_both {P} front said (suc count) s =
     ap {B = Asking P} (λ (e : Progress). receive_responses count (record { port = received s.port; progress = e }))
-    (hear_before front None s.port s.progress)
-    ∙ answers_before front count (stepped s)
+    (hear_both front said None s.port s.progress)
+    ∙ answers_both front said count (stepped s)
 
-asked_before : {P : Type 0} (front : List ℕ) (wish : Option Request) (server : P) (burst : ℕ) (fails : Bool)
+asked_both : {P : Type 0} (front said : List ℕ) (wish : Option Request) (server : P) (burst : ℕ) (fails : Bool)
     (s : Asking P) →
-    asked wish server burst fails (asking_before front s) ≡ asking_before front (asked wish server burst fails s)
-asked_before front None server burst fails s = refl
-asked_before front (Some request) server burst true s = refl
-asked_before front (Some request) server burst false s =
-    answers_before front (receives burst s.port.comes)
+    asked wish server burst fails (asking_both front said s) ≡ asking_both front said (asked wish server burst fails s)
+asked_both front said None server burst fails s = refl
+asked_both front said (Some request) server burst true s = refl
+asked_both front said (Some request) server burst false s =
+    answers_both front said (receives burst s.port.comes)
     (record { port = offered false server (request_spelling request) s.port; progress = s.progress })
 
-lines_before : {P : Type 0} (front : List ℕ) (s : ListenerState P) →
-    after_lines (put_before front s) ≡ hearing_before front (after_lines s)
-lines_before front s =
-    ap (with_next_receipt (Some B) s.b) (hear_before front (Some A) s.a s.progress)
-    ∙ hear_before front (Some B) s.b (with_next_receipt (Some A) s.a s.progress)
+lines_both : {P : Type 0} (front said : List ℕ) (s : ListenerState P) →
+    after_lines (put_both front said s) ≡ hearing_both front said (after_lines s)
+lines_both front said s =
+    ap (with_next_receipt (Some B) s.b) (hear_both front said (Some A) s.a s.progress)
+    ∙ hear_both front said (Some B) s.b (with_next_receipt (Some A) s.a s.progress)
 
-turn_before : {P : Type 0} (server : P) (burst : ℕ) (front : List ℕ) (fails : Bool) (s : ListenerState P) →
-    turn server burst fails (put_before front s) ≡ put_before front (turn server burst fails s)
+turn_both : {P : Type 0} (server : P) (burst : ℕ) (front said : List ℕ) (fails : Bool) (s : ListenerState P) →
+    turn server burst fails (put_both front said s) ≡ put_both front said (turn server burst fails s)
 unfolding turn
-turn_before {P} server burst front fails s =
+turn_both {P} server burst front said fails s =
     let with_receipt : Progress = after_lines s in
     let to : Asking P → ListenerState P = λ q. record { a = received s.a; b = received s.b; requests = q.port; progress = q.progress } in
     ap (λ (e : Progress). to (asked (wanted e.arbitration.view) server burst fails (record { port = s.requests; progress = e })))
-    (lines_before front s)
-    ∙ ap to (asked_before front (wanted with_receipt.arbitration.view) server burst fails
+    (lines_both front said s)
+    ∙ ap to (asked_both front said (wanted with_receipt.arbitration.view) server burst fails
     (record { port = s.requests; progress = with_receipt }))
 
 -- ---- a turn only appends to what is printed and sent
@@ -85,7 +93,8 @@ turn_before {P} server burst front fails s =
 received_prints : {P : Type 0} (line : Option Line) (receipt : Receipt P) (e : Progress) →
     Begins e.outgoing.text (with_receipt line receipt e).outgoing.text
 received_prints line (Datagram from bytes) e =
-    begins_more e.outgoing.text (taking_text e.arbitration.view.next (receive e.arbitration.view bytes))
+    begins_more e.outgoing.text
+    (taking_text e.outgoing.format e.arbitration.view.next (receive e.arbitration.view bytes))
 received_prints line Quiet e = begins_whole e.outgoing.text
 received_prints line Failure e = begins_whole e.outgoing.text
 
@@ -107,6 +116,32 @@ asked_prints (Some request) server burst false s =
     answers_print (receives burst s.port.comes)
     (record { port = offered false server (request_spelling request) s.port; progress = s.progress })
 
+received_says : {P : Type 0} (line : Option Line) (receipt : Receipt P) (e : Progress) →
+    Begins e.outgoing.side (with_receipt line receipt e).outgoing.side
+received_says line (Datagram from bytes) e =
+    begins_more e.outgoing.side
+    (taking_side e.outgoing.format (receive e.arbitration.view bytes))
+received_says line Quiet e = begins_whole e.outgoing.side
+received_says line Failure e = begins_whole e.outgoing.side
+
+pub hear_says : {P : Type 0} (line : Option Line) (port : Port P) (e : Progress) →
+    Begins e.outgoing.side (with_next_receipt line port e).outgoing.side
+unfolding with_next_receipt
+hear_says line port e = received_says line (cut MAX_LIMIT (next_of port)) e
+
+pub answers_say : {P : Type 0} (count : ℕ) (s : Asking P) → Begins s.progress.outgoing.side (receive_responses count s).progress.outgoing.side
+unfolding receive_responses
+answers_say zero s = begins_whole s.progress.outgoing.side
+answers_say (suc count) s = begins_trans (hear_says None s.port s.progress) (answers_say count (stepped s))
+
+asked_says : {P : Type 0} (wish : Option Request) (server : P) (burst : ℕ) (fails : Bool) (s : Asking P) →
+    Begins s.progress.outgoing.side (asked wish server burst fails s).progress.outgoing.side
+asked_says None server burst fails s = begins_whole s.progress.outgoing.side
+asked_says (Some request) server burst true s = begins_whole s.progress.outgoing.side
+asked_says (Some request) server burst false s =
+    answers_say (receives burst s.port.comes)
+    (record { port = offered false server (request_spelling request) s.port; progress = s.progress })
+
 asked_sends : {P : Type 0} (wish : Option Request) (server : P) (burst : ℕ) (fails : Bool) (s : Asking P) →
     Begins s.port.sent (asked wish server burst fails s).port.sent
 asked_sends None server burst fails s = begins_whole s.port.sent
@@ -126,6 +161,15 @@ turn_prints server burst fails s =
     (asked_prints (wanted (after_lines s).arbitration.view) server burst fails
     (record { port = s.requests; progress = after_lines s }))
 
+turn_says : {P : Type 0} (server : P) (burst : ℕ) (fails : Bool) (s : ListenerState P) →
+    Begins s.progress.outgoing.side (turn server burst fails s).progress.outgoing.side
+unfolding turn
+turn_says server burst fails s =
+    begins_trans
+    (begins_trans (hear_says (Some A) s.a s.progress) (hear_says (Some B) s.b (with_next_receipt (Some A) s.a s.progress)))
+    (asked_says (wanted (after_lines s).arbitration.view) server burst fails
+    (record { port = s.requests; progress = after_lines s }))
+
 turn_sends : {P : Type 0} (server : P) (burst : ℕ) (fails : Bool) (s : ListenerState P) →
     Begins s.requests.sent (turn server burst fails s).requests.sent
 unfolding turn
@@ -138,12 +182,27 @@ is_loop {P} server burst = record {
   none = λ s. refl;
   twice = λ front back s.
       ap (listener s.a s.b s.requests s.progress.arbitration) (front_twice front back s.progress.outgoing);
-  turn = turn_before server burst;
+  turn = λ front. turn_both server burst front [];
   over = λ front s. refl;
   text = λ front s. refl;
   sent = λ front s. refl;
   prints = turn_prints server burst;
   sends = turn_sends server burst;
+}
+
+pub is_beside : {P : Type 0} (server : P) (burst : ℕ) → IsBeside (listening server burst) put_before put_beside side_text
+is_beside {P} server burst = record {
+  nothing = λ s. refl;
+  twice = λ one two s.
+      ap (listener s.a s.b s.requests s.progress.arbitration) (fronts_twice [] one [] two s.progress.outgoing);
+  turn = turn_both server burst [];
+  over = λ said s. refl;
+  text = λ said s. refl;
+  sent = λ said s. refl;
+  swaps = λ said front s. refl;
+  adds = λ said s. refl;
+  same = λ front s. refl;
+  says = turn_says server burst;
 }
 
 -- ---- a turn was made
@@ -216,12 +275,14 @@ finished_is b v w printer same =
     tells_end false (Some end) next printer =
         ne_eqb end next (λ same. let yes = printer.1 (ap Some same) in let no : ⊥ = cc in no)
 
--- a prefix of the text was written
-pub moved_same : {P : Type 0} (a b requests : Port P) (arbitration : Arbitration) (old new : OutgoingState) (front : List ℕ) →
-    old.text ≡ front ++ new.text → new.failures ≡ old.failures →
-    listener a b requests arbitration old ≡ put_before front (listener a b requests arbitration new)
-moved_same a b requests arbitration old new front parts failures =
-    ap (listener a b requests arbitration) (written_front old new front parts failures)
+-- the text for standard error was written, and then a prefix of the text
+pub moved_same : {P : Type 0} (a b requests : Port P) (arbitration : Arbitration) (old mid new : OutgoingState)
+    (front : List ℕ) → mid ≡ said_out old → mid.text ≡ front ++ new.text → new.failures ≡ mid.failures →
+    new.side ≡ mid.side → new.format ≡ mid.format →
+    listener a b requests arbitration old
+    ≡ put_before front (put_beside old.side (listener a b requests arbitration new))
+moved_same a b requests arbitration old mid new front is parts failures side format =
+    ap (listener a b requests arbitration) (said_front old mid new front is parts failures side format)
 
 -- ---- the last line
 
@@ -232,46 +293,47 @@ pub open_status : (e : Progress) → is_finished e ≡ false → 1 ≡ listener_
 open_status e over = ap (λ (b : Bool). if b then 0 else 1) (sym over)
 
 pub finished_last : (a : Arbitration) (old new : OutgoingState) (v : View) (next : ℕ) → is_finished (progress a old) ≡ true →
-    v ≡ a.view → next ≡ v.next → new ≡ with_more (finished_line next old.failures) old →
-    new ≡ with_more (last_line (progress a old)) old
+    v ≡ a.view → next ≡ v.next → new ≡ with_note (finished_line next old.failures) old →
+    new ≡ with_note (last_line (progress a old)) old
 finished_last a old new v next over same is_next is =
     let e : Progress = progress a old in
     is
-    ∙ ap (λ (n : ℕ). with_more (finished_line n old.failures) old) (is_next ∙ ap (λ (u : View). u.next) same)
-    ∙ ap (λ (b : Bool). with_more (if b then finished_line a.view.next old.failures
+    ∙ ap (λ (n : ℕ). with_note (finished_line n old.failures) old) (is_next ∙ ap (λ (u : View). u.next) same)
+    ∙ ap (λ (b : Bool). with_note (if b then finished_line a.view.next old.failures
     else open_line a.view.next a.view.known old.failures) old) (sym over)
 
 pub open_last : (a : Arbitration) (old new : OutgoingState) (v : View) (next known : ℕ) → is_finished (progress a old) ≡ false →
-    v ≡ a.view → next ≡ v.next → known ≡ v.known → new ≡ with_more (open_line next known old.failures) old →
-    new ≡ with_more (last_line (progress a old)) old
+    v ≡ a.view → next ≡ v.next → known ≡ v.known → new ≡ with_note (open_line next known old.failures) old →
+    new ≡ with_note (last_line (progress a old)) old
 open_last a old new v next known over same is_next is_known is =
     is
-    ∙ ap (λ (n : ℕ). with_more (open_line n known old.failures) old) (is_next ∙ ap (λ (u : View). u.next) same)
-    ∙ ap (λ (n : ℕ). with_more (open_line a.view.next n old.failures) old)
+    ∙ ap (λ (n : ℕ). with_note (open_line n known old.failures) old) (is_next ∙ ap (λ (u : View). u.next) same)
+    ∙ ap (λ (n : ℕ). with_note (open_line a.view.next n old.failures) old)
     (is_known ∙ ap (λ (u : View). u.known) same)
-    ∙ ap (λ (b : Bool). with_more (if b then finished_line a.view.next old.failures
+    ∙ ap (λ (b : Bool). with_note (if b then finished_line a.view.next old.failures
     else open_line a.view.next a.view.known old.failures) old) (sym over)
 
 -- ---- at the end
 
 -- a run that leaves these ports and this arbiter
 abbrev pub Listened : {D P E : Type 0} → Bool → (D → Port P) → P → ℕ → ℕ → ListenerState P → Result ℕ E → Option (List ℕ) →
-    Option (List ℕ) → D → D → D → Arbitration → Type 0
-Listened reporting known server burst turns start result old new a b requests arbitration =
-    Ran (listening server burst) turns start (listened_lines reporting) status
-    (Agrees (known a) (known b) (known requests) arbitration) result old new (known requests).sent
+    Option (List ℕ) → Option (List ℕ) → Option (List ℕ) → D → D → D → Arbitration → Type 0
+Listened reporting known server burst turns start result old new errors_old errors_new a b requests arbitration =
+    RanBeside (listening server burst) side_text turns start (listened_lines reporting) (listened_side reporting) status
+    (Agrees (known a) (known b) (known requests) arbitration) result old new errors_old errors_new (known requests).sent
 
 -- the ports and the arbiter at the end are those that were left
 pub listened_so : {D P E : Type 0} (reporting : Bool) (known : D → Port P) (server : P) (burst turns : ℕ) (start : ListenerState P)
-    (result : Result ℕ E) (old new : Option (List ℕ)) (a a_end b b_end requests requests_end : D)
+    (result : Result ℕ E) (old new errors_old errors_new : Option (List ℕ)) (a a_end b b_end requests requests_end : D)
     (arbitration arbitration_end : Arbitration) → a_end ≡ a → b_end ≡ b → requests_end ≡ requests →
     arbitration_end ≡ arbitration →
-    Listened reporting known server burst turns start result old new a b requests arbitration →
-    Listened reporting known server burst turns start result old new a_end b_end requests_end arbitration_end
-listened_so {D} reporting known server burst turns start result old new a a_end b b_end requests requests_end arbitration
-    arbitration_end is_a is_b is_requests is_arbiter listened =
+    Listened reporting known server burst turns start result old new errors_old errors_new a b requests arbitration →
+    Listened reporting known server burst turns start result old new errors_old errors_new a_end b_end requests_end
+    arbitration_end
+listened_so {D} reporting known server burst turns start result old new errors_old errors_new a a_end b b_end requests
+    requests_end arbitration arbitration_end is_a is_b is_requests is_arbiter listened =
     let leaves : D → D → D → Arbitration → Type 0 =
-    Listened reporting known server burst turns start result old new in
+    Listened reporting known server burst turns start result old new errors_old errors_new in
     subst (λ (d : D). leaves d b_end requests_end arbitration_end) (sym is_a)
     (subst (λ (d : D). leaves a d requests_end arbitration_end) (sym is_b)
     (subst (λ (d : D). leaves a b d arbitration_end) (sym is_requests)

@@ -7,12 +7,14 @@ use Rattle.mold_receiver.specs.Receive.{receive}
 use Rattle.mold_receiver.specs.Wanted.{wanted}
 use Rattle.mold_receiver.specs.declared.line.Line.{Line}
 use Rattle.mold_receiver.specs.declared.line.Line.TheVariants.{A, B}
-use Rattle.mold_turns.specs.Outgoing.{OutgoingState, failed_once, nothing_out, with_front, with_more}
+use Rattle.mold_input.specs.declared.message_format.MessageFormat.{MessageFormat}
+use Rattle.mold_turns.specs.Outgoing.{OutgoingState, failed_once, note_side, note_text, nothing_in, with_both, with_fronts}
+use Rattle.mold_turns.specs.Outgoing.{with_front}
 use Rattle.mold_turns.specs.Runs.{Begins, Loop}
 use Rattle.mold_listen.specs.declared.feed_listener.FeedListener.{FeedListener}
 use Rattle.mold_wire.specs.Request.{request_spelling}
 use Rattle.mold_wire.specs.declared.request.Request.{Request}
-use Rattle.mold_listen.specs.Text.{finished_line, open_line, reports_text, taking_text}
+use Rattle.mold_listen.specs.Text.{finished_line, open_line, reports_text, taking_side, taking_text}
 use Rattle.mold_wire.specs.declared.limits.TheConstants.{MAX_LIMIT}
 
 -- An arbiter, and the outgoing text and failures of the listener.
@@ -29,7 +31,9 @@ progress arbitration outgoing = record { arbitration = arbitration; outgoing = o
 abbrev pub taken : Option Line → List ℕ → Progress → Progress
 taken line bytes e = record {
   arbitration = arbitrates line bytes e.arbitration;
-  outgoing = with_more (taking_text e.arbitration.view.next (receive e.arbitration.view bytes)) e.outgoing;
+  outgoing = with_both
+      (taking_text e.outgoing.format e.arbitration.view.next (receive e.arbitration.view bytes))
+      (taking_side e.outgoing.format (receive e.arbitration.view bytes)) e.outgoing;
 }
 
 -- The progress after a send or receive failed.
@@ -179,9 +183,18 @@ abbrev pub put_before : {P : Type 0} → List ℕ → ListenerState P → Listen
 put_before front s =
     listener s.a s.b s.requests s.progress.arbitration (with_front front s.progress.outgoing)
 
--- The state before the first turn: no text and no failures.
-abbrev pub beginning : {P : Type 0} → Port P → Port P → Port P → Arbitration → ListenerState P
-beginning a b requests arbitration = listener a b requests arbitration nothing_out
+-- The state with `said` put before its text for standard error.
+abbrev pub put_beside : {P : Type 0} → List ℕ → ListenerState P → ListenerState P
+put_beside said s =
+    listener s.a s.b s.requests s.progress.arbitration (with_fronts [] said s.progress.outgoing)
+
+-- All text of the listener for standard error.
+abbrev pub side_text : {P : Type 0} → ListenerState P → List ℕ
+side_text s = s.progress.outgoing.side
+
+-- The state before the first turn: no text and no failures. Messages are printed in this format.
+abbrev pub beginning : {P : Type 0} → MessageFormat → Port P → Port P → Port P → Arbitration → ListenerState P
+beginning format a b requests arbitration = listener a b requests arbitration (nothing_in format)
 
 -- The last line of a listener, which depends on whether it has finished.
 abbrev pub last_line : Progress → List ℕ
@@ -194,14 +207,26 @@ last_line e =
 abbrev pub listener_status : Progress → ℕ
 listener_status e = if is_finished e then 0 else 1
 
--- The last lines of a listener: the reports of both lines, if they were requested, and then its last line.
-abbrev pub last_lines : Bool → Progress → List ℕ
-last_lines reporting e =
+-- What a listener prints at its end: the reports of both lines, if they were requested, and then its last line.
+abbrev pub last_note : Bool → Progress → List ℕ
+last_note reporting e =
     reports_text reporting e.arbitration.reports e.arbitration.view.known ++ last_line e
 
--- The last lines of a listener in the state `s`.
+-- The last lines of a listener on standard output. There are none after blocks.
+abbrev pub last_lines : Bool → Progress → List ℕ
+last_lines reporting e = note_text e.outgoing.format (last_note reporting e)
+
+-- The last lines of a listener on standard error. There are none if messages are printed as lines.
+abbrev pub last_side : Bool → Progress → List ℕ
+last_side reporting e = note_side e.outgoing.format (last_note reporting e)
+
+-- The last lines on standard output of a listener in the state `s`.
 abbrev pub listened_lines : {P : Type 0} → Bool → ListenerState P → List ℕ
 listened_lines reporting s = last_lines reporting s.progress
+
+-- The last lines on standard error of a listener in the state `s`.
+abbrev pub listened_side : {P : Type 0} → Bool → ListenerState P → List ℕ
+listened_side reporting s = last_side reporting s.progress
 
 -- The status of a listener in the state `s`: 0 if it has finished, otherwise 1.
 abbrev pub status : {P : Type 0} → ListenerState P → ℕ

@@ -1,8 +1,8 @@
 //! The last lines that a listener prints: reports of lines A and B, and then its status line.
 
 ghost use Rattle.std.specs.Prelude.{◌≡◌, IfOk, OnOk};
-ghost use Rattle.mold_listen.specs.Listening.{progress, last_lines, listener_status};
-ghost use Rattle.mold_turns.specs.Outgoing.{with_more};
+ghost use Rattle.mold_listen.specs.Listening.{last_note, listener_status, progress};
+ghost use Rattle.mold_turns.specs.Outgoing.{with_note};
 ghost use Rattle.mold_turns.specs.Runs.{Begins};
 ghost use Rattle.mold_listen.specs.Text.{line_name, report_line, reports_text};
 ghost use Rattle.mold_receiver.specs.Arbiter.{report_on};
@@ -25,7 +25,7 @@ fn name(line: Line) -> &'static [u8]
 
 // Appends the report of a line: what was received on it, and its lag.
 fn push_report(arbiter: &Arbiter, line: Line, outgoing: &mut Outgoing) -> Result<(), AllocError>
-    ensures line { OnOk result (outgoing.new ≡ with_more
+    ensures line { OnOk result (outgoing.new ≡ with_note
         (report_line line (report_on line arbiter.now.reports) arbiter.now.view.known) outgoing.old) }
     ensures prints { Begins outgoing.old.text outgoing.new.text }
 {
@@ -42,7 +42,7 @@ fn push_report(arbiter: &Arbiter, line: Line, outgoing: &mut Outgoing) -> Result
         Word::Text(b"lag"),
         Word::Number(arbiter.lag(line)),
     ];
-    outgoing.push_line(&words)
+    outgoing.push_note(&words)
 }
 
 // Appends the reports of both lines if `reporting` is set.
@@ -51,7 +51,7 @@ fn push_reports(
     reporting: bool,
     outgoing: &mut Outgoing,
 ) -> Result<(), AllocError>
-    ensures lines { OnOk result (outgoing.new ≡ with_more
+    ensures lines { OnOk result (outgoing.new ≡ with_note
         (reports_text reporting arbiter.now.reports arbiter.now.view.known) outgoing.old) }
     ensures prints { Begins outgoing.old.text outgoing.new.text }
 {
@@ -70,8 +70,8 @@ pub fn push_end(
     outgoing: &mut Outgoing,
 ) -> Result<u8, AllocError>
     ensures status { IfOk result (λ status. status ≡ listener_status (progress arbiter.now outgoing.old)) }
-    ensures lines { OnOk result (outgoing.new ≡ with_more
-        (last_lines reporting (progress arbiter.now outgoing.old)) outgoing.old) }
+    ensures lines { OnOk result (outgoing.new ≡ with_note
+        (last_note reporting (progress arbiter.now outgoing.old)) outgoing.old) }
     ensures prints { Begins outgoing.old.text outgoing.new.text }
 {
     push_reports(arbiter, reporting, outgoing)?;

@@ -1,14 +1,14 @@
 //! The listener at work: it receives on two lines, requests missing messages, and prints what the arbiter delivers.
 
-ghost use Rattle.std.specs.Prelude.{◌≡◌, ◌⊎◌, true, length, IfErr, OnErr, OnOk};
+ghost use Rattle.std.specs.Prelude.{◌≡◌, ◌⊎◌, [], true, length, IfErr, OnErr, OnOk};
 ghost use Rattle.std.specs.Io.KnownBytes.{Appends};
-ghost use Rattle.mold_devices.specs.Faults.{CountsSink};
 ghost use Rattle.mold_listen.specs.Listening.{Agrees, HasAsked, HasTurned, IsInNextTurn, IsSame, asking_state};
-ghost use Rattle.mold_listen.specs.Listening.{listened_lines, listening, put_before, receive_responses, receives};
-ghost use Rattle.mold_listen.specs.Listening.{state, status};
+ghost use Rattle.mold_listen.specs.Listening.{listened_lines, listened_side, listening, put_before, put_beside};
+ghost use Rattle.mold_listen.specs.Listening.{receive_responses, receives, side_text, state, status};
 ghost use Rattle.mold_ports.specs.Ports.{received};
 ghost use Rattle.mold_turns.specs.Outgoing.{IsBounded};
-ghost use Rattle.mold_turns.specs.Runs.{Begins, Ran, Rests, TurnRests, WrittenInTime};
+ghost use Rattle.mold_turns.specs.Runs.{Begins, WrittenInTime};
+ghost use Rattle.mold_turns.specs.Sides.{CountsSinks, RanBeside, RestsBeside, TurnRestsBeside};
 ghost use Rattle.mold_receiver.specs.Wanted.{wanted};
 ghost use Rattle.mold_wire.specs.declared.limits.TheConstants.{MAX_LIMIT};
 
@@ -112,50 +112,56 @@ impl<'a, D: Datagrams> FeedListener<'a, D> {
         self.ask(server, burst, buffer)
     }
 
-    // Makes one turn. Then writes the text if it has at least 65,536 bytes or the sink is live. If the turn fails,
-    // writes the text of the turns before it.
-    fn write_turn<K: Sink>(
+    // Makes one turn. Then writes the text for standard error, and the text if it has at least 65,536 bytes or the sink
+    // is live. If the turn fails, writes the text of the turns before it.
+    fn write_turn<K: Sink, E: Sink>(
         &mut self,
-        server: D::Peer,
-        burst: u16,
+        options: ListenOptions<D::Peer>,
         buffer: &mut [u8],
         sink: &mut K,
+        errors: &mut E,
     ) -> Result<(), CommandFault>
         requires { length buffer.old ≡ MAX_LIMIT }
         ensures run { D.modeled ≡ true →
-            TurnRests (listening server burst) put_before (state D.port self.old)
-            result (K.held sink.old) (K.held sink.new) (state D.port self.new) }
+            TurnRestsBeside (listening options.server options.burst) put_before put_beside side_text
+            (state D.port self.old) result (K.held sink.old) (K.held sink.new) (E.held errors.old) (E.held errors.new)
+            (state D.port self.new) }
         ensures a { D.modeled ≡ true → D.port self.new.a.now ≡ received (D.port self.old.a.now) }
         ensures b { D.modeled ≡ true → (D.port self.new.b.now ≡ D.port self.old.b.now)
             ⊎ (D.port self.new.b.now ≡ received (D.port self.old.b.now)) }
         ensures bounded { OnOk result (IsBounded (K.live sink.old) self.new.printer.now.outgoing.text) }
+        ensures said { OnOk result (self.new.printer.now.outgoing.side ≡ []) }
         ensures kept { IfErr result (λ fault. fault ≡ CommandFault.Memory →
             Appends (K.held sink.old) (K.held sink.new) self.old.printer.now.outgoing.text) }
         ensures live { K.live sink.new ≡ K.live sink.old }
         ensures same { IsSame self.old self.new }
-        ensures sink { CountsSink (K.failed sink.old) (K.failed sink.new) result }
+        ensures sinks { CountsSinks (K.failed sink.old) (K.failed sink.new) (E.failed errors.old) (E.failed errors.new)
+            result }
     {
         let told = self.printer.outgoing.unwritten();
-        let Ok(()) = self.take_turn(server, burst, buffer) else {
+        let Ok(()) = self.take_turn(options.server, options.burst, buffer) else {
             let outgoing = &mut self.printer.outgoing;
             return Err(outgoing.end_with(told, CommandFault::Memory, sink));
         };
+        self.printer.outgoing.send_side(errors)?;
         self.printer.outgoing.send_large(sink)?;
         Ok(())
     }
 
     // Makes at most `options.turns` turns. Stops after the first turn after which the receiver is finished. Text that
     // is too short for a large write is kept for a later write.
-    fn take_turns<K: Sink>(
+    fn take_turns<K: Sink, E: Sink>(
         &mut self,
         options: ListenOptions<D::Peer>,
         buffer: &mut [u8],
         sink: &mut K,
+        errors: &mut E,
     ) -> Result<(), CommandFault>
         requires { length buffer.old ≡ MAX_LIMIT }
         ensures run { D.modeled ≡ true →
-            Rests (listening options.server options.burst) put_before options.turns (state D.port self.old)
-            result (K.held sink.old) (K.held sink.new) (state D.port self.new) }
+            RestsBeside (listening options.server options.burst) put_before put_beside side_text options.turns
+            (state D.port self.old) result (K.held sink.old) (K.held sink.new) (E.held errors.old) (E.held errors.new)
+            (state D.port self.new) }
         ensures bounded { OnOk result (IsBounded (K.live sink.old) self.old.printer.now.outgoing.text →
             IsBounded (K.live sink.old) self.new.printer.now.outgoing.text) }
         ensures timely { OnErr result (D.modeled ≡ true →
@@ -164,10 +170,11 @@ impl<'a, D: Datagrams> FeedListener<'a, D> {
             (K.held sink.old) (K.held sink.new) (IsInNextTurn (D.port self.new.a.now) (D.port self.new.b.now))) }
         ensures live { K.live sink.new ≡ K.live sink.old }
         ensures same { IsSame self.old self.new }
-        ensures sink { CountsSink (K.failed sink.old) (K.failed sink.new) result }
+        ensures sinks { CountsSinks (K.failed sink.old) (K.failed sink.new) (E.failed errors.old) (E.failed errors.new)
+            result }
     {
         for _turn in 0..options.turns {
-            self.write_turn(options.server, options.burst, buffer, sink)?;
+            self.write_turn(options, buffer, sink, errors)?;
             if self.arbiter.receiver().finished() {
                 return Ok(());
             }
@@ -177,31 +184,35 @@ impl<'a, D: Datagrams> FeedListener<'a, D> {
 
     /// Makes the turns, prints the requested reports of the lines and the last line, and returns the status: 0
     /// finished, 1 open. `buffer` has `MAX_LIMIT` bytes.
-    pub(crate) fn listen<K: Sink>(
+    pub(crate) fn listen<K: Sink, E: Sink>(
         &mut self,
         options: ListenOptions<D::Peer>,
         buffer: &mut [u8],
         sink: &mut K,
+        errors: &mut E,
     ) -> Result<u8, CommandFault>
         requires { length buffer.old ≡ MAX_LIMIT }
         ensures run { D.modeled ≡ true →
-            Ran (listening options.server options.burst) options.turns (state D.port self.old)
-            (listened_lines options.reporting) status
+            RanBeside (listening options.server options.burst) side_text options.turns (state D.port self.old)
+            (listened_lines options.reporting) (listened_side options.reporting) status
             (Agrees (D.port self.new.a.now) (D.port self.new.b.now) (D.port self.new.requests.now) self.new.arbiter.now)
-            result (K.held sink.old) (K.held sink.new) (D.port self.new.requests.now).sent }
+            result (K.held sink.old) (K.held sink.new) (E.held errors.old) (E.held errors.new)
+            (D.port self.new.requests.now).sent }
         ensures timely { OnErr result (D.modeled ≡ true →
             IsBounded (K.live sink.old) self.old.printer.now.outgoing.text →
             WrittenInTime (listening options.server options.burst) (state D.port self.old) (K.live sink.old)
             (K.held sink.old) (K.held sink.new) (IsInNextTurn (D.port self.new.a.now) (D.port self.new.b.now))) }
         ensures same { IsSame self.old self.new }
-        ensures sink { CountsSink (K.failed sink.old) (K.failed sink.new) result }
+        ensures sinks { CountsSinks (K.failed sink.old) (K.failed sink.new) (E.failed errors.old) (E.failed errors.new)
+            result }
     {
-        self.take_turns(options, buffer, sink)?;
+        self.take_turns(options, buffer, sink, errors)?;
         let outgoing = &mut self.printer.outgoing;
         let told = outgoing.unwritten();
         let Ok(status) = push_end(self.arbiter, options.reporting, outgoing) else {
             return Err(outgoing.end_with(told, CommandFault::Memory, sink));
         };
+        outgoing.send_side(errors)?;
         outgoing.send(sink)?;
         Ok(status)
     }

@@ -1,7 +1,9 @@
-//! The lines that are printed for delivered messages.
+//! The text that is printed for delivered messages: lines or blocks.
 
 ghost use Rattle.std.specs.Prelude.{◌≡◌, ◌++◌, ◌+◌, ◌≤◌, length, take, OnErr, OnOk};
+ghost use Rattle.mold_input.specs.declared.message_format.MessageFormat.TheVariants.{Blocks, BlocksToEmpty, Lines};
 ghost use Rattle.mold_listen.specs.Text.{handed_text};
+ghost use Rattle.mold_wire.specs.Block.{be16, block};
 
 use mold_receiver::Batch;
 use mold_text::{Word, line_room, write_line};
@@ -28,8 +30,9 @@ fn make_room(out: &mut Vec<u8>, at: usize, room: usize) -> Result<(), AllocError
 /// Room is made for many lines at once. An error means out of memory; the bytes after the former text are then
 /// meaningless.
 #[tactic(auto, unfolding(crate::specs::Text::handed_text))]
-pub(crate) fn push_handed(out: &mut Vec<u8>, batch: &Batch) -> Result<(), AllocError>
-    ensures text { OnOk result (out.new.items ≡ out.old.items ++ handed_text batch.now.first batch.now.messages) }
+pub(crate) fn push_lines(out: &mut Vec<u8>, batch: &Batch) -> Result<(), AllocError>
+    ensures text { OnOk result
+        (out.new.items ≡ out.old.items ++ handed_text Lines batch.now.first batch.now.messages) }
     ensures kept { OnErr result (take (length out.old.items) out.new.items ≡ out.old.items) }
 {
     let (Some(first), Some(after)) = (batch.first(), batch.after()) else {
@@ -44,5 +47,43 @@ pub(crate) fn push_handed(out: &mut Vec<u8>, batch: &Batch) -> Result<(), AllocE
         }
     }
     out.truncate(at);
+    Ok(())
+}
+
+// The length of a message as the two bytes at the start of its block.
+fn length_bytes(message: &[u8]) -> [u8; 2]
+    ensures { result ≡ be16 (length message.now) }
+{
+    let len = message.len();
+    [(len / 256 % 256) as u8, (len % 256) as u8]
+}
+
+// Appends the block of a message.
+fn push_block(out: &mut Vec<u8>, message: &[u8]) -> Result<(), AllocError>
+    ensures text { OnOk result (out.new.items ≡ out.old.items ++ block message.now) }
+    ensures kept { OnErr result (take (length out.old.items) out.new.items ≡ out.old.items) }
+{
+    out.extend_from_slice(&length_bytes(message))?;
+    out.extend_from_slice(message)
+}
+
+/// Appends the block of each message of the batch. An error means out of memory; the bytes after the former text are
+/// then meaningless.
+#[tactic(auto, unfolding(crate::specs::Text::handed_text))]
+pub(crate) fn push_blocks(out: &mut Vec<u8>, batch: &Batch) -> Result<(), AllocError>
+    ensures text { OnOk result
+        (out.new.items ≡ out.old.items ++ handed_text Blocks batch.now.first batch.now.messages) }
+    ensures marked { OnOk result
+        (out.new.items ≡ out.old.items ++ handed_text BlocksToEmpty batch.now.first batch.now.messages) }
+    ensures kept { OnErr result (take (length out.old.items) out.new.items ≡ out.old.items) }
+{
+    let (Some(first), Some(after)) = (batch.first(), batch.after()) else {
+        return Ok(());
+    };
+    for number in first..after {
+        if let Some(message) = batch.get((number - first) as usize) {
+            push_block(out, message)?;
+        }
+    }
     Ok(())
 }

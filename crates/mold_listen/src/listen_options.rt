@@ -1,5 +1,7 @@
 //! The options of a listener.
 
+use mold_input::MessageFormat;
+
 /// The options of a listener.
 #[derive(Clone, Copy)]
 pub struct ListenOptions<P: Copy> {
@@ -11,4 +13,6 @@ pub struct ListenOptions<P: Copy> {
     pub turns: u64,
     /// Whether reports of both lines are printed before the last line.
     pub reporting: bool,
+    /// The format in which messages are printed.
+    pub format: MessageFormat,
 }

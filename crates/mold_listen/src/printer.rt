@@ -3,32 +3,45 @@
 ghost use Rattle.std.specs.Prelude.{◌≡◌, length, take, OnErr, OnOk};
 ghost use Rattle.mold_listen.specs.Listening.{progress, taken};
 ghost use Rattle.mold_listen.specs.Text.{handed_text};
-ghost use Rattle.mold_turns.specs.Outgoing.{nothing_out, with_more};
+ghost use Rattle.mold_turns.specs.Outgoing.{nothing_in, with_more, with_note};
 ghost use Rattle.mold_turns.specs.Runs.{Begins};
 ghost use Rattle.mold_receiver.specs.Origin.{line_of};
 ghost use Rattle.mold_text.specs.Text.{refusal_words, refused_line};
 
-use crate::handed::push_handed;
+use crate::handed::{push_blocks, push_lines};
+use mold_input::MessageFormat;
 use mold_receiver::{Arbiter, Batch, Origin, Refusal};
 use mold_text::{Word, push_refusal};
 use mold_turns::Outgoing;
 use std::alloc::{AllocError, Global};
 
-// Appends a line for each message of the batch.
+// Appends a line or a block for each message of the batch.
 fn print_handed(outgoing: &mut Outgoing, batch: &Batch) -> Result<(), AllocError>
-    ensures text { OnOk result
-        (outgoing.new ≡ with_more (handed_text batch.now.first batch.now.messages) outgoing.old) }
+    ensures text { OnOk result (outgoing.new
+        ≡ with_more (handed_text outgoing.old.format batch.now.first batch.now.messages) outgoing.old) }
     ensures kept { OnErr result (take (length outgoing.old.text) outgoing.new.text ≡ outgoing.old.text) }
 {
-    push_handed(&mut outgoing.text, batch)
+    match outgoing.format() {
+        MessageFormat::Lines => push_lines(&mut outgoing.text, batch),
+        MessageFormat::Blocks => push_blocks(&mut outgoing.text, batch),
+        MessageFormat::BlocksToEmpty => push_blocks(&mut outgoing.text, batch),
+    }
 }
 
 // Appends the line of a refused datagram.
 fn print_refused(outgoing: &mut Outgoing, why: Refusal) -> Result<(), AllocError>
-    ensures text { OnOk result (outgoing.new ≡ with_more (refused_line (refusal_words why)) outgoing.old) }
+    ensures text { OnOk result (outgoing.new ≡ with_note (refused_line (refusal_words why)) outgoing.old) }
     ensures kept { OnErr result (take (length outgoing.old.text) outgoing.new.text ≡ outgoing.old.text) }
 {
-    push_refusal(&mut outgoing.text, &[Word::Text(b"refused")], why)
+    let words = [Word::Text(b"refused")];
+    match outgoing.format() {
+        MessageFormat::Lines => push_refusal(&mut outgoing.text, &words, why),
+        MessageFormat::Blocks | MessageFormat::BlocksToEmpty => push_refusal(
+            &mut outgoing.side,
+            &words,
+            why,
+        ),
+    }
 }
 
 /// The text that a listener still has to print, and the batch that a datagram's messages are delivered in.
@@ -41,13 +54,13 @@ pub struct Printer {
 }
 
 impl Printer {
-    /// Returns a printer without text and failures. This allocates no memory.
-    pub fn new(alloc: Global) -> Printer
-        ensures { result.outgoing ≡ nothing_out }
+    /// Returns a printer without text and failures that prints messages in this format. This allocates no memory.
+    pub fn new(alloc: Global, format: MessageFormat) -> Printer
+        ensures { result.outgoing ≡ nothing_in format }
     {
         Printer {
             batch: Batch::new(alloc),
-            outgoing: Outgoing::new(alloc),
+            outgoing: Outgoing::with_format(alloc, format),
         }
     }
 

@@ -15,8 +15,9 @@ use Rattle.mold_session.specs.Publisher.{Lends}
 use Rattle.mold_wire.specs.declared.packet.Packet.{Packet}
 use Rattle.mold_send.proofs.SendingLemmas.{lent_none}
 use Rattle.mold_turns.proofs.RunLemmas.{IsLoop, begins_behind, begins_more, begins_trans, begins_whole, grows_in, none_ok, on_ok}
-use Rattle.mold_listen.proofs.TurnLemmas.{hear_before, hear_prints, hearing_before}
-use Rattle.mold_turns.specs.Outgoing.{OutgoingState}
+use Rattle.mold_listen.proofs.TurnLemmas.{hear_both, hear_prints, hearing_both}
+use Rattle.mold_turns.specs.Outgoing.{OutgoingState, with_front}
+use Rattle.mold_turns.proofs.OutgoingLemmas.{front_twice, written_front}
 use Rattle.mold_listen.specs.Listening.{Progress}
 use Rattle.mold_loop.specs.Looping.{ComesOfBoth, HasPassed, LineState, Outcome, LeftOut, Failed, PassRests, Sent}
 use Rattle.mold_loop.specs.Looping.{Pass, goes_out, after_line_if, after_routes, is_sent, line_state, offered_by, passed, passing, port_after}
@@ -85,8 +86,7 @@ passed_not drops number a b packet result s lends =
 -- ---- passing is a loop
 
 outgoing_before : (front : List ℕ) (o : Outcome) (r : OutgoingState) →
-    outgoing_after o (record { text = front ++ r.text; failures = r.failures })
-    ≡ record { text = front ++ (outgoing_after o r).text; failures = (outgoing_after o r).failures }
+    outgoing_after o (with_front front r) ≡ with_front front (outgoing_after o r)
 outgoing_before front LeftOut r = refl
 outgoing_before front Failed r = refl
 outgoing_before front Sent r = refl
@@ -100,9 +100,9 @@ offered_before {P} front a b pass s =
     ∙ ap of (outgoing_before front pass.b (outgoing_after pass.a s.progress.outgoing))
 
 received_if_before : {P : Type 0} (front : List ℕ) (on : Bool) (line : Line) (port : Port P) (e : Progress) →
-    after_line_if on line port (hearing_before front e) ≡ hearing_before front (after_line_if on line port e)
+    after_line_if on line port (hearing_both front [] e) ≡ hearing_both front [] (after_line_if on line port e)
 received_if_before front false line port e = refl
-received_if_before front true line port e = hear_before front (Some line) port e
+received_if_before front true line port e = hear_both front [] (Some line) port e
 
 received_on_before : {P : Type 0} (front : List ℕ) (lines : Routes) (s : LineState P) →
     after_routes lines (text_front front s) ≡ text_front front (after_routes lines s)
@@ -157,8 +157,8 @@ pub passes_are : {P : Type 0} (a b : P) → IsLoop (passing a b) text_front
 passes_are {P} a b = record {
   none = λ s. refl;
   twice = λ front back s.
-      ap {B = LineState P} (λ (t : List ℕ). line_state s.publisher s.a s.b s.progress.arbitration
-      (record { text = t; failures = s.progress.outgoing.failures })) (sym (append_assoc front back s.progress.outgoing.text));
+      ap {B = LineState P} (line_state s.publisher s.a s.b s.progress.arbitration)
+      (front_twice front back s.progress.outgoing);
   turn = passed_before a b;
   over = λ front s. refl;
   text = λ front s. refl;
@@ -358,9 +358,7 @@ received_still a b {xs} {before} {now} {old} {new} with_receipt =
 
 -- the text written is a prefix of the text of the state
 pub lines_moved : {P : Type 0} (publisher a b : Port P) (arbitration : Arbitration) (old new : OutgoingState) (front : List ℕ) →
-    old.text ≡ front ++ new.text → new.failures ≡ old.failures →
+    old.text ≡ front ++ new.text → new.failures ≡ old.failures → new.side ≡ old.side → new.format ≡ old.format →
     line_state publisher a b arbitration old ≡ text_front front (line_state publisher a b arbitration new)
-lines_moved publisher a b arbitration old new front parts failures =
-    ap (λ (t : List ℕ). line_state publisher a b arbitration (record { text = t; failures = old.failures })) parts
-    ∙ ap (λ (n : ℕ). line_state publisher a b arbitration (record { text = front ++ new.text; failures = n }))
-    (sym failures)
+lines_moved publisher a b arbitration old new front parts failures side format =
+    ap (line_state publisher a b arbitration) (written_front old new front parts failures side format)

@@ -17,9 +17,9 @@ use Rattle.mold_session.specs.Server.{ServerState}
 use Rattle.mold_loop.proofs.HeardLemmas.{Heard, received_more, received_failed, routed_more}
 use Rattle.mold_send.proofs.SendingLemmas.{any_known}
 use Rattle.mold_turns.proofs.RunLemmas.{begins_more, begins_none, begins_trans, begins_whole}
-use Rattle.mold_turns.specs.Outgoing.{OutgoingState, written_out}
+use Rattle.mold_turns.specs.Outgoing.{OutgoingState}
 use Rattle.mold_listen.specs.Listening.{progress, last_lines, listener_status}
-use Rattle.mold_loop.specs.Looping.{IsData, LineState, LoopRun, PassRests, ReceivesMessages}
+use Rattle.mold_loop.specs.Looping.{HasWritten, IsData, LineState, LoopRun, PassRests, ReceivesMessages}
 use Rattle.mold_loop.specs.Looping.{with_progress}
 use Rattle.mold_loop.specs.Passing.{all_routed, routed, routed_end}
 use Rattle.mold_send.specs.PublishLoop.{closed_unless, data_after, left_journal}
@@ -127,7 +127,7 @@ pub loop_stopped : {P E F : Type 0} (reporting : Bool) (drops : Drops) (a b to :
     AppendsPrefix mid new (here.progress.outgoing.text ++ refused_text number why) →
     IfOk result (λ status. Appends mid new (here.progress.outgoing.text ++ refused_text number why) × (status ≡ 2)) →
     LoopStands lines_left here rounds_left (with_progress here.progress rounds) →
-    OnOk result (rounds_left.progress.outgoing ≡ written_out here.progress.outgoing) →
+    OnOk result (HasWritten here.progress.outgoing rounds_left.progress.outgoing) →
     IfSome known (λ input. LoopRun reporting drops a b to turns start.limit start.sent
     (input_published start.journal input) server lines rounds result old new lines_left rounds_left)
 loop_stopped {P} reporting drops a b to turns start now server lines rounds known why number result old mid new here left asked
@@ -246,7 +246,7 @@ pub loop_done : {P T U E F G H : Type 0} (reporting : Bool) (drops : Drops) (a b
     IfOk result (λ status. Appends second new (behind.progress.outgoing.text ++ last_lines reporting behind.progress)
     × (status ≡ listener_status behind.progress)) →
     LoopStands lines_left there rounds_left behind →
-    OnOk result (rounds_left.progress.outgoing ≡ written_out behind.progress.outgoing) →
+    OnOk result (HasWritten behind.progress.outgoing rounds_left.progress.outgoing) →
     IfSome known (λ input. LoopRun reporting drops a b to turns start.limit start.sent
     (input_published start.journal input) server lines rounds result old new lines_left rounds_left)
 loop_done reporting drops a b to turns start now server lines rounds known v done result old first mid next new here there left made

@@ -18,10 +18,9 @@ use Rattle.mold_loop.proofs.RepairLemmas.{round_answers, rounds_are}
 use Rattle.mold_turns.proofs.RunLemmas.{begins_behind, begins_more, begins_trans, begins_whole, grows_in, none_answered, none_ok}
 use Rattle.mold_listen.proofs.TurnLemmas.{hearing_before}
 use Rattle.mold_listen.specs.Listening.{Progress}
-use Rattle.mold_loop.specs.Looping.{LineState, LoopRun, Outcome, LeftOut, Sent, Pass}
+use Rattle.mold_loop.specs.Looping.{HasWritten, LineState, LoopRun, Outcome, LeftOut, Sent, Pass}
 use Rattle.mold_loop.specs.Looping.{goes_out, lines_after, loop_lines, loop_status, loop_text, passing}
 use Rattle.mold_loop.specs.Looping.{rounds_after, rounds_made, routed_by, text_front, with_progress}
-use Rattle.mold_turns.specs.Outgoing.{written_out}
 use Rattle.mold_loop.specs.Passing.{all_routed}
 use Rattle.mold_send.specs.PublishLoop.{left_journal}
 use Rattle.mold_loop.specs.Repairing.{RepairState, answers_sent, repairing, text_before}
@@ -191,7 +190,7 @@ module _ {P : Type 0} {reporting : Bool} (drops : Drops) (a b to : P) (turns lim
       IfOk result (λ status. Appends second new (loop_text reporting published now.progress)
       × (status ≡ loop_status published.refused now.progress)) →
       LoopStands lines_left mid rounds_left now →
-      OnOk result (rounds_left.progress.outgoing ≡ written_out now.progress.outgoing) →
+      OnOk result (HasWritten now.progress.outgoing rounds_left.progress.outgoing) →
       LoopRun reporting drops a b to turns limit sent published server lines rounds result old new lines_left rounds_left
   run_end result mid lines_left now rounds_left old first second new choices written with_receipt counted appended made cut done agrees out =
       let before : List ℕ = with_receipt.written ++ written in
@@ -225,7 +224,9 @@ module _ {P : Type 0} {reporting : Bool} (drops : Drops) (a b to : P) (turns lim
               requests_left = agrees.requests_left ∙ ap (λ (s : RepairState P). s.requests) (sym is);
               answered_left = agrees.answered_left ∙ ap (λ (s : RepairState P). s.answered) (sym is);
               arbiter_left = agrees.arbiter_left ∙ ap (λ (s : RepairState P). s.progress.arbitration) (sym is);
-              outgoing_left = nothing ∙ ap (λ (s : RepairState P). written_out s.progress.outgoing) (sym is);
+              outgoing_left =
+                  subst (λ (s : RepairState P). HasWritten s.progress.outgoing rounds_left.progress.outgoing) (sym is)
+                  (record { text = nothing.text; failures = nothing.failures });
             })
             out;
         front = record {

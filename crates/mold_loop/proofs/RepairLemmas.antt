@@ -23,7 +23,7 @@ use Rattle.mold_listen.proofs.ListenLemmas.{hearing_sends, stepped}
 use Rattle.mold_turns.proofs.OutgoingLemmas.{front_twice, written_front}
 use Rattle.mold_turns.proofs.RunLemmas.{Going, IsLoop, begins_more, begins_whole, none_ok, two_all}
 use Rattle.mold_serve.proofs.ServingLemmas.{serving_is}
-use Rattle.mold_listen.proofs.TurnLemmas.{answers_before, answers_print}
+use Rattle.mold_listen.proofs.TurnLemmas.{answers_both, answers_print}
 
 -- ---- rounds are a loop
 
@@ -32,7 +32,7 @@ repaired_before : {P : Type 0} (service : Service) (front : List ℕ) (fails : L
 repaired_before {P} service front fails s =
     let responder : ResponderState P = served service fails s in
     ap (after_answers responder)
-    (answers_before front responder.tally.answered
+    (answers_both front [] responder.tally.answered
     (record { port = s.requests; progress = missed_more responder.tally.outgoing.failures s.progress }))
 
 requested_before : {P : Type 0} (wish : Option Request) (to : P) (service : Service) (front : List ℕ)
@@ -309,14 +309,15 @@ rests_still {P} to service result start now old new count turns going few none =
 
 -- some text was written
 pub text_moved : {P : Type 0} (server requests : Port P) (answered : ℕ) (arbitration : Arbitration) (old new : OutgoingState)
-    (front : List ℕ) → old.text ≡ front ++ new.text → new.failures ≡ old.failures →
+    (front : List ℕ) → old.text ≡ front ++ new.text → new.failures ≡ old.failures → new.side ≡ old.side →
+    new.format ≡ old.format →
     record { server = server; requests = requests; answered = answered; progress = progress arbitration old }
     ≡ text_before front
     (record { server = server; requests = requests; answered = answered; progress = progress arbitration new })
-text_moved {P} server requests answered arbitration old new front parts failures =
+text_moved {P} server requests answered arbitration old new front parts failures side format =
     let of : OutgoingState → RepairState P =
     λ r. record { server = server; requests = requests; answered = answered; progress = progress arbitration r } in
-    ap of (written_front old new front parts failures)
+    ap of (written_front old new front parts failures side format)
 
 pub sent_alike : {A : Type 0} {xs ys : List A} → xs ≡ ys → Begins xs ys
 sent_alike {A} {xs} {ys} same = subst (λ (l : List A). Begins xs l) same (begins_whole xs)

@@ -1,6 +1,6 @@
 -- Defines the loop in one process: the passing of the publisher's datagrams, then the rounds of requests. The
 -- datagrams are a run of `passing`, the rounds are a run of `repairing`.
-use Rattle.std.specs.Prelude.{◌≡◌, ℕ, ◌+◌, Bool, true, false, List, ◌++◌, length, map}
+use Rattle.std.specs.Prelude.{◌≡◌, ℕ, ◌+◌, Bool, true, false, List, [], ◌++◌, length, map}
 use Rattle.std.specs.Prelude.{Option, None, Some, Result, IfOk, IfSome, OnOk}
 use Rattle.std.specs.Io.KnownBytes.{Appends}
 use Rattle.mold_devices.specs.Devices.{AppendsPrefix}
@@ -15,7 +15,7 @@ use Rattle.mold_session.specs.Journal.{JournalState}
 use Rattle.mold_session.specs.Publisher.{PublisherState}
 use Rattle.mold_session.specs.Server.{ServerState}
 use Rattle.mold_listen.specs.Listening.{Progress, with_next_receipt, progress, last_lines, listener_status}
-use Rattle.mold_turns.specs.Outgoing.{OutgoingState, failed_once, with_front, written_out}
+use Rattle.mold_turns.specs.Outgoing.{OutgoingState, failed_once, with_front}
 use Rattle.mold_loop.specs.Passing.{all_routed, routed}
 use Rattle.mold_send.specs.PublishLoop.{data_after, left_journal}
 use Rattle.mold_loop.specs.Repairing.{RepairState, repairing}
@@ -226,6 +226,11 @@ loop_status (Some why) e = 2
 abbrev pub loop_text : Bool → PublishedInput → Progress → List ℕ
 loop_text reporting published e = e.outgoing.text ++ loop_lines reporting published.journal published.refused e
 
+-- All text for standard output was written between these states, and the count of failures is the same.
+pub record HasWritten (old new : OutgoingState) : Type 0 where
+  pub text : new.text ≡ []
+  pub failures : new.failures ≡ old.failures
+
 -- The ports, the arbiter and the count of failures are those of `line_end` and `round_end`. All text is written.
 pub record LoopAgrees {P : Type 0} (lines line_end : LineState P) (rounds round_end : RepairState P) : Type 0 where
   pub publisher_left : lines.publisher ≡ line_end.publisher
@@ -235,7 +240,7 @@ pub record LoopAgrees {P : Type 0} (lines line_end : LineState P) (rounds round_
   pub requests_left : rounds.requests ≡ round_end.requests
   pub answered_left : rounds.answered ≡ round_end.answered
   pub arbiter_left : rounds.progress.arbitration ≡ round_end.progress.arbitration
-  pub outgoing_left : rounds.progress.outgoing ≡ written_out round_end.progress.outgoing
+  pub outgoing_left : HasWritten round_end.progress.outgoing rounds.progress.outgoing
 
 -- The state of the lines after the datagrams of `passes`, with their outcomes.
 abbrev pub lines_after : {P : Type 0} → P → P → List Pass → LineState P → LineState P

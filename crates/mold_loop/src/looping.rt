@@ -6,8 +6,8 @@ ghost use Rattle.mold_devices.specs.Devices.{AppendsPrefix};
 ghost use Rattle.mold_devices.specs.Faults.{CountsCommand, CountsSink};
 ghost use Rattle.mold_input.specs.Entries.{known_input};
 ghost use Rattle.mold_listen.specs.Listening.{progress, last_lines, listener_status};
-ghost use Rattle.mold_loop.specs.Looping.{LoopRun, lines_at};
-ghost use Rattle.mold_turns.specs.Outgoing.{IsBounded, written_out};
+ghost use Rattle.mold_loop.specs.Looping.{HasWritten, LoopRun, lines_at};
+ghost use Rattle.mold_turns.specs.Outgoing.{IsBounded};
 ghost use Rattle.mold_loop.specs.Passing.{LoopSends};
 ghost use Rattle.mold_send.specs.PublishLoop.{left_journal};
 ghost use Rattle.mold_loop.specs.Repairing.{rounds_at};
@@ -36,7 +36,7 @@ pub(crate) fn print_refused<K: Sink>(
         Appends (K.held sink.old) (K.held sink.new) (outgoing.old.text ++ refused_text number refusal) × (status ≡ 2)) }
     ensures front { AppendsPrefix (K.held sink.old) (K.held sink.new)
         (outgoing.old.text ++ refused_text number refusal) }
-    ensures left { OnOk result (outgoing.new ≡ written_out outgoing.old) }
+    ensures left { OnOk result (HasWritten outgoing.old outgoing.new) }
     ensures kept { IfErr result (λ fault. fault ≡ CommandFault.Memory →
         Appends (K.held sink.old) (K.held sink.new) outgoing.old.text) }
     ensures sink { CountsSink (K.failed sink.old) (K.failed sink.new) result }
@@ -62,7 +62,7 @@ pub(crate) fn print_last<K: Sink>(
     ensures front { AppendsPrefix (K.held sink.old) (K.held sink.new)
         (listener.old.printer.outgoing.text
         ++ last_lines reporting (progress listener.old.arbiter listener.old.printer.outgoing)) }
-    ensures left { OnOk result (listener.new.printer.outgoing ≡ written_out listener.old.printer.outgoing) }
+    ensures left { OnOk result (HasWritten listener.old.printer.outgoing listener.new.printer.outgoing) }
     ensures arbiter { listener.new.arbiter ≡ listener.old.arbiter }
     ensures kept { IfErr result (λ fault. fault ≡ CommandFault.Memory →
         Appends (K.held sink.old) (K.held sink.new) listener.old.printer.outgoing.text) }

@@ -7,6 +7,7 @@ ghost use Rattle.mold_publish.specs.Publishing.{HasRoom};
 ghost use Rattle.mold_turns.specs.Outgoing.{nothing_out};
 
 use crate::loop_parts::{Drops, Listener, LoopOptions, LoopParts, LoopPeers};
+use mold_input::MessageFormat;
 use mold_listen::Printer;
 use mold_receiver::{Arbiter, Receiver};
 use mold_session::{Publisher, Server};
@@ -52,7 +53,7 @@ fn make_listener(alloc: Global, order: &LoopOrder) -> Result<Listener, AllocErro
     match Receiver::new(alloc, Session(order.session), 1, order.window) {
         Ok(receiver) => Ok(Listener {
             arbiter: Arbiter::new(receiver),
-            printer: Printer::new(alloc),
+            printer: Printer::new(alloc, MessageFormat::Lines),
         }),
         Err(_) => Err(AllocError),
     }

@@ -12,6 +12,8 @@ use Rattle.mold_loop.specs.Looping.{after_line_if, after_routes, lines_after, lo
 use Rattle.mold_loop.specs.Looping.{outgoing_after, passed, port_after, received_if, rounds_made}
 use Rattle.mold_loop.specs.Looping.{routed_by, sent_by, with_progress}
 use Rattle.mold_turns.specs.Outgoing.{OutgoingState}
+use Rattle.mold_input.specs.declared.message_format.MessageFormat.{MessageFormat}
+use Rattle.mold_input.specs.declared.message_format.MessageFormat.TheVariants.{Lines}
 use Rattle.mold_loop_law.specs.Own.{GivesSent, OwnPorts, WasSent}
 use Rattle.mold_loop.specs.Passing.{all_routed, routed, routed_end}
 use Rattle.mold_send.specs.PublishLoop.{after_data, all_datagrams, data_after}
@@ -174,6 +176,12 @@ outcome_text LeftOut outgoing = refl
 outcome_text Failed outgoing = refl
 outcome_text Sent outgoing = refl
 
+outcome_format : (outcome : Outcome) (outgoing : OutgoingState) →
+    (outgoing_after outcome outgoing).format ≡ outgoing.format
+outcome_format LeftOut outgoing = refl
+outcome_format Failed outgoing = refl
+outcome_format Sent outgoing = refl
+
 module _ (journal : JournalState) (Plain : Type 0) (Good : List ℕ → Type 0) (laws : HearingLaws)
     (may : MayCome journal Plain Good) where
   -- ---- one pass
@@ -181,7 +189,7 @@ module _ (journal : JournalState) (Plain : Type 0) (Good : List ℕ → Type 0) 
   line_received : {P : Type 0} (receives : Bool) (line : Line) (port : Port P) (e : Progress) → IsSound journal e →
       GivesOnly Good port → HasHeard journal Plain Good e (after_line_if receives line port e)
   line_received true line port e sound gives = port_received journal Plain Good laws may (Some line) port e sound gives
-  line_received false line port e sound gives = nothing_received journal Plain Good e e sound refl refl
+  line_received false line port e sound gives = nothing_received journal Plain Good e e sound refl refl refl
 
   after_lines : {P : Type 0} (lines : Routes) (s : LineState P) → IsSound journal s.progress → GivesOnly Good s.a →
       GivesOnly Good s.b → HeardLines journal Plain Good s.progress (after_routes lines s)
@@ -202,7 +210,9 @@ module _ (journal : JournalState) (Plain : Type 0) (Good : List ℕ → Type 0) 
       let mid : LineState P = offered_by a b pass s in
       let same : mid.progress.outgoing.text ≡ s.progress.outgoing.text =
       outcome_text pass.b (outgoing_after pass.a s.progress.outgoing) ∙ outcome_text pass.a s.progress.outgoing in
-      let offers = nothing_received journal Plain Good s.progress mid.progress sound refl same in
+      let format : mid.progress.outgoing.format ≡ s.progress.outgoing.format =
+      outcome_format pass.b (outgoing_after pass.a s.progress.outgoing) ∙ outcome_format pass.a s.progress.outgoing in
+      let offers = nothing_received journal Plain Good s.progress mid.progress sound refl same format in
       let hears = after_lines (sent_by pass) mid offers.sound on_a on_b in
       record {
         received =
@@ -215,7 +225,7 @@ module _ (journal : JournalState) (Plain : Type 0) (Good : List ℕ → Type 0) 
   passes_received : {P : Type 0} (a b : P) (passes : List Pass) (s : LineState P) → IsSound journal s.progress →
       GivesOnly Good s.a → GivesOnly Good s.b → HasHeard journal Plain Good s.progress (lines_after a b passes s).progress
   unfolding run
-  passes_received a b [] s sound on_a on_b = nothing_received journal Plain Good s.progress s.progress sound refl refl
+  passes_received a b [] s sound on_a on_b = nothing_received journal Plain Good s.progress s.progress sound refl refl refl
   passes_received {P} a b (pass ∷ passes) s sound on_a on_b =
       let after : LineState P = passed a b pass s in
       let one = pass_received a b pass s sound on_a on_b in
@@ -230,7 +240,7 @@ module _ (journal : JournalState) (Plain : Type 0) (Good : List ℕ → Type 0) 
       let tally = (served service fails s).tally in
       let mid : Progress = missed_more tally.outgoing.failures s.progress in
       let before : Asking P = record { port = s.requests; progress = mid } in
-      let same = nothing_received journal Plain Good s.progress mid sound refl refl in
+      let same = nothing_received journal Plain Good s.progress mid sound refl refl refl in
       let answers = after_responses journal Plain Good laws may tally.answered before same.sound gives in
       record {
         received =
@@ -242,11 +252,11 @@ module _ (journal : JournalState) (Plain : Type 0) (Good : List ℕ → Type 0) 
       (s : RepairState P) → IsSound journal s.progress → GivesOnly Good s.requests →
       HeardRounds journal Plain Good s.progress (requested wish to service choice s)
   requested_received None to service choice s sound gives = record {
-    received = nothing_received journal Plain Good s.progress s.progress sound refl refl;
+    received = nothing_received journal Plain Good s.progress s.progress sound refl refl refl;
     gives = gives;
   }
   requested_received (Some request) to service (true, fails) s sound gives = record {
-    received = nothing_received journal Plain Good s.progress (missed s.progress) sound refl refl;
+    received = nothing_received journal Plain Good s.progress (missed s.progress) sound refl refl refl;
     gives = gives;
   }
   requested_received (Some request) to service (false, fails) s sound gives =
@@ -263,7 +273,7 @@ module _ (journal : JournalState) (Plain : Type 0) (Good : List ℕ → Type 0) 
       IsSound journal s.progress → GivesOnly Good s.requests →
       HasHeard journal Plain Good s.progress (run (repairing to service) choices s).progress
   unfolding run round
-  rounds_received to service [] s sound gives = nothing_received journal Plain Good s.progress s.progress sound refl refl
+  rounds_received to service [] s sound gives = nothing_received journal Plain Good s.progress s.progress sound refl refl refl
   rounds_received {P} to service (choice ∷ choices) s sound gives =
       let after : RepairState P = round to service choice s in
       let one = requested_received (wanted s.progress.arbitration.view) to service choice s sound gives in
@@ -276,7 +286,7 @@ module _ (journal : JournalState) (Plain : Type 0) (Good : List ℕ → Type 0) 
       HasHeard journal Plain Good s.progress (rounds_made refused to service choices s).progress
   made_received None to service choices s sound gives = rounds_received to service choices s sound gives
   made_received (Some why) to service choices s sound gives =
-      nothing_received journal Plain Good s.progress s.progress sound refl refl
+      nothing_received journal Plain Good s.progress s.progress sound refl refl refl
 
 -- ---- the whole loop
 
@@ -353,7 +363,7 @@ module _ {P : Type 0} (laws : LoopLaws P) (reporting : Bool) (drops : Drops) (a 
 
   module _ (first window : ℕ) (least : 1 ≤ first) (most : first ≤ length left.messages + 1)
       (anew : start.progress.arbitration.view ≡ fresh journal.session first window)
-      (blank : start.progress.outgoing.text ≡ []) where
+      (blank : start.progress.outgoing.text ≡ []) (plain : start.progress.outgoing.format ≡ Lines) where
     begins : start.progress.arbitration.view.next ≡ first
     begins = begins_at laws.opening limit journal lines opening first window least most start.progress.arbitration anew
 
@@ -373,15 +383,16 @@ module _ {P : Type 0} (laws : LoopLaws P) (reporting : Bool) (drops : Drops) (a 
     within : end.arbitration.view.next ≤ length left.messages + 1
     within = last_number left end done.sound
 
-    text_is : end.outgoing.text ≡ handed_text first (between left.messages first end.arbitration.view.next)
+    text_is : end.outgoing.text ≡ handed_text Lines first (between left.messages first end.arbitration.view.next)
     text_is =
         let next : ℕ = end.arbitration.view.next in
         done.text
-        ∙ ap (λ (text : List ℕ). text ++ printed_lines_text done.printed_lines) blank
-        ∙ ap (λ (printed_lines : List PrintedLine). printed_lines_text printed_lines) (done.plain tt)
-        ∙ text-handing start.progress.arbitration.view.next
+        ∙ ap (λ (f : MessageFormat). start.progress.outgoing.text ++ printed_lines_text f done.printed_lines) plain
+        ∙ ap (λ (text : List ℕ). text ++ printed_lines_text Lines done.printed_lines) blank
+        ∙ ap (λ (printed_lines : List PrintedLine). printed_lines_text Lines printed_lines) (done.plain tt)
+        ∙ text-handing Lines start.progress.arbitration.view.next
         (between left.messages start.progress.arbitration.view.next next)
-        ∙ ap (λ (n : ℕ). handed_text n (between left.messages n next)) begins
+        ∙ ap (λ (n : ℕ). handed_text Lines n (between left.messages n next)) begins
 
     -- if a line is refused
 
@@ -399,7 +410,7 @@ module _ {P : Type 0} (laws : LoopLaws P) (reporting : Bool) (drops : Drops) (a 
       refused_is =
           let next : ℕ = end.arbitration.view.next in
           text_is
-          ∙ ap (λ (messages : List Message). handed_text first (between messages first next)) same
+          ∙ ap (λ (messages : List Message). handed_text Lines first (between messages first next)) same
           ∙ text_between (take count lines) published.journal.messages first next before.spelled
           ∙ ap (lines_text first) (between_front lines count first next least from
           (let most_of = ap (λ (messages : List Message). length messages) same in omega (arith, most_of, within)))
@@ -448,6 +459,7 @@ module _ {P : Type 0} (laws : LoopLaws P) (reporting : Bool) (drops : Drops) (a 
       comes =
           let many : length lines ≡ length left.messages = spelled_length lines left.messages spelled.spelled in
           record {
+            plain = done.format ∙ plain;
             whole =
                 IfOk-weaker result _ _
                 (λ answer written. (

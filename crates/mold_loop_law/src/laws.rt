@@ -5,6 +5,7 @@ ghost use Rattle.std.specs.Prelude.{◌≡◌, ◌+◌, ◌≤◌, Bool, List, [
 ghost use Rattle.mold_devices.specs.declared.fault.CommandFault.{CommandFault};
 ghost use Rattle.mold_feed.specs.Received.{PrintsLines, PrintsRefused};
 ghost use Rattle.mold_feed.specs.Sent.{IsOpening};
+ghost use Rattle.mold_input.specs.declared.message_format.MessageFormat.TheVariants.{Lines};
 ghost use Rattle.mold_loop.specs.Looping.{LineState, LoopRun};
 ghost use Rattle.mold_loop.specs.Repairing.{RepairState};
 ghost use Rattle.mold_loop.specs.declared.loop_parts.Drops.{Drops};
@@ -22,7 +23,7 @@ use mold_wire::laws::reading_law;
 
 /// Relates the lines that a loop in one process publishes to the lines that it prints.
 ///
-/// The session and the listener are new. The listener starts at a message that will be published, or at the number
+/// The session and the listener are new, and the listener prints lines. The listener starts at a message that will be published, or at the number
 /// after the last one. The ports may lose, repeat and reorder datagrams, but give only what the loop itself sent
 /// (`OwnPorts`).
 ///
@@ -40,7 +41,7 @@ pub fn loop_law<D: Datagrams>()
         IsOpening journal limit → (lines_published journal lines).refused ≡ None →
         IsServer server → journal.max_message ≤ server.max_message →
         1 ≤ first → first ≤ length lines + 1 → start.progress.arbitration.view ≡ fresh journal.session first window →
-        start.progress.outgoing.text ≡ [] → OwnPorts start start_left rounds rounds_left →
+        start.progress.outgoing.text ≡ [] → start.progress.outgoing.format ≡ Lines → OwnPorts start start_left rounds rounds_left →
         LoopRun reporting drops a b to turns limit 0 (lines_published journal lines) server start rounds result old new
         start_left rounds_left → PrintsLines reporting lines first result old new }
     ensures refused { (reporting : Bool) (drops : Drops) (a b to : D.Peer) (turns limit first window : ℕ)
@@ -50,7 +51,7 @@ pub fn loop_law<D: Datagrams>()
         IsOpening journal limit → (lines_published journal lines).refused ≡ Some why →
         1 ≤ first → first ≤ length (lines_published journal lines).journal.messages + 1 →
         start.progress.arbitration.view ≡ fresh journal.session first window →
-        start.progress.outgoing.text ≡ [] → OwnPorts start start_left rounds rounds_left →
+        start.progress.outgoing.text ≡ [] → start.progress.outgoing.format ≡ Lines → OwnPorts start start_left rounds rounds_left →
         LoopRun reporting drops a b to turns limit 0 (lines_published journal lines) server start rounds result old new
         start_left rounds_left →
         PrintsRefused lines (length (lines_published journal lines).journal.messages + 1) why first result old new }

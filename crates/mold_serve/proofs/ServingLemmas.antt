@@ -193,11 +193,12 @@ tally_is port requests same = ap (responder_with port requests) same
 -- if a prefix of the text was written, what was printed and counted is that prefix and the rest
 pub wrote : {P : Type 0} (port : Port P) (before : Tally) (left : OutgoingState) (requests : ℕ) (front : List ℕ) →
     before.outgoing.text ≡ front ++ left.text → left.failures ≡ before.outgoing.failures →
+    left.side ≡ before.outgoing.side → left.format ≡ before.outgoing.format →
     responder_with port requests before ≡ behind front (responder_with port requests (with_outgoing left before))
-wrote port before left requests front parts failures =
+wrote port before left requests front parts failures side format =
     tally_is port requests
     (ap (λ (out : OutgoingState). with_outgoing out before)
-    (written_front before.outgoing left front parts failures))
+    (written_front before.outgoing left front parts failures side format))
 
 -- the server answers from the same journal, with the same limits
 pub same_service : (journal : JournalState) (server first : ServerState) (answered : ℕ) →

@@ -15,12 +15,14 @@ pub(crate) fn listen_options(order: &ListenOrder) -> ListenOptions<SocketAddr>
     ensures burst { result.burst ≡ order.now.burst }
     ensures turns { result.turns ≡ order.now.turns }
     ensures reporting { result.reporting ≡ order.now.report }
+    ensures format { result.format ≡ order.now.output }
 {
     ListenOptions {
         server: peer_address(order.server),
         burst: order.burst,
         turns: u64::from(order.turns),
         reporting: order.report,
+        format: order.output,
     }
 }
 

@@ -105,9 +105,18 @@ fn listen_on(
 {
     let mut arbiter = make_arbiter(rt.alloc(), order)?;
     let mut sink = standard_output(rt, order.live);
+    let mut errors = IntoWrite::new(rt.stderr());
     let options = listen_options(order);
-    let outcome = listen(rt.alloc(), ports, options, &mut arbiter, &mut sink);
-    flushed(outcome, sink.into_inner().flush())
+    let outcome = listen(
+        rt.alloc(),
+        ports,
+        options,
+        &mut arbiter,
+        &mut sink,
+        &mut errors,
+    );
+    let outcome = flushed(outcome, sink.into_inner().flush());
+    flushed(outcome, errors.into_inner().flush())
 }
 
 /// Publishes the messages of standard input on lines A and B, from a port that the system chooses. The order states how

@@ -3,6 +3,7 @@ use Rattle.std.proofs.Common.{◌≡◌, ℕ, ◌+◌, ◌-◌, ◌<◌, Bool, t
 use Rattle.std.proofs.Common.{Option, Result, Ok, Err, refl, sym, ap, subst, ◌∙◌, arith, append_assoc, append-nil}
 use Rattle.std.proofs.Common.{length-append}
 use Rattle.std.proofs.Math.ListN.{length-replicate}
+use Rattle.std.proofs.lemmas.Result.{on_ok_weaker}
 use Rattle.std.specs.Prelude.{IsErr, IfOk, OnErr, OnOk, if◌then◌else◌}
 use Rattle.std.specs.Io.KnownBytes.{Appends}
 use Rattle.std.proofs.KnownBytes.{Appends-nil, Appends-trans}
@@ -10,6 +11,7 @@ use Rattle.mold_devices.specs.Devices.{AppendsPrefix}
 use Rattle.mold_devices.specs.Writing.{Moves}
 use Rattle.mold_turns.specs.Outgoing.{IsBounded}
 use Rattle.mold_turns.specs.Runs.{Loop, run, Begins, Rests, RestsOfTwo, Ran, TurnRests, TurnRestsOfTwo, WrittenInTime}
+use Rattle.mold_turns.specs.Sides.{RanBeside, RestsBeside, TurnRestsBeside}
 
 -- ---- prefixes
 
@@ -496,4 +498,269 @@ module _ {C S M : Type 0} {loop : Loop C S M} {behind : List ℕ → S → S} (i
               appended = subst (λ (t : List ℕ). Appends old new t) (sym all) whole;
             };
             sent = rests.sent;
+          }
+
+-- ---- a loop that also writes to standard error
+
+-- text put before the text for standard error changes only that text, and a turn only appends to it
+pub record IsBeside {C S M : Type 0} (loop : Loop C S M) (behind beside : List ℕ → S → S) (side : S → List ℕ) :
+    Type 0 where
+  pub nothing : (s : S) → beside [] s ≡ s
+  pub twice : (one two : List ℕ) (s : S) → beside one (beside two s) ≡ beside (one ++ two) s
+  pub turn : (said : List ℕ) (choice : C) (s : S) → loop.turn choice (beside said s) ≡ beside said (loop.turn choice s)
+  pub over : (said : List ℕ) (s : S) → loop.over (beside said s) ≡ loop.over s
+  pub text : (said : List ℕ) (s : S) → loop.text (beside said s) ≡ loop.text s
+  pub sent : (said : List ℕ) (s : S) → loop.sent (beside said s) ≡ loop.sent s
+  pub swaps : (said front : List ℕ) (s : S) → beside said (behind front s) ≡ behind front (beside said s)
+  pub adds : (said : List ℕ) (s : S) → side (beside said s) ≡ said ++ side s
+  pub same : (front : List ℕ) (s : S) → side (behind front s) ≡ side s
+  pub says : (choice : C) (s : S) → Begins (side s) (side (loop.turn choice s))
+
+-- `count` turns were made since `start`, and what was written since then to both outputs is known
+pub record GoingBeside {C S M : Type 0} (loop : Loop C S M) (behind beside : List ℕ → S → S) (start : S)
+    (old new errors_old errors_new : Option (List ℕ)) (count : ℕ) (now : S) : Type 0 where
+  pub said : List ℕ
+  pub appended : Appends errors_old errors_new said
+  pub going : Going loop behind start old new count (beside said now)
+
+module _ {C S M : Type 0} {loop : Loop C S M} {behind beside : List ℕ → S → S} {side : S → List ℕ}
+    (is : IsLoop loop behind) (apart : IsBeside loop behind beside side) where
+  -- a turn with text put before on standard error
+  unfoldable pub turn_beside : {T E : Type 0} (result : Result T E) {start now : S} {old new : Option (List ℕ)}
+      (said : List ℕ) → TurnRests loop behind start result old new now →
+      TurnRests loop behind (beside said start) result old new (beside said now)
+  turn_beside result {start} {now} {old} {new} said turned =
+      let made : loop.turn turned.choice (beside said start) ≡ beside said (loop.turn turned.choice start) =
+      apart.turn said turned.choice start in
+      record {
+        choice = turned.choice;
+        written = turned.written;
+        appended = turned.appended;
+        whole =
+            on_ok_weaker result
+            (λ whole. made ∙ ap (beside said) whole ∙ apart.swaps said turned.written now) turned.whole;
+        front =
+            subst (λ (t : List ℕ). Begins turned.written t)
+            (sym (ap loop.text made ∙ apart.text said (loop.turn turned.choice start))) turned.front;
+        sent =
+            subst (λ (l : List M). Begins l (loop.sent (loop.turn turned.choice (beside said start))))
+            (sym (apart.sent said now))
+            (subst (λ (l : List M). Begins (loop.sent now) l)
+            (sym (ap loop.sent made ∙ apart.sent said (loop.turn turned.choice start))) turned.sent);
+      }
+
+  -- before the first turn
+  pub beside_init : (start : S) (held errors : Option (List ℕ)) →
+      GoingBeside loop behind beside start held held errors errors 0 start
+  beside_init start held errors = record {
+    said = [];
+    appended = Appends-nil errors;
+    going =
+        subst (λ (s : S). Going loop behind start held held 0 s) (sym (apart.nothing start))
+        (going_init is start held);
+  }
+
+  -- a turn was made, and the loop goes on
+  pub beside_turned : {T E : Type 0} {value : T} {start now : S}
+      {old mid new errors_old errors_mid errors_new : Option (List ℕ)} {count : ℕ} (after : S) →
+      GoingBeside loop behind beside start old mid errors_old errors_mid count now →
+      TurnRestsBeside {T = T} {E = E} loop behind beside side now (Ok value) mid new errors_mid errors_new after →
+      loop.over after ≡ false → GoingBeside loop behind beside start old new errors_old errors_new (count + 1) after
+  beside_turned {T} {E} {value} {start} {now} {old} {mid} {new} {errors_old} {errors_mid} {errors_new} {count} after
+      going turned on = record {
+        said = going.said ++ turned.said;
+        appended =
+            Appends-trans errors_old errors_mid errors_new going.said turned.said going.appended turned.appended;
+        going =
+            subst (λ (s : S). Going loop behind start old new (count + 1) s) (apart.twice going.said turned.said after)
+            (going_turned is (beside going.said (beside turned.said after)) going.going
+            (turn_beside {T = T} {E = E} (Ok value) going.said turned.turn)
+            (apart.over going.said (beside turned.said after) ∙ apart.over turned.said after ∙ on));
+      }
+
+  -- after a success, what was written to standard error is a prefix of the run's text there
+  said_begins : {T E : Type 0} {value : T} {start now : S} {old new : Option (List ℕ)} {turns : ℕ} (said : List ℕ)
+      (rests : Rests {T = T} {E = E} loop behind turns start (Ok value) old new (beside said now)) →
+      Begins said (side (run loop rests.choices start))
+  said_begins {now = now} said rests =
+      subst (λ (t : List ℕ). Begins said t)
+      (sym (ap side rests.whole ∙ apart.same rests.written (beside said now) ∙ apart.adds said now))
+      (begins_more said (side now))
+
+  -- the loop ended after a turn
+  pub beside_rests_turned : {T E U F : Type 0} {last : T} {value : U} {start now : S}
+      {old mid new errors_old errors_mid errors_new : Option (List ℕ)} {count : ℕ} (turns : ℕ) (after : S) →
+      GoingBeside loop behind beside start old mid errors_old errors_mid count now → count < turns →
+      TurnRestsBeside {T = U} {E = F} loop behind beside side now (Ok value) mid new errors_mid errors_new after →
+      loop.over after ≡ true →
+      RestsBeside {T = T} {E = E} loop behind beside side turns start (Ok last) old new errors_old errors_new after
+  beside_rests_turned {T} {E} {U} {F} {last} {value} {start} {now} {old} {mid} {new} {errors_old} {errors_mid}
+      {errors_new} {count} turns after going few turned over =
+      let said : List ℕ = going.said ++ turned.said in
+      let rests : Rests {T = T} {E = E} loop behind turns start (Ok last) old new (beside said after) =
+      subst (λ (s : S). Rests {T = T} {E = E} loop behind turns start (Ok last) old new s)
+      (apart.twice going.said turned.said after)
+      (rests_turned is {T = T} {E = E} {U = U} {F = F} (Ok last) turns (beside going.said (beside turned.said after)) going.going few
+      (turn_beside {T = U} {E = F} (Ok value) going.said turned.turn)
+      (apart.over going.said (beside turned.said after) ∙ apart.over turned.said after ∙ over)) in
+      record {
+        said = said;
+        appended =
+            Appends-trans errors_old errors_mid errors_new going.said turned.said going.appended turned.appended;
+        rests = rests;
+        front = said_begins said rests;
+      }
+
+  -- all turns were made
+  pub beside_rests_all : {T E : Type 0} {last : T} {start now : S} {old new errors_old errors_new : Option (List ℕ)}
+      {count : ℕ} (turns : ℕ) → count ≡ turns →
+      GoingBeside loop behind beside start old new errors_old errors_new count now →
+      RestsBeside {T = T} {E = E} loop behind beside side turns start (Ok last) old new errors_old errors_new now
+  beside_rests_all {T} {E} {last} {start} {now} {old} {new} {errors_old} {errors_new} {count} turns made going =
+      let rests : Rests {T = T} {E = E} loop behind turns start (Ok last) old new (beside going.said now) =
+      rests_all is {T = T} {E = E} (Ok last) turns made going.going in
+      record { said = going.said; appended = going.appended; rests = rests; front = said_begins going.said rests }
+
+  -- a turn, or a write after it, ended in a fault
+  pub beside_rests_broken : {T E U F : Type 0} (result : Result T E) (inner : Result U F) {start now : S}
+      {old mid new errors_old errors_mid errors_new : Option (List ℕ)} {count : ℕ} (turns : ℕ) (after : S) →
+      GoingBeside loop behind beside start old mid errors_old errors_mid count now → count < turns →
+      TurnRestsBeside loop behind beside side now inner mid new errors_mid errors_new after → IsErr result →
+      RestsBeside loop behind beside side turns start result old new errors_old errors_new after
+  unfolding rests_broken filled turn_beside
+  beside_rests_broken result inner {start} {now} {old} {mid} {new} {errors_old} {errors_mid} {errors_new} {count} turns
+      after going few turned failed =
+      let choice : C = turned.turn.choice in
+      let fill : List C = replicate (turns - (count + 1)) choice in
+      let here : S = behind going.going.written (beside going.said now) in
+      let rests : Rests loop behind turns start result old new (beside going.said (beside turned.said after)) =
+      rests_broken is result inner turns (beside going.said (beside turned.said after)) going.going few
+      (turn_beside inner going.said turned.turn) failed in
+      record {
+        said = going.said ++ turned.said;
+        appended =
+            Appends-trans errors_old errors_mid errors_new going.said turned.said going.appended turned.appended;
+        rests = record {
+          choices = filled going.going.choices choice count turns;
+          counted = rests.counted;
+          written = rests.written;
+          appended = rests.appended;
+          whole = none_ok result _ failed;
+          front = rests.front;
+          sent =
+              subst (λ (l : List M). Begins l (loop.sent (run loop rests.choices start)))
+              (apart.sent going.said (beside turned.said after) ∙ apart.sent turned.said after
+              ∙ sym (apart.sent (going.said ++ turned.said) after)) rests.sent;
+        };
+        front =
+            subst (λ (s : S). Begins (going.said ++ turned.said) (side s)) (sym (going.going.goes_on (choice ∷ fill)))
+            (begins_trans
+            (subst (λ (t : List ℕ). Begins (going.said ++ turned.said) t)
+            (sym (ap side (is.turn going.going.written choice (beside going.said now))
+            ∙ apart.same going.going.written (loop.turn choice (beside going.said now))
+            ∙ ap side (apart.turn going.said choice now) ∙ apart.adds going.said (loop.turn choice now)))
+            (begins_behind going.said turned.front))
+            (grows_from loop side apart.says choice fill here));
+      }
+
+  -- ---- after the turns
+
+  module _ (turns : ℕ) (start : S) (last last_side : S → List ℕ) (status : S → ℕ) (agrees : S → Type 0) where
+    -- a fault before the first turn
+    pub ran_beside_none : {E : Type 0} (result : Result ℕ E) (choice : C) (held errors : Option (List ℕ)) →
+        IsErr result →
+        RanBeside loop side turns start last last_side status agrees result held held errors errors (loop.sent start)
+    ran_beside_none result choice held errors failed = record {
+      ran = ran_none is turns start last status agrees result choice held failed;
+      said = none_ok result _ failed;
+      said_front = record { front = []; rest = _; parts = refl; appended = Appends-nil errors };
+    }
+
+    -- a fault in a turn
+    pub ran_beside_cut : {T E F : Type 0} (before : Result T F) (result : Result ℕ E)
+        {old new errors_old errors_new : Option (List ℕ)} {now : S}
+        (rests : RestsBeside loop behind beside side turns start before old new errors_old errors_new now) →
+        IsErr result →
+        RanBeside loop side turns start last last_side status agrees result old new errors_old errors_new
+        (loop.sent (beside rests.said now))
+    unfolding ran_cut
+    ran_beside_cut before result rests failed =
+        let end : S = run loop rests.rests.choices start in
+        record {
+          ran = ran_cut is turns start last status agrees before result rests.rests failed;
+          said = none_ok result _ failed;
+          said_front = record {
+            front = rests.said;
+            rest = rests.front.rest ++ last_side end;
+            parts =
+                ap (λ (t : List ℕ). t ++ last_side end) rests.front.parts
+                ∙ append_assoc rests.said rests.front.rest (last_side end);
+            appended = rests.appended;
+          };
+        }
+
+    module _ (last_behind : (front : List ℕ) (s : S) → last (behind front s) ≡ last s)
+        (side_behind : (front : List ℕ) (s : S) → last_side (behind front s) ≡ last_side s)
+        (side_beside : (said : List ℕ) (s : S) → last_side (beside said s) ≡ last_side s)
+        {T F : Type 0} (value : T) {old mid errors_old errors_mid : Option (List ℕ)} (now : S)
+        (rests : RestsBeside {T = T} {E = F} loop behind beside side turns start (Ok value) old mid errors_old errors_mid
+        now) where
+      -- the run's text for standard error is the written text followed by the text that is still to be written
+      whole_side : side (run loop rests.rests.choices start) ++ last_side (run loop rests.rests.choices start)
+          ≡ rests.said ++ (side now ++ last_side now)
+      whole_side =
+          ap (λ (s : S). side s ++ last_side s) rests.rests.whole
+          ∙ ap (λ (t : List ℕ). t ++ last_side (behind rests.rests.written (beside rests.said now)))
+          (apart.same rests.rests.written (beside rests.said now) ∙ apart.adds rests.said now)
+          ∙ ap (λ (t : List ℕ). (rests.said ++ side now) ++ t)
+          (side_behind rests.rests.written (beside rests.said now) ∙ side_beside rests.said now)
+          ∙ append_assoc rests.said (side now) (last_side now)
+
+      -- one of the last writes failed
+      pub ran_beside_front : {E : Type 0} (result : Result ℕ E) {new errors_new : Option (List ℕ)}
+          (text beside_text : List ℕ) → text ≡ loop.text (beside rests.said now) ++ last (beside rests.said now) →
+          AppendsPrefix mid new text → beside_text ≡ side now ++ last_side now →
+          AppendsPrefix errors_mid errors_new beside_text → IsErr result →
+          RanBeside loop side turns start last last_side status agrees result old new errors_old errors_new
+          (loop.sent (beside rests.said now))
+      unfolding ran_front
+      ran_beside_front result {new} {errors_new} text beside_text is_text cut is_side side_cut failed = record {
+        ran = ran_front is turns start last status agrees last_behind value (beside rests.said now) rests.rests result text
+            is_text cut failed;
+        said = none_ok result _ failed;
+        said_front = record {
+          front = rests.said ++ side_cut.front;
+          rest = side_cut.rest;
+          parts =
+              whole_side ∙ ap (λ (t : List ℕ). rests.said ++ t) (sym is_side ∙ side_cut.parts)
+              ∙ sym (append_assoc rests.said side_cut.front side_cut.rest);
+          appended =
+              Appends-trans errors_old errors_mid errors_new rests.said side_cut.front rests.appended
+              side_cut.appended;
+        };
+      }
+
+      -- all text was written
+      pub ran_beside_whole : {E : Type 0} (answer : ℕ) {new errors_new : Option (List ℕ)} (text beside_text : List ℕ) →
+          text ≡ loop.text (beside rests.said now) ++ last (beside rests.said now) → Appends mid new text →
+          beside_text ≡ side now ++ last_side now → Appends errors_mid errors_new beside_text →
+          answer ≡ status (behind rests.rests.written (beside rests.said now)) →
+          agrees (behind rests.rests.written (beside rests.said now)) →
+          RanBeside {E = E} loop side turns start last last_side status agrees (Ok answer) old new errors_old errors_new
+          (loop.sent (beside rests.said now))
+      unfolding ran_whole
+      ran_beside_whole {E} answer {new} {errors_new} text beside_text is_text appended is_side said is_status agree =
+          let all : side (run loop rests.rests.choices start) ++ last_side (run loop rests.rests.choices start)
+          ≡ rests.said ++ beside_text = whole_side ∙ ap (λ (t : List ℕ). rests.said ++ t) (sym is_side) in
+          let whole = Appends-trans errors_old errors_mid errors_new rests.said beside_text rests.appended said in
+          record {
+            ran = ran_whole is turns start last status agrees last_behind value (beside rests.said now) rests.rests {E = E}
+                answer text is_text appended is_status agree;
+            said = subst (λ (t : List ℕ). Appends errors_old errors_new t) (sym all) whole;
+            said_front = record {
+              front = rests.said ++ beside_text;
+              rest = [];
+              parts = all ∙ sym (append-nil (rests.said ++ beside_text));
+              appended = whole;
+            };
           }

@@ -83,6 +83,8 @@ pub record ListenArguments : Type 0 where
   pub live : Bool
   -- Whether reports of both lines are printed before the last line.
   pub report : Bool
+  -- The format in which messages are printed.
+  pub output : MessageFormat
 
 -- The model of a `loop` order.
 pub record LoopArguments : Type 0 where
@@ -177,6 +179,7 @@ view (Listen order) = listen_wanted (record {
   turns = order.turns;
   live = order.live;
   report = order.report;
+  output = order.output;
 })
 view (Loop order) = loop_wanted (record {
   session = order.session;

@@ -74,6 +74,15 @@ format_of false true = None
 unfoldable pub input_in : List Row → Option MessageFormat
 input_in rows = format_of (flag_in (codes "blocks") rows) (flag_in (codes "end-at-empty") rows)
 
+-- The format that the flag `--blocks` chooses for an output.
+abbrev pub output_of : Bool → MessageFormat
+output_of false = Lines
+output_of true = Blocks
+
+-- The format in which messages are printed.
+abbrev pub output_in : List Row → MessageFormat
+output_in rows = output_of (flag_in (codes "blocks") rows)
+
 -- The limits of the publisher and of its server, if the server's is at least the publisher's.
 unfoldable pub limits_in : List Row → Option (ℕ × ℕ)
 limits_in rows =
@@ -218,6 +227,7 @@ listen_of rows =
       turns = turns;
       live = live_in rows;
       report = report_in rows;
+      output = output_in rows;
     })))
     (turns_in rows))
     (burst_in rows))

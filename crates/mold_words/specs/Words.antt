@@ -38,7 +38,7 @@ commands =
       (codes "session", Required) ∷ (codes "next", Optional) ∷ (codes "window", Optional)
           ∷ (codes "a", Required) ∷ (codes "b", Required) ∷ (codes "server", Required)
           ∷ (codes "burst", Optional) ∷ (codes "turns", Optional) ∷ (codes "live", Flag)
-          ∷ (codes "report", Flag) ∷ [],
+          ∷ (codes "report", Flag) ∷ (codes "blocks", Flag) ∷ [],
     )
     ∷ (
       codes "loop",

@@ -166,7 +166,7 @@ pub fn serve_taken_law()
 
 /// `listen --session MKT --a .. --b .. --server ..` is accepted, and asks to print the session `MKT` from message 1
 /// on. The window has 1,024 messages, a request has one response, and there are at most 1,000 turns. `--live` asks to
-/// write text at the end of each turn, and `--report` for reports of both lines.
+/// write text at the end of each turn, `--report` for reports of both lines, and `--blocks` for messages as blocks.
 pub fn listen_taken_law()
     ensures usual { Say
         (codes "listen" ∷ codes "--session" ∷ codes "MKT" ∷ codes "--a" ∷ codes "127.0.0.1:9000"
@@ -182,6 +182,7 @@ pub fn listen_taken_law()
           turns = 1000;
           live = false;
           report = false;
+          output = Lines;
         })) }
     ensures live { Say
         (codes "listen" ∷ codes "--session" ∷ codes "MKT" ∷ codes "--a" ∷ codes "0.0.0.0:0"
@@ -197,6 +198,7 @@ pub fn listen_taken_law()
           turns = 1000;
           live = true;
           report = false;
+          output = Lines;
         })) }
     ensures report { Say
         (codes "listen" ∷ codes "--report" ∷ codes "--session" ∷ codes "MKT" ∷ codes "--a" ∷ codes "0.0.0.0:0"
@@ -212,6 +214,23 @@ pub fn listen_taken_law()
           turns = 1000;
           live = false;
           report = true;
+          output = Lines;
+        })) }
+    ensures blocks { Say
+        (codes "listen" ∷ codes "--blocks" ∷ codes "--session" ∷ codes "MKT" ∷ codes "--a" ∷ codes "0.0.0.0:0"
+        ∷ codes "--b" ∷ codes "0.0.0.0:0" ∷ codes "--server" ∷ codes "0.0.0.0:0" ∷ [])
+        (listen_wanted (record {
+          session = codes "MKT       ";
+          next = 1;
+          window = 1024;
+          a = (0 ∷ 0 ∷ 0 ∷ 0 ∷ [], 0);
+          b = (0 ∷ 0 ∷ 0 ∷ 0 ∷ [], 0);
+          server = (0 ∷ 0 ∷ 0 ∷ 0 ∷ [], 0);
+          burst = 1;
+          turns = 1000;
+          live = false;
+          report = false;
+          output = Blocks;
         })) }
 {}
 

@@ -6,6 +6,7 @@ ghost use Rattle.mold_words.specs.Values.{is_character};
 ghost use Rattle.mold_wire.specs.declared.limits.TheConstants.{MAX_BURST, MAX_WINDOW};
 
 use crate::address::Address;
+use mold_input::MessageFormat;
 
 /// The session that `listen` receives on two lines, and how.
 #[derive(Clone, Copy, Debug, PartialEq, Eq)]
@@ -30,6 +31,8 @@ pub struct ListenOrder {
     pub live: bool,
     /// Whether reports of both lines are printed before the last line.
     pub report: bool,
+    /// The format in which messages are printed.
+    pub output: MessageFormat,
     ghost named: { list_all is_character session ≡ true },
     ghost first: { (1 ≤ next) × (next ≤ 9223372036854775807) },
     ghost windowed: { (1 ≤ window) × (window ≤ MAX_WINDOW) },

@@ -4,7 +4,7 @@ ghost use Rattle.std.specs.Prelude.{◌≡◌, ◌≤◌, IfOk, MatchResult, Non
 ghost use Rattle.std.specs.List.{list_all};
 ghost use Rattle.clap.specs.Words.{first_of, found_of, rows_of};
 ghost use Rattle.mold_words.specs.NoOrders.{LacksOrder, LacksValue, is_address};
-ghost use Rattle.mold_words.specs.Orders.{address_in, burst_in, flag_in, has_no_address, input_in, is_no_address};
+ghost use Rattle.mold_words.specs.Orders.{output_in, address_in, burst_in, flag_in, has_no_address, input_in, is_no_address};
 ghost use Rattle.mold_words.specs.Orders.{limit_in};
 ghost use Rattle.mold_words.specs.Orders.{limits_in, live_in, number_in, report_in, session_in, turns_in, window_in};
 ghost use Rattle.mold_words.specs.Values.{is_character};
@@ -178,6 +178,16 @@ pub(crate) fn input_in(options: &ArgMatches<'_>) -> Result<MessageFormat, NoOrde
         (true, false) => Ok(MessageFormat::Blocks),
         (true, true) => Ok(MessageFormat::BlocksToEmpty),
         (false, true) => Err(NoOrder::EndWithoutBlocks),
+    }
+}
+
+/// Returns the format in which messages are printed.
+pub(crate) fn output_in(options: &ArgMatches<'_>) -> MessageFormat
+    ensures { result ≡ output_in (rows_of (found_of options.now)) }
+{
+    match flag_in(options, "blocks") {
+        false => MessageFormat::Lines,
+        true => MessageFormat::Blocks,
     }
 }
 

@@ -13,7 +13,8 @@ use crate::loop_order::LoopOrder;
 use crate::no_order::NoOrder;
 use crate::options::{
     address_in, burst_in, check_addresses, flag_in, input_in, limit_in, limits_in, live_in,
-    number_in, report_in, required_in, session_in, string_in, text_in, turns_in, window_in,
+    number_in, output_in, report_in, required_in, session_in, string_in, text_in, turns_in,
+    window_in,
 };
 use crate::pack_journal_order::PackJournalOrder;
 use crate::pack_order::PackOrder;
@@ -242,6 +243,7 @@ fn listen_order(options: &ArgMatches<'_>) -> Result<Order, NoOrder>
         turns,
         live: live_in(options),
         report: report_in(options),
+        output: output_in(options),
     }))
 }
 

@@ -108,6 +108,14 @@ const BLOCKS: OptionRow = OptionRow {
         bytes, most significant first, and the message",
 };
 
+// Prints message blocks in place of lines.
+const BLOCKS_OUT: OptionRow = OptionRow {
+    name: "blocks",
+    kind: Kind::Flag,
+    help: "Print messages as message blocks (BinaryFILE), and all other text on\n\
+        standard error",
+};
+
 // Ends the input of blocks before the first empty one.
 const END_AT_EMPTY: OptionRow = OptionRow {
     name: "end-at-empty",
@@ -270,6 +278,7 @@ pub static COMMANDS: [CommandRow; 10] = [
             },
             LIVE,
             REPORT,
+            BLOCKS_OUT,
         ],
         example: "Example:\n  mold listen --session SESSION001 --a 127.0.0.1:9001 --b 127.0.0.1:9002 \\\
             \n    --server 127.0.0.1:9003 --turns 1000000 > received",

@@ -3,6 +3,7 @@
 use crate::comparisons::{begins_with, same_bytes, same_outcome, same_size};
 use crate::scripts::{Given, Sent, expect_sent, expect_sent_prefix, fault_of, give, silent, sink};
 use mold_devices::{CommandFault, MemorySink};
+use mold_input::MessageFormat;
 use mold_listen::listen_loop;
 use mold_ports::{Datagrams, MemoryPort};
 use mold_receiver::{Arbiter, Receiver};
@@ -48,8 +49,12 @@ pub struct Case {
     pub burst: u16,
     pub turns: u64,
     pub reporting: bool,
+    pub format: MessageFormat,
     pub outcome: Result<u8, CommandFault>,
+    /// The text on standard output.
     pub text: &'static [u8],
+    /// The text on standard error.
+    pub side: &'static [u8],
     /// How many steps of each port are left.
     pub left: [usize; 3],
     pub requests: Sent,
@@ -89,6 +94,7 @@ fn listen_with(
     arbiter: &mut Arbiter,
     case: &Case,
     sink: &mut MemorySink,
+    errors: &mut MemorySink,
 ) -> Result<u8, CommandFault> {
     listen_loop(
         alloc,
@@ -100,7 +106,9 @@ fn listen_with(
         case.burst,
         case.turns,
         case.reporting,
+        case.format,
         sink,
+        errors,
     )
 }
 
@@ -109,9 +117,10 @@ fn listen(
     ports: &mut Ports,
     case: &Case,
     sink: &mut MemorySink,
+    errors: &mut MemorySink,
 ) -> Result<Result<u8, CommandFault>, Fail> {
     let mut arbiter = new_arbiter(alloc)?;
-    Ok(listen_with(alloc, ports, &mut arbiter, case, sink))
+    Ok(listen_with(alloc, ports, &mut arbiter, case, sink, errors))
 }
 
 fn expect_ports(rt: &impl Abort, ports: &Ports, case: &Case, at: usize) {
@@ -127,10 +136,12 @@ fn expect_listened(
     case: &Case,
     at: usize,
 ) -> Result<(), Fail> {
+    let mut errors = sink(rt.alloc(), 0);
     let mut sink = sink(rt.alloc(), case.write_fails);
-    let outcome = listen(rt.alloc(), ports, case, &mut sink)?;
+    let outcome = listen(rt.alloc(), ports, case, &mut sink, &mut errors)?;
     same_outcome(rt, outcome, case.outcome, at);
     same_bytes(rt, sink.bytes(), case.text, at);
+    same_bytes(rt, errors.bytes(), case.side, at);
     expect_ports(rt, ports, case, at);
     Ok(())
 }
@@ -161,8 +172,10 @@ pub const EXAMPLE: Case = Case {
     burst: 1,
     turns: 5,
     reporting: false,
+    format: MessageFormat::Lines,
     outcome: Ok(0),
     text: b"1 41\n2 42\nfinished next 3 failed 1\n",
+    side: b"",
     left: [0, 1, 0],
     requests: &[],
 };
@@ -457,7 +470,8 @@ fn expect_listened_prefix(
     case: &Case,
 ) -> Result<(), Fail> {
     let mut sink = MemorySink::new(rt.alloc());
-    let outcome = listen(rt.alloc(), ports, case, &mut sink)?;
+    let mut errors = MemorySink::new(rt.alloc());
+    let outcome = listen(rt.alloc(), ports, case, &mut sink, &mut errors)?;
     expect_prefix(rt, &ports.requests, &sink, outcome, case);
     Ok(())
 }

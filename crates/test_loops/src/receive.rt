@@ -7,6 +7,7 @@ use crate::comparisons::{holds, same_bytes, same_number};
 use crate::listen::{DATA_1, DATA_2, new_arbiter};
 use crate::scripts::{Given, give, silent};
 use mold_devices::MemorySink;
+use mold_input::MessageFormat;
 use mold_listen::{Printer, push_last, receive_on};
 use mold_ports::MemoryPort;
 use mold_receiver::{Arbiter, Line, Origin};
@@ -97,7 +98,7 @@ fn expect_listened(
 )
     requires { length buffer.old ≡ MAX_LIMIT }
 {
-    let mut printer = Printer::new(rt.alloc());
+    let mut printer = Printer::new(rt.alloc(), MessageFormat::Lines);
     expect_receives(rt, ports, buffer, arbiter, &mut printer);
     let text = b"1 41\n2 42\nopen next 3 known 3 failed 2\n";
     expect_printed(rt, arbiter, &mut printer, text);

@@ -2,6 +2,7 @@
 
 use crate::listen::{Case, DATA_1, DATA_2, DATA_3, END_4, EXAMPLE, expect};
 use crate::scripts::Given;
+use mold_input::MessageFormat;
 use std::test::Fail;
 
 // Line B loses message 3 and the end packet. Message 2 is a response, and follows a response that is refused.
@@ -45,4 +46,22 @@ open next 1 known 1 failed 0
 #[test]
 fn lines_are_reported_before_any_datagram(rt: HostRuntime) -> Result<(), Fail> {
     expect(&rt, &NO_TURN, 0)
+}
+
+// The same as blocks: standard output has the blocks, and standard error all other text.
+const BLOCKS: Case = Case {
+    format: MessageFormat::Blocks,
+    text: b"\0\x01A\0\x01B\0\x01C",
+    side: b"refused Malformed Short 1
+refused Malformed Short 1
+line a datagrams 3 refused 0 front 4 lag 0
+line b datagrams 1 refused 1 front 2 lag 2
+finished next 4 failed 1
+",
+    ..REPORTED
+};
+
+#[test]
+fn listen_in_blocks(rt: HostRuntime) -> Result<(), Fail> {
+    expect(&rt, &BLOCKS, 0)
 }

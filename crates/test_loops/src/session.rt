@@ -8,7 +8,7 @@ ghost use Rattle.mold_publish.specs.Publishing.{HasRoom};
 use crate::comparisons::{same_bytes, same_outcome, same_size};
 use crate::scripts::{Given, PEER, Sent, expect_sent, give, silent};
 use mold_devices::{CommandFault, MemorySink, MemorySource};
-use mold_input::HexLines;
+use mold_input::{HexLines, MessageFormat};
 use mold_listen::Printer;
 use mold_loop::{Drops, Listener, LoopOptions, LoopParts, LoopPeers, LoopPorts, session_loop};
 use mold_ports::MemoryPort;
@@ -92,7 +92,7 @@ pub fn new_parts(alloc: Global) -> Result<LoopParts, Fail>
         server: new_server(alloc)?,
         listener: Listener {
             arbiter: Arbiter::new(Receiver::new(alloc, SESSION, 1, 4)?),
-            printer: Printer::new(alloc),
+            printer: Printer::new(alloc, MessageFormat::Lines),
         },
     })
 }

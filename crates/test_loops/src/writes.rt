@@ -10,7 +10,7 @@ use crate::session::{
     ALL, END, FIVE, LINES, ONE_AND_TWO, PEERS, REQUEST, THREE_AND_FOUR, new_parts, silent_ports,
 };
 use mold_devices::{CommandFault, IntoWrite, MemorySink, MemorySource, Sink};
-use mold_input::HexLines;
+use mold_input::{HexLines, MessageFormat};
 use mold_listen::listen_loop;
 use mold_loop::{Drops, LoopOptions, LoopPorts, session_loop};
 use mold_ports::{Datagrams, MemoryPort, Step};
@@ -48,7 +48,9 @@ fn listen_on<K: Sink>(
         1,
         turns,
         false,
+        MessageFormat::Lines,
         sink,
+        &mut MemorySink::new(alloc),
     ))
 }
 

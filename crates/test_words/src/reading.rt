@@ -139,6 +139,7 @@ fn expect_listen(rt: &impl Abort, order: &ListenOrder, wanted: &Values<'_>, line
         u64::from(order.turns),
         u64::from(order.live),
         u64::from(order.report),
+        number_of(order.output),
     ];
     let found = Values {
         command: "listen",

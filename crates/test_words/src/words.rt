@@ -245,14 +245,14 @@ fn arguments_of_serve(rt: HostRuntime) {
     expect_orders(&rt, SERVE);
 }
 
-// The first message, the window, the burst, the turns, `--live` and `--report`.
+// The first message, the window, the burst, the turns, `--live`, `--report` and `--blocks`.
 const LISTEN: &[OrderLine] = &[(
     "listen --session MKT --next 9223372036854775807 --window 4 --a 127.0.0.1:1 --b \
-            127.0.0.1:2 --server 127.0.0.1:3 --burst 2 --turns 5 --live --report",
+            127.0.0.1:2 --server 127.0.0.1:3 --burst 2 --turns 5 --live --report --blocks",
     Values {
         command: "listen",
         session: b"MKT       ",
-        numbers: &[9_223_372_036_854_775_807, 4, 2, 5, 1, 1],
+        numbers: &[9_223_372_036_854_775_807, 4, 2, 5, 1, 1, 1],
         addresses: &[
             Address {
                 host: [127, 0, 0, 1],

@@ -1,9 +1,14 @@
-use Rattle.mold_turns.proofs.PrintingLemmas.{begins_with_more}
+use Rattle.std.proofs.Common.{ap}
+use Rattle.std.proofs.lemmas.Result.{on_ok_weaker}
+use Rattle.mold_turns.specs.Outgoing.{OutgoingState}
+use Rattle.mold_turns.proofs.PrintingLemmas.{begins_pushed}
 use Rattle.mold_listen.proofs.ending.push_report.Goals as goal
 
 pub returns-clause-line : goal.returns-clause-line
-returns-clause-line c = rw (c.name.ensures, c.lag.ensures.lag, c.report-report.ensures) at c.push_line.ensures.line
+returns-clause-line c = rw (c.name.ensures, c.lag.ensures.lag, c.report-report.ensures) at c.push_note.ensures.note
 
 pub returns-clause-prints : goal.returns-clause-prints
 returns-clause-prints c =
-    begins_with_more c.push_line.result _ _ _ c.push_line.ensures.line c.push_line.ensures.kept
+    begins_pushed c.push_note.result _ _ _
+    (on_ok_weaker c.push_note.result (λ is. ap (λ (o : OutgoingState). o.text) is) c.push_note.ensures.note)
+    c.push_note.ensures.kept

@@ -1,28 +1,29 @@
 use Rattle.std.proofs.Common.{false, inl, refl, rules, sym}
-use Rattle.mold_turns.proofs.FaultLemmas.{counts_memory}
+use Rattle.mold_turns.proofs.FaultLemmas.{two_memory}
 use Rattle.std.proofs.lemmas.Result.{on_err_weaker}
 use Rattle.mold_turns.proofs.OutgoingLemmas.{bounded_none}
-use Rattle.mold_turns.proofs.RunLemmas.{in_time_none, on_err, ran_none}
-use Rattle.mold_listen.specs.Listening.{IsInNextTurn, beginning, listened_lines, status}
-use Rattle.mold_listen.proofs.TurnLemmas.{is_loop, listened_so, timely_so}
+use Rattle.mold_turns.proofs.RunLemmas.{in_time_none, on_err, ran_beside_none}
+use Rattle.mold_listen.specs.Listening.{IsInNextTurn, beginning, listened_lines, listened_side, status}
+use Rattle.mold_listen.proofs.TurnLemmas.{is_beside, is_loop, listened_so, timely_so}
 use Rattle.mold_listen.proofs.listening.listen_loop.Goals as goal
 
 pub returns-in_err-buffer-clause-run : goal.returns-in_err-buffer-clause-run
 returns-in_err-buffer-clause-run g c = λ t.
-    ran_none (is_loop c.args.server c.args.burst) c.args.turns
-    (beginning (g.D.Datagrams.port c.args.a.now) (g.D.Datagrams.port c.args.b.now)
+    ran_beside_none (is_loop c.args.server c.args.burst) (is_beside c.args.server c.args.burst) c.args.turns
+    (beginning c.args.format (g.D.Datagrams.port c.args.a.now) (g.D.Datagrams.port c.args.b.now)
     (g.D.Datagrams.port c.args.requests.now) c.args.arbiter.now)
-    (listened_lines c.args.reporting) status _ c.from_residual.result false (g.K.Sink.held c.args.sink.now) c.from_residual.ensures.0
+    (listened_lines c.args.reporting) (listened_side c.args.reporting) status _ c.from_residual.result false
+    (g.K.Sink.held c.args.sink.now) (g.E.Sink.held c.args.errors.now) c.from_residual.ensures.0
 
-pub returns-in_err-buffer-clause-sink : goal.returns-in_err-buffer-clause-sink
-returns-in_err-buffer-clause-sink g c = counts_memory c.from_residual.result _ _ c.from_residual.ensures.1 refl
+pub returns-in_err-buffer-clause-sinks : goal.returns-in_err-buffer-clause-sinks
+returns-in_err-buffer-clause-sinks g c = two_memory c.from_residual.result _ _ _ _ c.from_residual.ensures.1 refl refl
 
 pub returns-clause-run : goal.returns-clause-run
 returns-clause-run g c = λ t.
     listened_so c.args.reporting g.D.Datagrams.port c.args.server c.args.burst c.args.turns
-    (beginning (g.D.Datagrams.port c.args.a.now) (g.D.Datagrams.port c.args.b.now)
+    (beginning c.args.format (g.D.Datagrams.port c.args.a.now) (g.D.Datagrams.port c.args.b.now)
     (g.D.Datagrams.port c.args.requests.now) c.args.arbiter.now)
-    c.listen.result _ _ c.listen.new.self.a.now _ c.listen.new.self.b.now _ c.listen.new.self.requests.now _
+    c.listen.result _ _ _ _ c.listen.new.self.a.now _ c.listen.new.self.b.now _ c.listen.new.self.requests.now _
     c.listen.new.self.arbiter.now _
     (let same = sym c.listen.ensures.same.a in search rules)
     (let same = sym c.listen.ensures.same.b in search rules)
@@ -42,7 +43,7 @@ returns-in_err-buffer-clause-timely g c =
 pub returns-clause-timely : goal.returns-clause-timely
 returns-clause-timely g c =
     timely_so _ g.D.Datagrams.port c.args.server c.args.burst
-    (beginning (g.D.Datagrams.port c.args.a.now) (g.D.Datagrams.port c.args.b.now)
+    (beginning c.args.format (g.D.Datagrams.port c.args.a.now) (g.D.Datagrams.port c.args.b.now)
     (g.D.Datagrams.port c.args.requests.now) c.args.arbiter.now)
     c.listen.result (g.K.Sink.live c.args.sink.now) _ _ c.listen.new.self.a.now _ c.listen.new.self.b.now _
     (let same = sym c.listen.ensures.same.a in search rules)

@@ -3,7 +3,6 @@ use Rattle.std.specs.Io.KnownBytes.{Appends}
 use Rattle.mold_devices.specs.Devices.{AppendsPrefix}
 use Rattle.mold_devices.proofs.WritingLemmas.{ends_front, ends_sink, ends_whole, not_memory}
 use Rattle.mold_turns.specs.Outgoing.{OutgoingState}
-use Rattle.mold_turns.proofs.OutgoingLemmas.{all_written}
 use Rattle.mold_turns.proofs.PrintingLemmas.{former_text, front_more}
 use Rattle.mold_loop.proofs.looping.print_last.Goals as goal
 
@@ -48,5 +47,7 @@ returns-clause-whole g c = (
 
 pub returns-clause-left : goal.returns-clause-left
 returns-clause-left g c =
-    all_written c.args.listener.now.printer.outgoing c.send.new.self c.in_ok-send.ensures.empty
-    (c.send.ensures.failures ∙ ap (λ (o : OutgoingState). o.failures) c.in-Ok.ensures.lines)
+    record {
+      text = c.in_ok-send.ensures.empty;
+      failures = c.send.ensures.failures ∙ ap (λ (o : OutgoingState). o.failures) c.in-Ok.ensures.lines;
+    }

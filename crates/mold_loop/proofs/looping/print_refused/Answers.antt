@@ -2,7 +2,6 @@ use Rattle.std.proofs.Common.{◌++◌, ◌∙◌, List, ℕ, ap, refl}
 use Rattle.mold_publish.specs.Publishing.{refused_text}
 use Rattle.mold_devices.proofs.WritingLemmas.{not_memory}
 use Rattle.mold_turns.specs.Outgoing.{OutgoingState}
-use Rattle.mold_turns.proofs.OutgoingLemmas.{all_written}
 use Rattle.mold_turns.proofs.PrintingLemmas.{front_behind, front_more, front_whole, whole_behind}
 use Rattle.mold_loop.proofs.looping.print_refused.Goals as goal
 
@@ -39,9 +38,12 @@ returns-clause-whole g c =
 
 pub returns-clause-left : goal.returns-clause-left
 returns-clause-left g c =
-    all_written c.args.outgoing.now c.send-2.new.self c.in_ok-send-2.ensures.empty
-    (c.send-2.ensures.failures ∙ ap (λ (o : OutgoingState). o.failures) c.in_ok-print_message_refused.ensures
-    ∙ c.send.ensures.failures)
+    record {
+      text = c.in_ok-send-2.ensures.empty;
+      failures =
+          c.send-2.ensures.failures ∙ ap (λ (o : OutgoingState). o.failures) c.in_ok-print_message_refused.ensures
+          ∙ c.send.ensures.failures;
+    }
 
 -- a fault of the sink is not one of memory
 pub returns-in_err-send-clause-kept : goal.returns-in_err-send-clause-kept

@@ -9,4 +9,4 @@ use Rattle.mold_words.proofs.laws.listen_taken_law.Goals as goal
 
 pub returns : goal.returns
 unfolding clap_on_literals mold_app order_of has_no_address order_at listen_of address_of host_of plain_number number_of decimal_of session_of
-returns c = record { usual = (refl, refl); live = (refl, refl); report = (refl, refl) }
+returns c = record { usual = (refl, refl); live = (refl, refl); report = (refl, refl); blocks = (refl, refl) }

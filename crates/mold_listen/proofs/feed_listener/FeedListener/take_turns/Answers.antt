@@ -1,19 +1,22 @@
-use Rattle.std.proofs.Common.{arith, ◌≡◌, ◌∙◌, Bool, inr, refl, subst, ℕ}
-use Rattle.mold_devices.specs.Faults.{CountsSinkFault}
-use Rattle.mold_turns.proofs.FaultLemmas.{counts_same}
-use Rattle.mold_turns.proofs.RunLemmas.{going_init, going_turned, in_time, on_err, rests_all, rests_broken, rests_turned}
+use Rattle.std.proofs.Common.{arith, ◌≡◌, ◌∙◌, Bool, inr, refl, subst}
+use Rattle.mold_turns.proofs.FaultLemmas.{two_same}
+use Rattle.mold_turns.proofs.RunLemmas.{beside_init, beside_rests_all, beside_rests_broken, beside_rests_turned}
+use Rattle.mold_turns.proofs.RunLemmas.{beside_turned, in_time, on_err}
 use Rattle.mold_turns.specs.Outgoing.{IsBounded}
 use Rattle.mold_listen.specs.Listening.{IsInNextTurn}
-use Rattle.mold_listen.proofs.TurnLemmas.{finished_is, is_loop, same_at_first, same_twice}
+use Rattle.mold_listen.proofs.TurnLemmas.{finished_is, is_beside, is_loop, same_at_first, same_twice}
 use Rattle.mold_listen.proofs.feed_listener.FeedListener.take_turns.Goals as goal
 
 pub loop-turn-init : goal.loop-turn-init
 loop-turn-init g c = record {
-  going = λ t. going_init (is_loop c.args.options.server c.args.options.burst) _ (g.K.Sink.held c.args.sink.now);
+  going = λ t.
+      beside_init (is_loop c.args.options.server c.args.options.burst) (is_beside c.args.options.server c.args.options.burst)
+      _ (g.K.Sink.held c.args.sink.now) (g.E.Sink.held c.args.errors.now);
   bounded = λ bounded. bounded;
   live = refl;
   same = same_at_first c.args.self.now;
   sink = refl;
+  errors = refl;
 }
 
 pub loop-turn-preserved : goal.loop-turn-preserved
@@ -21,19 +24,22 @@ loop-turn-preserved g c = record {
   going = λ t.
       let on = finished_is c.finished.result c.receiver.result.now c.write_turn.new.self.arbiter.now.view c.finished.ensures
       c.receiver.ensures ∙ c.if-finished.false in
-      going_turned (is_loop c.args.options.server c.args.options.burst) _ (c.loop-turn.invariant.going t)
+      beside_turned (is_loop c.args.options.server c.args.options.burst)
+      (is_beside c.args.options.server c.args.options.burst) _ (c.loop-turn.invariant.going t)
       (c.in_ok-write_turn.ensures.run t) on;
   bounded = λ bounded.
       subst (λ (live : Bool). IsBounded live c.write_turn.new.self.printer.now.outgoing.text)
       c.loop-turn.invariant.live c.in_ok-write_turn.ensures.bounded;
   live = c.in_ok-write_turn.ensures.live ∙ c.loop-turn.invariant.live;
   same = same_twice c.loop-turn.invariant.same c.in_ok-write_turn.ensures.same;
-  sink = c.in_ok-write_turn.ensures.sink ∙ c.loop-turn.invariant.sink;
+  sink = c.in_ok-write_turn.ensures.sinks.0 ∙ c.loop-turn.invariant.sink;
+  errors = c.in_ok-write_turn.ensures.sinks.1 ∙ c.loop-turn.invariant.errors;
 }
 
 pub returns-in_err-write_turn-clause-run : goal.returns-in_err-write_turn-clause-run
 returns-in_err-write_turn-clause-run g c = λ t.
-    rests_broken (is_loop c.args.options.server c.args.options.burst) c.from_residual.result c.write_turn.result
+    beside_rests_broken (is_loop c.args.options.server c.args.options.burst)
+    (is_beside c.args.options.server c.args.options.burst) c.from_residual.result c.write_turn.result
     c.args.options.turns _ (c.loop-turn.invariant.going t) c.loop-turn-test.true (c.write_turn.ensures.run t)
     c.from_residual.ensures.0
 
@@ -44,11 +50,10 @@ pub returns-in_err-write_turn-clause-same : goal.returns-in_err-write_turn-claus
 returns-in_err-write_turn-clause-same g c =
     same_twice c.loop-turn.invariant.same c.write_turn.ensures.same
 
-pub returns-in_err-write_turn-clause-sink : goal.returns-in_err-write_turn-clause-sink
-returns-in_err-write_turn-clause-sink g c =
-    counts_same c.from_residual.result c.in_err-write_turn.field-0.0 _ _ c.from_residual.ensures.1
-    (subst (λ (n : ℕ). CountsSinkFault n (g.K.Sink.failed c.write_turn.new.sink) c.in_err-write_turn.field-0.0)
-    c.loop-turn.invariant.sink c.in_err-write_turn.ensures.sink)
+pub returns-in_err-write_turn-clause-sinks : goal.returns-in_err-write_turn-clause-sinks
+returns-in_err-write_turn-clause-sinks g c =
+    two_same c.from_residual.result c.in_err-write_turn.field-0.0 _ _ _ _ _ _ c.from_residual.ensures.1
+    c.loop-turn.invariant.sink c.loop-turn.invariant.errors c.in_err-write_turn.ensures.sinks
 
 pub returns-in_err-write_turn-clause-timely : goal.returns-in_err-write_turn-clause-timely
 returns-in_err-write_turn-clause-timely g c =
@@ -57,15 +62,17 @@ returns-in_err-write_turn-clause-timely g c =
     let turned = c.write_turn.ensures.run t in
     in_time (is_loop c.args.options.server c.args.options.burst) (g.K.Sink.live c.args.sink.now)
     (IsInNextTurn (g.D.Datagrams.port c.write_turn.new.self.a.now) (g.D.Datagrams.port c.write_turn.new.self.b.now))
-    turned.written (c.loop-turn.invariant.going t)
-    (inr (c.write_turn.ensures.a t, c.write_turn.ensures.b t)) (c.loop-turn.invariant.bounded bounded) turned.appended)
+    turned.turn.written (c.loop-turn.invariant.going t).going
+    (inr (c.write_turn.ensures.a t, c.write_turn.ensures.b t)) (c.loop-turn.invariant.bounded bounded)
+    turned.turn.appended)
 
 pub returns-then-finished : goal.returns-then-finished
 returns-then-finished g c = record {
   run = λ t.
       let over = finished_is c.finished.result c.receiver.result.now c.write_turn.new.self.arbiter.now.view
       c.finished.ensures c.receiver.ensures ∙ c.if-finished.true in
-      rests_turned (is_loop c.args.options.server c.args.options.burst) _ c.args.options.turns _
+      beside_rests_turned (is_loop c.args.options.server c.args.options.burst)
+      (is_beside c.args.options.server c.args.options.burst) c.args.options.turns _
       (c.loop-turn.invariant.going t) c.loop-turn-test.true (c.in_ok-write_turn.ensures.run t) over;
   bounded = λ bounded.
       subst (λ (live : Bool). IsBounded live c.write_turn.new.self.printer.now.outgoing.text)
@@ -73,17 +80,21 @@ returns-then-finished g c = record {
   timely = tt;
   live = c.in_ok-write_turn.ensures.live ∙ c.loop-turn.invariant.live;
   same = same_twice c.loop-turn.invariant.same c.in_ok-write_turn.ensures.same;
-  sink = c.in_ok-write_turn.ensures.sink ∙ c.loop-turn.invariant.sink;
+  sinks = (
+    c.in_ok-write_turn.ensures.sinks.0 ∙ c.loop-turn.invariant.sink,
+    c.in_ok-write_turn.ensures.sinks.1 ∙ c.loop-turn.invariant.errors,
+  );
 }
 
 pub returns : goal.returns
 returns g c = record {
   run = λ t.
       let made : c.loop-turn._turn ≡ c.args.options.turns = omega (arith, c.loop-turn-test.false, c.loop-turn.auto._turn-end) in
-      rests_all (is_loop c.args.options.server c.args.options.burst) _ c.args.options.turns made (c.loop-turn.invariant.going t);
+      beside_rests_all (is_loop c.args.options.server c.args.options.burst)
+      (is_beside c.args.options.server c.args.options.burst) c.args.options.turns made (c.loop-turn.invariant.going t);
   bounded = c.loop-turn.invariant.bounded;
   timely = tt;
   live = c.loop-turn.invariant.live;
   same = c.loop-turn.invariant.same;
-  sink = c.loop-turn.invariant.sink;
+  sinks = (c.loop-turn.invariant.sink, c.loop-turn.invariant.errors);
 }

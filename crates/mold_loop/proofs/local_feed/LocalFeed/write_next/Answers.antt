@@ -88,7 +88,7 @@ returns-clause-passed g c modeled =
     let moves = c.in_ok-send_large.ensures.moved in
     rests_moved peers.a peers.b tt _ after (c.in-Ok.ensures.passed modeled) moves
     (lines_moved _ _ _ _ c.pass_next.new.self.listener.now.printer.outgoing c.send_large.new.self moves.front moves.parts
-    c.in_ok-send_large.ensures.failures)
+    c.in_ok-send_large.ensures.failures c.in_ok-send_large.ensures.side c.in_ok-send_large.ensures.format)
 
 pub returns-clause-only : goal.returns-clause-only
 returns-clause-only g c =

@@ -115,7 +115,7 @@ returns-clause-rests g c modeled =
       turn =
           turn_sent (rounds_are to service) _ done.0 made after has.whole moves
           (text_moved _ _ _ _ c.round.new.self.listener.now.printer.outgoing c.send_large.new.self moves.front moves.parts
-          c.in_ok-send_large.ensures.failures);
+          c.in_ok-send_large.ensures.failures c.in_ok-send_large.ensures.side c.in_ok-send_large.ensures.format);
       others = has.answers;
     }
 

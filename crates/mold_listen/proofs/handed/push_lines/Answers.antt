@@ -1,10 +1,11 @@
 use Rattle.std.proofs.Common.{arith, ◌≡◌, sym, ◌∙◌, ap, ◌++◌, ◌<◌, ◌-◌, length, drop, ℕ, List, take, Result, Ok, Err}
 use Rattle.std.specs.Prelude.{OnErr}
 use Rattle.std.proofs.lemmas.List.{take_all, take_at}
+use Rattle.mold_input.specs.declared.message_format.MessageFormat.TheVariants.{Lines}
 use Rattle.mold_listen.specs.Text.{handed_line, handed_text}
 use Rattle.mold_listen.proofs.HandedLemmas.{first_is, after_is, none_within, handed_more, handed_all, handed_init, kept_below, written_within}
-use Rattle.mold_listen.proofs.handed.push_handed.Goals as goal
-use Rattle.mold_listen.proofs.handed.push_handed.Goals.{in-Some+in_ok-make_room, in_default-get}
+use Rattle.mold_listen.proofs.handed.push_lines.Goals as goal
+use Rattle.mold_listen.proofs.handed.push_lines.Goals.{in-Some+in_ok-make_room, in_default-get}
 
 pub loop-number-init : goal.loop-number-init
 loop-number-init c =
@@ -12,9 +13,9 @@ loop-number-init c =
     record {
       low = omega arith;
       within = omega arith;
-      printed = ap (λ (t : List ℕ). t ++ handed_text c.in-Some-Some.first
+      printed = ap (λ (t : List ℕ). t ++ handed_text Lines c.in-Some-Some.first
           (drop (c.in-Some-Some.first - c.in-Some-Some.first) c.args.batch.now.messages)) all
-          ∙ handed_init c.in-Some-Some.first c.args.batch.now.messages c.args.out.now.items;
+          ∙ handed_init Lines c.in-Some-Some.first c.args.batch.now.messages c.args.out.now.items;
     }
 
 pub loop-number-preserved : goal.loop-number-preserved
@@ -39,7 +40,7 @@ loop-number-preserved c =
               w.in_ok-make_room.ensures.room,
               ap (λ (t : List ℕ). length t) w.as_mut_slice.ensures.value,
             )) line;
-            printed = handed_more _ _ _ _ _ _ _ c.loop-number.auto.number w.in-Some.ensures c.loop-number.invariant.printed
+            printed = handed_more Lines _ _ _ _ _ _ _ c.loop-number.auto.number w.in-Some.ensures c.loop-number.invariant.printed
                 (line.front ∙ ap (λ (t : List ℕ). t ++ handed_line c.loop-number.number w.in-Some.message.now) before);
           })
       | in_default-get w ↦
@@ -55,9 +56,9 @@ returns-clause-text c =
     let first = first_is c.args.batch.now.first c.in-Some-Some.first c.args.batch.now.messages
     (sym c.in-Some-Some.is-0 ∙ c.first.ensures) in
     c.truncate.ensures.items
-    ∙ handed_all c.loop-number.number c.in-Some-Some.first c.args.batch.now.messages _ _
+    ∙ handed_all Lines c.loop-number.number c.in-Some-Some.first c.args.batch.now.messages _ _
     (omega (arith, after, first, c.loop-number-test.false)) c.loop-number.invariant.printed
-    ∙ ap (λ (n : ℕ). c.args.out.now.items ++ handed_text n c.args.batch.now.messages) first
+    ∙ ap (λ (n : ℕ). c.args.out.now.items ++ handed_text Lines n c.args.batch.now.messages) first
 
 -- after a failed allocation
 if_err : {T E : Type 0} (result : Result T E) {P : Type 0} → P → OnErr result P
