@@ -71,8 +71,8 @@ format_of true true = Some BlocksToEmpty
 format_of false true = None
 
 -- How the input, or the output of `dump`, encodes messages, if the flags are valid together. Without flags it is lines.
-unfoldable pub input_in : List Row → Option MessageFormat
-input_in rows = format_of (flag_in (codes "blocks") rows) (flag_in (codes "end-at-empty") rows)
+unfoldable pub format_in : List Row → Option MessageFormat
+format_in rows = format_of (flag_in (codes "blocks") rows) (flag_in (codes "end-at-empty") rows)
 
 -- The format that the flag `--blocks` chooses for an output.
 abbrev pub output_of : Bool → MessageFormat
@@ -119,7 +119,7 @@ unfoldable pub pack_of : List Row → Option Arguments
 pack_of rows =
     option_and_then
     (λ session. option_and_then
-    (λ limit. option_map (λ input. packed_to session limit input (first_of (codes "journal") rows)) (input_in rows))
+    (λ limit. option_map (λ input. packed_to session limit input (first_of (codes "journal") rows)) (format_in rows))
     (limit_in (codes "limit") rows))
     (session_in (codes "session") rows)
 
@@ -174,7 +174,7 @@ publish_of rows =
       ends = ends;
       input = input;
     })))
-    (input_in rows))
+    (format_in rows))
     (number_in (codes "ends") 1 0 1000 rows))
     (number_in (codes "beats") 1 0 1000 rows))
     (first_of (codes "journal") rows))
@@ -285,7 +285,7 @@ dump_of rows =
     (λ from. option_and_then
     (λ count. option_and_then
     (λ output. Some (dump_wanted (record { journal = journal; from = from; count = count; output = output })))
-    (input_in rows))
+    (format_in rows))
     (number_in (codes "count") MAX_NUMBER 0 MAX_NUMBER rows))
     (number_in (codes "from") 1 1 MAX_NUMBER rows))
     (first_of (codes "journal") rows)

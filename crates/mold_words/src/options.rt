@@ -4,7 +4,7 @@ ghost use Rattle.std.specs.Prelude.{◌≡◌, ◌≤◌, IfOk, MatchResult, Non
 ghost use Rattle.std.specs.List.{list_all};
 ghost use Rattle.clap.specs.Words.{first_of, found_of, rows_of};
 ghost use Rattle.mold_words.specs.NoOrders.{LacksOrder, LacksValue, is_address};
-ghost use Rattle.mold_words.specs.Orders.{output_in, address_in, burst_in, flag_in, has_no_address, input_in, is_no_address};
+ghost use Rattle.mold_words.specs.Orders.{output_in, address_in, burst_in, flag_in, has_no_address, format_in, is_no_address};
 ghost use Rattle.mold_words.specs.Orders.{limit_in};
 ghost use Rattle.mold_words.specs.Orders.{limits_in, live_in, number_in, report_in, session_in, turns_in, window_in};
 ghost use Rattle.mold_words.specs.Values.{is_character};
@@ -167,11 +167,11 @@ pub(crate) fn report_in(options: &ArgMatches<'_>) -> bool
 }
 
 /// Returns how the input, or the output of `dump`, encodes messages. `--end-at-empty` is refused without `--blocks`.
-#[tactic(auto, unfolding(crate::specs::Orders::input_in))]
-pub(crate) fn input_in(options: &ArgMatches<'_>) -> Result<MessageFormat, NoOrder>
+#[tactic(auto, unfolding(crate::specs::Orders::format_in))]
+pub(crate) fn format_in(options: &ArgMatches<'_>) -> Result<MessageFormat, NoOrder>
     ensures { MatchResult result
-        (λ format. input_in (rows_of (found_of options.now)) ≡ Some format)
-        (LacksValue (input_in (rows_of (found_of options.now)))) }
+        (λ format. format_in (rows_of (found_of options.now)) ≡ Some format)
+        (LacksValue (format_in (rows_of (found_of options.now)))) }
 {
     match (flag_in(options, "blocks"), flag_in(options, "end-at-empty")) {
         (false, false) => Ok(MessageFormat::Lines),

@@ -12,7 +12,7 @@ use crate::listen_order::ListenOrder;
 use crate::loop_order::LoopOrder;
 use crate::no_order::NoOrder;
 use crate::options::{
-    address_in, burst_in, check_addresses, flag_in, input_in, limit_in, limits_in, live_in,
+    address_in, burst_in, check_addresses, flag_in, format_in, limit_in, limits_in, live_in,
     number_in, output_in, report_in, required_in, session_in, string_in, text_in, turns_in,
     window_in,
 };
@@ -85,7 +85,7 @@ fn pack_order(alloc: Global, options: &ArgMatches<'_>) -> Result<Order, NoOrder>
 {
     let session = session_in(options, "session")?;
     let limit = limit_in(options, "limit")?;
-    let input = input_in(options)?;
+    let input = format_in(options)?;
     let pack = PackOrder {
         session,
         limit,
@@ -126,7 +126,7 @@ fn dump_order(alloc: Global, options: &ArgMatches<'_>) -> Result<Order, NoOrder>
 {
     let from = number_in(options, "from", 1, 1, MAX_NUMBER)?;
     let count = number_in(options, "count", MAX_NUMBER, 0, MAX_NUMBER)?;
-    let output = input_in(options)?;
+    let output = format_in(options)?;
     let journal = string_in(alloc, options, "journal")?;
     Ok(Order::Dump(DumpOrder {
         journal,
@@ -183,7 +183,7 @@ fn publish_order(alloc: Global, options: &ArgMatches<'_>) -> Result<Order, NoOrd
     let b = address_in(options, "b")?;
     let beats = number_in(options, "beats", 1, 0, 1000)?;
     let ends = number_in(options, "ends", 1, 0, 1000)?;
-    let input = input_in(options)?;
+    let input = format_in(options)?;
     let journal = string_in(alloc, options, "journal")?;
     Ok(Order::Publish(PublishOrder {
         session,
