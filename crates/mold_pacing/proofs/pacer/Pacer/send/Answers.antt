@@ -1,0 +1,28 @@
+use Rattle.std.proofs.Common.{◌∙◌, List, ap, arith, length}
+use Rattle.mold_pacing.specs.Flight.{is_ascending}
+use Rattle.mold_pacing.specs.declared.flight.Flight.{Flight}
+use Rattle.mold_pacing.specs.declared.state.PacerState.{PacerState}
+use Rattle.mold_pacing.proofs.PlaceLemmas.{sent_ascending, sent_length}
+use Rattle.mold_pacing.proofs.pacer.Pacer.send.Goals as goal
+
+pub invariant_of-self : goal.invariant_of-self
+invariant_of-self c =
+    let old = c.args.self.now in
+    let fs = old.flights.items in
+    let sent = c.next_flight-sent.result in
+    let leaves = c.args.place.leaves in
+    let now = ap (λ (s : PacerState). s.now) c.ask-self.ensures in
+    let opens = ap (λ (s : PacerState). s.opens) c.ask-self.ensures in
+    record {
+      sorted = ap (is_ascending 0) c.replace.ensures.items ∙ sent_ascending sent leaves fs old.sorted;
+      few = omega (
+        arith,
+        c.replace.new.flights.ok.0,
+        ap (λ (t : List Flight). length t) c.replace.ensures.items,
+        sent_length sent fs old.options.places old.state.now leaves c.requires.place.can
+            (omega (arith, old.few, old.flights.ok.0)),
+      );
+      room = omega (arith, c.replace.ensures.capacity, old.room);
+      timed = omega (arith, now, old.timed);
+      opens = omega (arith, now, opens, c.requires.opened);
+    }
