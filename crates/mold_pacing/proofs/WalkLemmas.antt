@@ -1,7 +1,8 @@
 -- The walk over gaps and requests.
-use Rattle.std.proofs.Common.{◌≡◌, ℕ, ◌+◌, ◌<◌, ◌≤◌, true, false, List, Some, arith, min, max, slice_get, sym, ap, refl, ◌∙◌, inl, inr}
+use Rattle.std.proofs.Common.{◌≡◌, ℕ, ◌+◌, ◌<◌, ◌≤◌, true, false, List, Some, arith, min, max, slice_get, sym, ap, refl, ◌∙◌, inl, inr, zero, suc, [], ◌∷◌}
 use Rattle.std.proofs.lemmas.Bool.{cases_lt}
-use Rattle.mold_pacing.specs.Asks.{AreGaps, IsFirstFree}
+use Rattle.std.proofs.lemmas.Bool.Decides.{nat_tests}
+use Rattle.mold_pacing.specs.Asks.{AreGaps, are_gaps, IsFirstFree}
 use Rattle.mold_pacing.specs.Flight.{AllInFlight, ArePassed, in_flight}
 use Rattle.mold_pacing.specs.declared.flight.Flight.{Flight}
 use Rattle.mold_pacing.specs.declared.gap.Gap.{Gap}
@@ -74,4 +75,47 @@ walked_found fs now ripe gaps count index number more g walked are there busy fr
   free = free;
   least = walked_gap fs now ripe gaps count index number more g walked are there busy;
   before = walked.busy;
+}
+
+-- Gaps in order, by index.
+pub gaps_low : (low : ℕ) (gaps : List Gap) (i : ℕ) (g : Gap) → are_gaps low gaps ≡ true → slice_get gaps i ≡ Some g →
+    low ≤ g.first
+gaps_low low [] i g are there = cc
+gaps_low low (h ∷ hs) zero g are there =
+    let is : h ≡ g = grind (arith, there) in
+    let here : low ≤ h.first = grind (arith, nat_tests, are) in
+    omega (arith, here, ap (λ (k : Gap). k.first) is)
+gaps_low low (h ∷ hs) (suc i) g are there =
+    let rest : are_gaps h.end hs ≡ true = grind (arith, are) in
+    let here : low ≤ h.first = grind (arith, nat_tests, are) in
+    let some : h.first < h.end = grind (arith, nat_tests, are) in
+    omega (arith, here, some, gaps_low h.end hs i g rest there)
+
+pub gaps_some : (low : ℕ) (gaps : List Gap) (i : ℕ) (g : Gap) → are_gaps low gaps ≡ true → slice_get gaps i ≡ Some g →
+    g.first < g.end
+gaps_some low [] i g are there = cc
+gaps_some low (h ∷ hs) zero g are there =
+    let is : h ≡ g = grind (arith, there) in
+    let some : h.first < h.end = grind (arith, nat_tests, are) in
+    omega (arith, some, ap (λ (k : Gap). k.first) is, ap (λ (k : Gap). k.end) is)
+gaps_some low (h ∷ hs) (suc i) g are there =
+    let rest : are_gaps h.end hs ≡ true = grind (arith, are) in
+    gaps_some h.end hs i g rest there
+
+pub gaps_ascend : (low : ℕ) (gaps : List Gap) (i j : ℕ) (g h : Gap) → are_gaps low gaps ≡ true → i < j →
+    slice_get gaps i ≡ Some g → slice_get gaps j ≡ Some h → g.end ≤ h.first
+gaps_ascend low [] i j g h are order there other = cc
+gaps_ascend low (k ∷ ks) i zero g h are order there other = absurd (omega (arith, order))
+gaps_ascend low (k ∷ ks) zero (suc j) g h are order there other =
+    let rest : are_gaps k.end ks ≡ true = grind (arith, are) in
+    let is : k ≡ g = grind (arith, there) in
+    omega (arith, gaps_low k.end ks j h rest other, ap (λ (x : Gap). x.end) is)
+gaps_ascend low (k ∷ ks) (suc i) (suc j) g h are order there other =
+    let rest : are_gaps k.end ks ≡ true = grind (arith, are) in
+    gaps_ascend k.end ks i j g h rest (omega (arith, order)) there other
+
+pub gaps_are : (gaps : List Gap) → are_gaps 0 gaps ≡ true → AreGaps gaps
+gaps_are gaps are = record {
+  some = λ i g there. gaps_some 0 gaps i g are there;
+  ascend = λ i j g h order there other. gaps_ascend 0 gaps i j g h are order there other;
 }

@@ -1,11 +1,17 @@
 -- Which numbers are requested.
+use Rattle.std.specs.Prelude.{Bool, ◌&&◌, nat_le, nat_lt, [], ◌∷◌}
 use Rattle.std.specs.Prelude.{◌≡◌, ◌⊎◌, ℕ, ◌+◌, ◌<◌, ◌≤◌, true, false, List, min, slice_get, Some}
 use Rattle.mold_pacing.specs.Flight.{AllInFlight, NoneInFlight, in_flight}
 use Rattle.mold_pacing.specs.declared.ask.Ask.{Ask}
 use Rattle.mold_pacing.specs.declared.flight.Flight.{Flight}
 use Rattle.mold_pacing.specs.declared.gap.Gap.{Gap}
 
--- The gaps are in ascending order, apart, and none is empty.
+-- Whether the gaps are in ascending order, apart, none of them is empty, and the first begins at or above `low`.
+abbrev pub are_gaps : ℕ → List Gap → Bool
+are_gaps low [] = true
+are_gaps low (g ∷ gs) = nat_le low g.first && (nat_lt g.first g.end && are_gaps g.end gs)
+
+-- The gaps are in ascending order, apart, and none of them is empty.
 pub record AreGaps (gaps : List Gap) : Type 0 where
   pub some : (i : ℕ) (g : Gap) → slice_get gaps i ≡ Some g → g.first < g.end
   pub ascend : (i j : ℕ) (g h : Gap) → i < j → slice_get gaps i ≡ Some g → slice_get gaps j ≡ Some h → g.end ≤ h.first

@@ -1,7 +1,8 @@
 -- Runs of a pacer.
-use Rattle.std.specs.Prelude.{◌≡◌, ℕ, ◌<◌, ◌^◌, List, [], ◌∷◌, map}
-use Rattle.std.specs.Prelude.{MatchOption, Option, None, Some, slice_get}
-use Rattle.mold_pacing.specs.Asks.{AreGaps}
+use Rattle.std.specs.Prelude.{Bool, true, nat_lt}
+use Rattle.std.specs.Prelude.{◌≡◌, ◌^◌, List, [], ◌∷◌, map}
+use Rattle.std.specs.Prelude.{MatchOption, Option, None}
+use Rattle.mold_pacing.specs.Asks.{are_gaps}
 use Rattle.mold_pacing.specs.Polls.{HasAsked, IsIdle}
 use Rattle.mold_pacing.specs.Responses.{after_arrival, after_response}
 use Rattle.mold_pacing.specs.State.{advanced, responded}
@@ -12,16 +13,12 @@ use Rattle.mold_pacing.specs.declared.state.PacerState.{PacerState}
 use Rattle.mold_pacing.specs.declared.step.Step.{Step}
 use Rattle.mold_pacing.specs.declared.step.Step.TheVariants.{Advance, Poll, Respond, Arrive}
 
--- The step is one that a pacer may take: its time is below 2^62, or its gaps are in order.
-abbrev pub CanStep : Step → Type 0
-CanStep (Advance time known) = time < 2 ^ 62
-CanStep (Poll gaps) = AreGaps gaps.now
-CanStep (Respond server came) = Unit {0}
-CanStep (Arrive came) = Unit {0}
-
--- Each of the steps is one that a pacer may take.
-abbrev pub CanRun : List Step → Type 0
-CanRun steps = (i : ℕ) (step : Step) → slice_get steps i ≡ Some step → CanStep step
+-- Whether a pacer may take the step: its time is below 2^62, or its gaps are in order.
+abbrev pub can_step : Step → Bool
+can_step (Advance time known) = nat_lt time (2 ^ 62)
+can_step (Poll gaps) = are_gaps 0 gaps.now
+can_step (Respond server came) = true
+can_step (Arrive came) = true
 
 -- A step returned no request, and changed the pacer's state and requests to these.
 pub record HasBecome (old new : Pacer) (state : PacerState) (flights : List Flight) (ask : Option Ask) : Type 0 where

@@ -33,13 +33,14 @@ pub struct Pacer {
 
 impl Pacer {
     ghost use Rattle.std.specs.Prelude.{[], map, false, IfOk, IfSome, IfNone, OnErr, ℕ};
-    ghost use Rattle.mold_pacing.specs.Asks.{AreGaps, AsksFrom};
+    ghost use Rattle.std.specs.List.{list_all};
+    ghost use Rattle.mold_pacing.specs.Asks.{are_gaps, AsksFrom};
     ghost use Rattle.mold_pacing.specs.Deadline.{CanAsk};
     ghost use Rattle.mold_pacing.specs.Polls.{HasAsked, IsIdle};
     ghost use Rattle.mold_pacing.specs.Flight.{ArePassed, BeginAbove};
     ghost use Rattle.mold_pacing.specs.Repeat.{flight_for, server_for};
     ghost use Rattle.mold_pacing.specs.Responses.{after_arrival, after_response};
-    ghost use Rattle.mold_pacing.specs.Run.{CanRun, CanStep, IsRun, Takes};
+    ghost use Rattle.mold_pacing.specs.Run.{IsRun, Takes, can_step};
     ghost use Rattle.mold_pacing.specs.State.{advanced, asked, fresh, responded};
     ghost use Rattle.mold_pacing.specs.Table.{IsPlace, has_room, placed, without};
 
@@ -129,7 +130,7 @@ impl Pacer {
     /// Returns the next request that may be sent now, if there is one. It counts as sent. `gaps` are the missing numbers.
     /// Those that are not ripe are not requested. Takes no memory.
     pub fn poll(&mut self, gaps: &[Gap]) -> Option<Ask>
-        requires { AreGaps gaps.now }
+        requires { are_gaps 0 gaps.now ≡ true }
         ensures asked { IfSome result (HasAsked self.old self.new gaps.now) }
         ensures idle { IfNone result (IsIdle self.old self.new gaps.now) }
     {
@@ -171,7 +172,7 @@ impl Pacer {
 
     /// Applies a step: one of the calls above. Returns the request that a poll returned.
     pub fn apply(&mut self, step: Step<'_>) -> Option<Ask>
-        requires { CanStep step }
+        requires { can_step step ≡ true }
         ensures { Takes self.old self.new step.entry result }
     {
         match step {
@@ -194,7 +195,7 @@ impl Pacer {
     /// Applies the steps one after the other. Returns an item for each: the request that it returned, or none. If the
     /// allocation of these items fails, no step is applied.
     pub fn run(&mut self, alloc: Global, steps: &[Step<'_>]) -> Result<Vec<Option<Ask>>, AllocError>
-        requires { CanRun steps.now }
+        requires { list_all can_step steps.now ≡ true }
         ensures ran { IfOk result (λ asks. IsRun self.old self.new steps.now asks.items) }
         ensures same { OnErr result (self.new ≡ self.old) }
     {

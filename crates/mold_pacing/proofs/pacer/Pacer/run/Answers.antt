@@ -2,7 +2,7 @@ use Rattle.std.proofs.Common.{◌∙◌, arith, get_or}
 use Rattle.std.proofs.lemmas.List.{get_or_default}
 use Rattle.mold_pacing.specs.declared.step.Step.TheVariants.{Advance}
 use Rattle.mold_pacing.proofs.LawLemmas.{takes_options}
-use Rattle.mold_pacing.proofs.RunLemmas.{run_next}
+use Rattle.mold_pacing.proofs.RunLemmas.{can_next, run_next}
 use Rattle.mold_pacing.proofs.pacer.Pacer.run.Goals as goal
 
 pub loop-step-preserved : goal.loop-step-preserved
@@ -20,3 +20,6 @@ loop-step-preserved c =
       count = omega (arith, c.push_reserved.ensures.len, i.count);
       room = omega (arith, c.push_reserved.ensures.capacity, i.room);
     }
+
+pub apply-ask-requires : goal.apply-ask-requires
+apply-ask-requires c = can_next c.args.steps.now c.loop-step.step-index c.requires c.loop-step-test.true
