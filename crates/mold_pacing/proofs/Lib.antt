@@ -5,3 +5,6 @@ pub mod ResponseLemmas
 pub mod RunLemmas
 pub mod LawLemmas
 pub mod WaitingLemmas
+pub mod EndLemmas
+pub mod ReadyLemmas
+pub mod PatienceLemmas

@@ -15,6 +15,11 @@ abbrev pub attempts_for : Option Flight → ℕ
 attempts_for None = 1
 attempts_for (Some f) = min (f.attempts + 1) 4294967295
 
+-- The count of a request's attempts, or 0 without a request.
+abbrev pub attempts_of : Option Flight → ℕ
+attempts_of None = 0
+attempts_of (Some f) = f.attempts
+
 -- The server after the one of the last request, or that one itself, if it responded. A new request goes to `base`. A
 -- server that doesn't exist is replaced by the first one.
 abbrev pub server_for : ℕ → ℕ → Option Flight → ℕ

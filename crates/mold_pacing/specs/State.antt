@@ -1,5 +1,5 @@
 -- What a pacer knows besides its requests.
-use Rattle.std.specs.Prelude.{ℕ, ◌+◌, ◌-◌, max, nat_lt, if◌then◌else◌}
+use Rattle.std.specs.Prelude.{◌≡◌, ◌⊎◌, ◌≤◌, ℕ, ◌+◌, ◌-◌, max, nat_lt, if◌then◌else◌}
 use Rattle.mold_pacing.specs.declared.state.PacerState.{PacerState}
 
 -- The state before any time was reported. No number below `known` is ripe.
@@ -36,3 +36,10 @@ responded server s = record {
   ripe = s.ripe;
   server = server;
 }
+
+-- The marks are as old as they should be. `known_at` is what was known at each time, and `begin` what was known at the
+-- beginning. A number below `ripe` was known a patience before the time `marked`, or at the beginning.
+pub record IsRipened (known_at : ℕ → ℕ) (begin patience : ℕ) (s : PacerState) : Type 0 where
+  pub past : s.marked ≤ s.now
+  pub mark : (s.mark ≡ known_at s.marked) ⊎ (s.mark ≡ begin)
+  pub ripe : (s.ripe ≤ begin) ⊎ ((time : ℕ) × (time + patience ≤ s.marked) × (s.ripe ≡ known_at time))

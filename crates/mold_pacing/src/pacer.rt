@@ -1,14 +1,15 @@
 //! The pacer: it decides which request for missing messages is sent now.
 
 ghost use Rattle.std.specs.Prelude.{◌<◌, ◌≤◌, ◌+◌, ◌^◌, ◌≡◌, true, vec_capacity, vec_len};
-ghost use Rattle.mold_pacing.specs.Flight.{is_ascending};
+ghost use Rattle.std.specs.List.{list_all};
+ghost use Rattle.mold_pacing.specs.Flight.{is_ascending, is_over};
 
 use crate::ask::Ask;
 use crate::bucket::is_open;
 use crate::flight::Flight;
 use crate::gap::Gap;
 use crate::options::PacerOptions;
-use crate::place::{Place, place_for, replace};
+use crate::place::{Place, place_for, replace, stale_index};
 use crate::repeat::{next_flight, next_server};
 use crate::response::{take_arrival, take_response};
 use crate::state::PacerState;
@@ -29,16 +30,17 @@ pub struct Pacer {
     ghost room: { options.places ≤ vec_capacity flights },
     ghost timed: { state.now < 2 ^ 62 },
     ghost opens: { state.opens ≤ state.now + options.tolerance + options.interval },
+    ghost ends: { list_all (is_over (state.now + options.ceiling)) flights.items ≡ true },
 }
 
 impl Pacer {
-    ghost use Rattle.std.specs.Prelude.{[], map, false, IfOk, IfSome, IfNone, OnErr, ℕ};
+    ghost use Rattle.std.specs.Prelude.{max, [], map, false, IfOk, IfSome, IfNone, OnErr, ℕ};
     ghost use Rattle.std.specs.List.{list_all};
     ghost use Rattle.mold_pacing.specs.Asks.{are_gaps, AsksFrom};
     ghost use Rattle.mold_pacing.specs.Deadline.{CanAsk};
-    ghost use Rattle.mold_pacing.specs.Polls.{HasAsked, IsIdle};
+    ghost use Rattle.mold_pacing.specs.Polls.{HasAsked, IsIdle, last_request};
     ghost use Rattle.mold_pacing.specs.Flight.{ArePassed, BeginAbove};
-    ghost use Rattle.mold_pacing.specs.Repeat.{flight_for, server_for};
+    ghost use Rattle.mold_pacing.specs.Repeat.{attempts_of, flight_for, server_for};
     ghost use Rattle.mold_pacing.specs.Responses.{after_arrival, after_response};
     ghost use Rattle.mold_pacing.specs.Run.{IsRun, Takes, can_step};
     ghost use Rattle.mold_pacing.specs.State.{advanced, asked, fresh, responded};
@@ -151,10 +153,21 @@ impl Pacer {
         ensures now { self.now.state.now ≤ result }
         ensures ready { CanAsk self.now result number }
         ensures least { (time : ℕ) → self.now.state.now ≤ time → time < result → CanAsk self.now time number → ⊥ }
+        ensures bound { result ≤ self.now.state.now + max self.now.options.ceiling self.now.options.interval }
     {
         let opens = self.state.opens.saturating_sub(self.options.tolerance);
         let free = free_from(&self.flights, number);
         self.state.now.max(opens).max(free).max(self.room_from())
+    }
+
+    /// Returns how many requests in a row for this number had no response. A request in flight doesn't count.
+    pub fn attempts(&self, number: u64) -> u32
+        ensures { result ≡ attempts_of (last_request self.now number) }
+    {
+        match stale_index(&self.flights, self.state.now, number) {
+            Some(index) => self.flights[index].attempts,
+            None => 0,
+        }
     }
 
     // Returns the time from which on the table has room.

@@ -24,8 +24,8 @@ fn is_stale_for(flight: Flight, now: u64, number: u64) -> bool
     flight.until <= now && flight.first <= number && number < flight.end
 }
 
-// Returns the index of the first request that is over and asked for this number.
-fn stale_index(flights: &[Flight], now: u64, number: u64) -> Option<usize>
+/// Returns the index of the first request that is over and asked for this number.
+pub(crate) fn stale_index(flights: &[Flight], now: u64, number: u64) -> Option<usize>
     ensures found { IfSome result (λ index. IsFound (is_stale now number) flights.now index) }
     ensures none { IfNone result (find (is_stale now number) flights.now ≡ None) }
 {

@@ -25,7 +25,7 @@ fn same(rt: &impl Abort, found: Option<Ask>, wanted: Option<Ask>) {
     assert!(rt; found == wanted, "another request");
 }
 
-fn same_time(rt: &impl Abort, found: u64, wanted: u64) {
+fn same_number(rt: &impl Abort, found: u64, wanted: u64) {
     assert!(rt; found == wanted, "{found}, not {wanted}");
 }
 
@@ -50,11 +50,12 @@ fn expect_repeated_requests(rt: &impl Abort, pacer: &mut Pacer) {
     pacer.advance(45, 8);
     same(rt, pacer.poll(&[Gap { first: 3, end: 8 }]), ask(3, 4, 0));
     pacer.advance(120, 8);
+    same_number(rt, u64::from(pacer.attempts(4)), 1);
     same(rt, pacer.poll(&[Gap { first: 3, end: 8 }]), ask(4, 7, 1));
-    same_time(rt, pacer.deadline(4), 320);
-    same_time(rt, pacer.deadline(9), 120);
+    same_number(rt, pacer.deadline(4), 320);
+    same_number(rt, pacer.deadline(9), 120);
     pacer.arrive(Gap { first: 4, end: 7 });
-    same_time(rt, pacer.deadline(4), 120);
+    same_number(rt, pacer.deadline(4), 120);
 }
 
 #[test]

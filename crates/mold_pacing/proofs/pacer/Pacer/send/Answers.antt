@@ -1,5 +1,8 @@
-use Rattle.std.proofs.Common.{◌∙◌, List, ap, arith, length}
-use Rattle.mold_pacing.specs.Flight.{is_ascending}
+use Rattle.std.proofs.Common.{ℕ, ◌+◌, ◌∙◌, List, ap, arith, length}
+use Rattle.std.specs.List.{list_all}
+use Rattle.mold_pacing.specs.Flight.{is_ascending, is_over}
+use Rattle.mold_pacing.specs.Table.{without}
+use Rattle.mold_pacing.proofs.EndLemmas.{all_placed, all_without, sent_ends}
 use Rattle.mold_pacing.specs.declared.flight.Flight.{Flight}
 use Rattle.mold_pacing.specs.declared.state.PacerState.{PacerState}
 use Rattle.mold_pacing.proofs.PlaceLemmas.{sent_ascending, sent_length}
@@ -25,4 +28,10 @@ invariant_of-self c =
       room = omega (arith, c.replace.ensures.capacity, old.room);
       timed = omega (arith, now, old.timed);
       opens = omega (arith, now, opens, c.requires.opened);
+      ends = ap (λ (n : ℕ). list_all (is_over (n + old.options.ceiling)) c.replace.new.flights.items) now
+          ∙ ap (list_all (is_over (old.state.now + old.options.ceiling))) c.replace.ensures.items
+          ∙ all_placed (is_over (old.state.now + old.options.ceiling)) sent (without leaves fs)
+          (ap (is_over (old.state.now + old.options.ceiling)) c.next_flight-sent.ensures
+          ∙ sent_ends old.options old.state.now c.args.place.before c.args.ask old.options.waits.1)
+          (all_without (is_over (old.state.now + old.options.ceiling)) leaves fs old.ends);
     }
