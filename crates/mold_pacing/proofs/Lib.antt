@@ -1,0 +1,10 @@
+pub mod TableLemmas
+pub mod WalkLemmas
+pub mod PlaceLemmas
+pub mod ResponseLemmas
+pub mod RunLemmas
+pub mod LawLemmas
+pub mod WaitingLemmas
+pub mod EndLemmas
+pub mod ReadyLemmas
+pub mod PatienceLemmas

@@ -1,0 +1,41 @@
+-- Responses and arrivals keep the order of the table.
+use Rattle.std.proofs.Common.{◌≡◌, ℕ, ◌&&◌, true, false, List, [], ◌∷◌, arith, refl, ap, cond, map, nat_le, min, ◌+◌, ◌∙◌}
+use Rattle.mold_pacing.specs.Flight.{is_ascending}
+use Rattle.mold_pacing.specs.Responses.{after_arrival, after_response, has_come, is_response_to}
+use Rattle.mold_pacing.specs.declared.flight.Flight.{Flight}
+
+pub response_first : (settle now first end : ℕ) (f : Flight) → (after_response settle now first end f).first ≡ f.first
+response_first settle now first end f = elim (is_response_to now first end f) as (λ b. (cond b (record {
+  first = f.first;
+  end = f.end;
+  until = cond (nat_le f.end end) now (min f.until (now + settle));
+  pause = 0;
+  server = f.server;
+  attempts = 0;
+}) f).first ≡ f.first) [ true ↦ refl | false ↦ refl ]
+
+pub arrival_first : (now first end : ℕ) (f : Flight) → (after_arrival now first end f).first ≡ f.first
+arrival_first now first end f = elim (has_come first end f) as (λ b. (cond b (record {
+  first = f.first;
+  end = f.end;
+  until = min f.until now;
+  pause = f.pause;
+  server = f.server;
+  attempts = f.attempts;
+}) f).first ≡ f.first) [ true ↦ refl | false ↦ refl ]
+
+pub map_ascending : (change : Flight → Flight) (low : ℕ) (fs : List Flight) →
+    ((f : Flight) → (change f).first ≡ f.first) → is_ascending low fs ≡ true → is_ascending low (map change fs) ≡ true
+map_ascending change low [] keeps sorted = refl
+map_ascending change low (f ∷ fs) keeps sorted =
+    let rest : is_ascending f.first fs ≡ true = grind (arith, sorted) in
+    let here : nat_le low f.first ≡ true = grind (arith, sorted) in
+    let more = map_ascending change f.first fs keeps rest in
+    ap (λ (n : ℕ). nat_le low n && is_ascending n (map change fs)) (keeps f)
+    ∙ (let both : (nat_le low f.first && is_ascending f.first (map change fs)) ≡ true = grind (arith, here, more) in both)
+
+pub changed_ascending : (change : Flight → Flight) (fs gs : List Flight) →
+    ((f : Flight) → (change f).first ≡ f.first) → gs ≡ map change fs → is_ascending 0 fs ≡ true →
+    is_ascending 0 gs ≡ true
+changed_ascending change fs gs keeps are sorted =
+    ap (is_ascending 0) are ∙ map_ascending change 0 fs keeps sorted

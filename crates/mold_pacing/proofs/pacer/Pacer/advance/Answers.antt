@@ -1,0 +1,13 @@
+use Rattle.std.proofs.Common.{◌+◌, ◌∙◌, ap, arith}
+use Rattle.mold_pacing.specs.declared.state.PacerState.{PacerState}
+use Rattle.mold_pacing.proofs.EndLemmas.{all_later}
+use Rattle.mold_pacing.proofs.LawLemmas.{advanced_now}
+use Rattle.mold_pacing.proofs.pacer.Pacer.advance.Goals as goal
+
+pub invariant_of-self-clause-ends : goal.invariant_of-self-clause-ends
+invariant_of-self-clause-ends c =
+    let old = c.args.self.now in
+    let now = ap (λ (s : PacerState). s.now) c.advance-self.ensures
+    ∙ advanced_now old.options.patience c.args.time c.args.known old.state in
+    all_later (old.state.now + old.options.ceiling) (c.advance-self.result.now + old.options.ceiling) old.flights.items
+    (omega (arith, now)) old.ends

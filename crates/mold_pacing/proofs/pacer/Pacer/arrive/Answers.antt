@@ -1,0 +1,34 @@
+use Rattle.std.proofs.Common.{◌+◌, ◌∙◌, List, ap, length, map, sym}
+use Rattle.std.proofs.lemmas.List.{length-map, with_items_is}
+use Rattle.std.specs.Vec.{with_items}
+use Rattle.mold_pacing.specs.declared.flight.Flight.{Flight}
+use Rattle.mold_pacing.specs.Responses.{after_arrival}
+use Rattle.std.specs.List.{list_all}
+use Rattle.mold_pacing.specs.Flight.{is_over}
+use Rattle.mold_pacing.proofs.EndLemmas.{all_map, ends_arrival}
+use Rattle.mold_pacing.proofs.ResponseLemmas.{arrival_first, changed_ascending}
+use Rattle.mold_pacing.proofs.pacer.Pacer.arrive.Goals as goal
+
+pub invariant_of-self-clause-sorted : goal.invariant_of-self-clause-sorted
+invariant_of-self-clause-sorted c =
+    let old = c.args.self.now in
+    let fs = old.flights in
+    let now = c.take_arrival.new.flights in
+    let change = after_arrival old.state.now c.args.came.first c.args.came.end in
+    let is = c.take_arrival.ensures ∙ ap (map change) c.deref_mut.ensures.value in
+    let long = ap (λ (t : List Flight). length t) is ∙ length-map fs.items change ∙ sym fs.ok.0 in
+    changed_ascending change fs.items (with_items fs now).items
+    (arrival_first old.state.now c.args.came.first c.args.came.end)
+    (with_items_is fs now long ∙ is) old.sorted
+
+pub invariant_of-self-clause-ends : goal.invariant_of-self-clause-ends
+invariant_of-self-clause-ends c =
+    let old = c.args.self.now in
+    let fs = old.flights in
+    let now = c.take_arrival.new.flights in
+    let change = after_arrival old.state.now c.args.came.first c.args.came.end in
+    let is = c.take_arrival.ensures ∙ ap (map change) c.deref_mut.ensures.value in
+    let long = ap (λ (t : List Flight). length t) is ∙ length-map fs.items change ∙ sym fs.ok.0 in
+    let over = is_over (old.state.now + old.options.ceiling) in
+    ap (list_all over) (with_items_is fs now long ∙ is)
+    ∙ all_map over over change fs.items (ends_arrival old.state.now c.args.came.first c.args.came.end old.options.ceiling) old.ends

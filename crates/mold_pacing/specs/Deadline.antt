@@ -1,0 +1,12 @@
+-- When a request can be sent.
+use Rattle.std.specs.Prelude.{◌≡◌, ℕ, ◌+◌, ◌≤◌, true, false}
+use Rattle.mold_pacing.specs.Flight.{in_flight}
+use Rattle.mold_pacing.specs.Table.{has_room}
+use Rattle.mold_pacing.specs.declared.pacer.Pacer.{Pacer}
+
+-- At this time a request that begins with this number can be sent, if nothing happens before: the bucket allows it, the
+-- number is not in flight, and the table has room.
+pub record CanAsk (p : Pacer) (time number : ℕ) : Type 0 where
+  pub opened : p.state.opens ≤ time + p.options.tolerance
+  pub free : in_flight time number p.flights.items ≡ false
+  pub room : has_room p.options.places time p.flights.items ≡ true

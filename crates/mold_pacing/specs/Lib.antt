@@ -1,0 +1,10 @@
+pub mod Flight
+pub mod Asks
+pub mod Repeat
+pub mod State
+pub mod Responses
+pub mod Table
+pub mod Polls
+pub mod Run
+pub mod Laws
+pub mod Deadline

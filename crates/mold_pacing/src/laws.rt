@@ -1,0 +1,50 @@
+//! Theorems about all runs of a pacer. Each law is a function with an empty body whose contract is the theorem.
+//! `Pacer::run` returns such a run.
+
+ghost use Rattle.std.specs.Prelude.{◌≡◌, ◌+◌, ◌-◌, ◌*◌, ◌<◌, ◌≤◌, ℕ, max, true, List, Option, Some, slice_get};
+ghost use Rattle.mold_pacing.specs.Asks.{are_gaps};
+ghost use Rattle.mold_pacing.specs.Deadline.{CanAsk};
+ghost use Rattle.mold_pacing.specs.Laws.{AreApart, count_asks};
+ghost use Rattle.mold_pacing.specs.Polls.{HasAsked, IsIdle};
+ghost use Rattle.mold_pacing.specs.Run.{IsRun};
+ghost use Rattle.mold_pacing.specs.State.{IsRipened, advanced, fresh};
+ghost use Rattle.mold_pacing.specs.declared.ask.Ask.{Ask};
+ghost use Rattle.mold_pacing.specs.declared.gap.Gap.{Gap};
+ghost use Rattle.mold_pacing.specs.declared.pacer.Pacer.{Pacer};
+ghost use Rattle.mold_pacing.specs.declared.state.PacerState.{PacerState};
+ghost use Rattle.mold_pacing.specs.declared.step.Step.{Step};
+
+/// In each run, and so in each part of a run, the requests times the interval are at most the time that passed, the
+/// tolerance and one interval. With a tolerance of `interval` times `bucket - 1`, a span of time has at most `bucket`
+/// requests and one more for each interval.
+pub fn limit_law()
+    ensures { (old new : Pacer) (steps : List Step) (asks : List (Option Ask)) → IsRun old new steps asks →
+        count_asks asks * old.options.interval
+        ≤ new.state.now - old.state.now + old.options.tolerance + old.options.interval }
+{}
+
+/// No number is requested twice within the timeout, unless a step freed the request for it: a response to that request,
+/// or the arrival of all its numbers.
+pub fn apart_law()
+    ensures { (old new : Pacer) (steps : List Step) (asks : List (Option Ask)) → IsRun old new steps asks →
+        AreApart old.options.timeout old.state.now steps asks }
+{}
+
+/// Requests never get stuck. At a time when a request for the first missing number can be sent, `Pacer::poll` returns one
+/// that begins with this number, if the number is ripe. `Pacer::deadline` returns the first such time.
+pub fn ready_law()
+    ensures asks { (old new : Pacer) (gaps : List Gap) (gap : Gap) (ask : Ask) → HasAsked old new gaps ask →
+        are_gaps 0 gaps ≡ true → slice_get gaps 0 ≡ Some gap → gap.first < old.state.ripe →
+        CanAsk old old.state.now gap.first → ask.first ≡ gap.first }
+    ensures idle { (old new : Pacer) (gaps : List Gap) (gap : Gap) → IsIdle old new gaps → are_gaps 0 gaps ≡ true →
+        slice_get gaps 0 ≡ Some gap → gap.first < old.state.ripe → CanAsk old old.state.now gap.first → ⊥ }
+{}
+
+/// Only numbers that were known a patience ago, or at the beginning, are ripe. This holds of the state of a new pacer,
+/// and `Pacer::advance` keeps it. No other call changes the marks.
+pub fn patience_law()
+    ensures begins { (known_at : ℕ → ℕ) (begin patience : ℕ) → IsRipened known_at begin patience (fresh begin) }
+    ensures stays { (known_at : ℕ → ℕ) (begin patience time known : ℕ) (s : PacerState) →
+        known_at (max s.now time) ≡ known → IsRipened known_at begin patience s →
+        IsRipened known_at begin patience (advanced patience time known s) }
+{}

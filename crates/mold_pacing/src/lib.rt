@@ -1,0 +1,26 @@
+//! The policy by which a receiver requests missing messages: when a request may be sent, for which numbers, and to which
+//! server. It has no clock and no receiver.
+#![tactic(auto)]
+
+mod ask;
+mod bucket;
+mod flight;
+mod gap;
+pub mod laws;
+mod options;
+mod pacer;
+mod place;
+mod repeat;
+mod response;
+mod state;
+mod step;
+mod table;
+mod waiting;
+
+pub use ask::Ask;
+pub use flight::Flight;
+pub use gap::Gap;
+pub use options::PacerOptions;
+pub use pacer::Pacer;
+pub use state::PacerState;
+pub use step::Step;

@@ -1,0 +1,222 @@
+//! The pacer: it decides which request for missing messages is sent now.
+
+ghost use Rattle.std.specs.Prelude.{◌<◌, ◌≤◌, ◌+◌, ◌^◌, ◌≡◌, true, vec_capacity, vec_len};
+ghost use Rattle.std.specs.List.{list_all};
+ghost use Rattle.mold_pacing.specs.Flight.{is_ascending, is_over};
+
+use crate::ask::Ask;
+use crate::bucket::is_open;
+use crate::flight::Flight;
+use crate::gap::Gap;
+use crate::options::PacerOptions;
+use crate::place::{Place, place_for, replace, stale_index};
+use crate::repeat::{next_flight, next_server};
+use crate::response::{take_arrival, take_response};
+use crate::state::PacerState;
+use crate::step::Step;
+use crate::table::{Free, first_free, free_end};
+use crate::waiting::{free_from, over_from};
+use std::alloc::{AllocError, Global};
+
+/// The policy of requests. It knows the time, the requests in flight, and the missing numbers only from its caller.
+#[derive(Debug, Drop)]
+pub struct Pacer {
+    options: PacerOptions,
+    state: PacerState,
+    // The requests in flight and those that are over, in ascending order of their first numbers.
+    flights: Vec<Flight>,
+    ghost sorted: { is_ascending 0 flights.items ≡ true },
+    ghost few: { vec_len flights ≤ options.places },
+    ghost room: { options.places ≤ vec_capacity flights },
+    ghost timed: { state.now < 2 ^ 62 },
+    ghost opens: { state.opens ≤ state.now + options.tolerance + options.interval },
+    ghost ends: { list_all (is_over (state.now + options.ceiling)) flights.items ≡ true },
+}
+
+impl Pacer {
+    ghost use Rattle.std.specs.Prelude.{max, [], map, false, IfOk, IfSome, IfNone, OnErr, ℕ};
+    ghost use Rattle.std.specs.List.{list_all};
+    ghost use Rattle.mold_pacing.specs.Asks.{are_gaps, AsksFrom};
+    ghost use Rattle.mold_pacing.specs.Deadline.{CanAsk};
+    ghost use Rattle.mold_pacing.specs.Polls.{HasAsked, IsIdle, last_request};
+    ghost use Rattle.mold_pacing.specs.Flight.{ArePassed, BeginAbove};
+    ghost use Rattle.mold_pacing.specs.Repeat.{attempts_of, flight_for, server_for};
+    ghost use Rattle.mold_pacing.specs.Responses.{after_arrival, after_response};
+    ghost use Rattle.mold_pacing.specs.Run.{IsRun, Takes, can_step};
+    ghost use Rattle.mold_pacing.specs.State.{advanced, asked, fresh, responded};
+    ghost use Rattle.mold_pacing.specs.Table.{IsPlace, has_room, placed, without};
+
+    /// Returns a pacer with no request in flight, before any time was reported. `known` is one more than the greatest
+    /// number that is known. It takes its whole memory here.
+    pub fn new(alloc: Global, options: PacerOptions, known: u64) -> Result<Pacer, AllocError>
+        ensures options { IfOk result (λ pacer. pacer.options ≡ options) }
+        ensures state { IfOk result (λ pacer. pacer.state ≡ fresh known) }
+        ensures empty { IfOk result (λ pacer. pacer.flights.items ≡ []) }
+    {
+        Ok(Pacer {
+            options,
+            state: PacerState::new(known),
+            flights: Vec::with_capacity(alloc, options.places as usize)?,
+        })
+    }
+
+    /// Reports the time, and one more than the greatest number that is known now. A time below the last one counts as
+    /// the last one.
+    pub fn advance(&mut self, time: u64, known: u64)
+        requires { time < 2 ^ 62 }
+        ensures options { self.new.options ≡ self.old.options }
+        ensures state { self.new.state ≡ advanced self.old.options.patience time known self.old.state }
+        ensures flights { self.new.flights.items ≡ self.old.flights.items }
+    {
+        self.state = self.state.advance(self.options.patience, time, known);
+    }
+
+    /// Reports a response with the numbers of the range, which was accepted. New requests go to its server.
+    pub fn respond(&mut self, server: u32, came: Gap)
+        ensures options { self.new.options ≡ self.old.options }
+        ensures state { self.new.state ≡ responded server self.old.state }
+        ensures flights { self.new.flights.items ≡
+            map (after_response self.old.options.settle self.old.state.now came.first came.end) self.old.flights.items }
+    {
+        take_response(&mut self.flights, self.options.settle, self.state.now, came);
+        self.state.server = server;
+    }
+
+    /// Reports that all numbers of the range came, from wherever. Requests for nothing else are no longer in flight.
+    pub fn arrive(&mut self, came: Gap)
+        ensures options { self.new.options ≡ self.old.options }
+        ensures state { self.new.state ≡ self.old.state }
+        ensures flights { self.new.flights.items ≡
+            map (after_arrival self.old.state.now came.first came.end) self.old.flights.items }
+    {
+        take_arrival(&mut self.flights, self.state.now, came);
+    }
+
+    // Returns the request for a free number.
+    fn ask_for(&self, free: Free, before: Option<Flight>) -> Ask
+        requires passed { ArePassed self.now.flights.items self.now.state.now free.index free.first }
+        requires above { BeginAbove self.now.flights.items free.index free.first }
+        requires some { free.first < free.end }
+        ensures asks { AsksFrom self.now.flights.items self.now.state.now self.now.options.most free.first free.end
+            result }
+        ensures server { result.server ≡ server_for self.now.options.servers self.now.state.server before }
+    {
+        let most = free.first.saturating_add(u64::from(self.options.most));
+        let free = Free {
+            end: free.end.min(most),
+            ..free
+        };
+        Ask {
+            first: free.first,
+            end: free_end(&self.flights, self.state.now, free),
+            server: next_server(self.options, self.state.server, before),
+        }
+    }
+
+    // Sends the request: it enters the table, and the next one may be sent an interval later.
+    fn send(&mut self, place: Place, ask: Ask)
+        requires place { IsPlace self.old.flights.items self.old.options.places self.old.state.now ask.first place.leaves
+            place.before }
+        requires opened { self.old.state.opens ≤ self.old.state.now + self.old.options.tolerance }
+        ensures options { self.new.options ≡ self.old.options }
+        ensures state { self.new.state ≡ asked self.old.options.interval self.old.state }
+        ensures flights { self.new.flights.items ≡
+            placed (flight_for self.old.options self.old.state.now place.before ask)
+            (without place.leaves self.old.flights.items) }
+    {
+        let sent = next_flight(self.options, self.state.now, place.before, ask);
+        replace(&mut self.flights, place.leaves, sent);
+        self.state = self.state.ask(self.options.interval);
+    }
+
+    /// Returns the next request that may be sent now, if there is one. It counts as sent. `gaps` are the missing numbers.
+    /// Those that are not ripe are not requested. Takes no memory.
+    pub fn poll(&mut self, gaps: &[Gap]) -> Option<Ask>
+        requires { are_gaps 0 gaps.now ≡ true }
+        ensures asked { IfSome result (HasAsked self.old self.new gaps.now) }
+        ensures idle { IfNone result (IsIdle self.old self.new gaps.now) }
+    {
+        let now = self.state.now;
+        if !is_open(self.state.opens, self.options.tolerance, now) {
+            return None;
+        }
+        let free = first_free(&self.flights, now, self.state.ripe, gaps)?;
+        let place = place_for(&self.flights, self.options.places, now, free.first)?;
+        let ask = self.ask_for(free, place.before);
+        self.send(place, ask);
+        Some(ask)
+    }
+
+    /// Returns the least time, from now on, at which a request that begins with this number can be sent, if nothing happens
+    /// before. The number is one that is missing and ripe.
+    pub fn deadline(&self, number: u64) -> u64
+        ensures now { self.now.state.now ≤ result }
+        ensures ready { CanAsk self.now result number }
+        ensures least { (time : ℕ) → self.now.state.now ≤ time → time < result → CanAsk self.now time number → ⊥ }
+        ensures bound { result ≤ self.now.state.now + max self.now.options.ceiling self.now.options.interval }
+    {
+        let opens = self.state.opens.saturating_sub(self.options.tolerance);
+        let free = free_from(&self.flights, number);
+        self.state.now.max(opens).max(free).max(self.room_from())
+    }
+
+    /// Returns how many requests in a row for this number had no response. A request in flight doesn't count.
+    pub fn attempts(&self, number: u64) -> u32
+        ensures { result ≡ attempts_of (last_request self.now number) }
+    {
+        match stale_index(&self.flights, self.state.now, number) {
+            Some(index) => self.flights[index].attempts,
+            None => 0,
+        }
+    }
+
+    // Returns the time from which on the table has room.
+    fn room_from(&self) -> u64
+        ensures room { (time : ℕ) → result ≤ time →
+            has_room self.now.options.places time self.now.flights.items ≡ true }
+        ensures least { (time : ℕ) → time < result →
+            has_room self.now.options.places time self.now.flights.items ≡ false }
+    {
+        if self.flights.len() < self.options.places as usize {
+            return 0;
+        }
+        over_from(&self.flights)
+    }
+
+    /// Applies a step: one of the calls above. Returns the request that a poll returned.
+    pub fn apply(&mut self, step: Step<'_>) -> Option<Ask>
+        requires { can_step step ≡ true }
+        ensures { Takes self.old self.new step.entry result }
+    {
+        match step {
+            Step::Poll { gaps } => self.poll(gaps),
+            Step::Advance { time, known } => {
+                self.advance(time, known);
+                None
+            }
+            Step::Respond { server, came } => {
+                self.respond(server, came);
+                None
+            }
+            Step::Arrive { came } => {
+                self.arrive(came);
+                None
+            }
+        }
+    }
+
+    /// Applies the steps one after the other. Returns an item for each: the request that it returned, or none. If the
+    /// allocation of these items fails, no step is applied.
+    pub fn run(&mut self, alloc: Global, steps: &[Step<'_>]) -> Result<Vec<Option<Ask>>, AllocError>
+        requires { list_all can_step steps.now ≡ true }
+        ensures ran { IfOk result (λ asks. IsRun self.old self.new steps.now asks.items) }
+        ensures same { OnErr result (self.new ≡ self.old) }
+    {
+        let mut asks = Vec::with_capacity(alloc, steps.len())?;
+        for step in steps {
+            let ask = self.apply(*step);
+            asks.push_reserved(ask);
+        }
+        Ok(asks)
+    }
+}

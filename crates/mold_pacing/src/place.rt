@@ -1,0 +1,114 @@
+//! The places of the table: which request leaves it, and where a new one enters.
+
+ghost use Rattle.std.specs.Prelude.{◌≡◌, ◌<◌, ◌≤◌, ℕ, false, length, find, slice_get, IfNone, IfSome, Some, None};
+ghost use Rattle.std.specs.Prelude.{vec_capacity, vec_len};
+ghost use Rattle.std.specs.List.{list_any};
+ghost use Rattle.mold_pacing.specs.Flight.{is_over, is_stale};
+ghost use Rattle.mold_pacing.specs.declared.flight.Flight.{Flight};
+ghost use Rattle.mold_pacing.specs.Table.{AreBelow, IsFound, IsOverAt, IsPlace, has_room, placed, without};
+
+use crate::flight::Flight;
+
+/// The place for a new request: the index of the request that leaves the table, if one has to, and the last request for
+/// the same number.
+#[derive(Clone, Copy, Debug)]
+pub(crate) struct Place {
+    pub(crate) leaves: Option<usize>,
+    pub(crate) before: Option<Flight>,
+}
+
+// Returns whether the request is over and asked for this number.
+fn is_stale_for(flight: Flight, now: u64, number: u64) -> bool
+    ensures { result ≡ is_stale now number flight }
+{
+    flight.until <= now && flight.first <= number && number < flight.end
+}
+
+/// Returns the index of the first request that is over and asked for this number.
+pub(crate) fn stale_index(flights: &[Flight], now: u64, number: u64) -> Option<usize>
+    ensures found { IfSome result (λ index. IsFound (is_stale now number) flights.now index) }
+    ensures none { IfNone result (find (is_stale now number) flights.now ≡ None) }
+{
+    for index in 0..flights.len() {
+        if is_stale_for(flights[index], now, number) {
+            return Some(index);
+        }
+    }
+    None
+}
+
+// Returns the index of the first request that is over.
+fn over_index(flights: &[Flight], now: u64) -> Option<usize>
+    ensures over { IfSome result (λ index. IsOverAt flights.now now index) }
+    ensures none { IfNone result (list_any (is_over now) flights.now ≡ false) }
+{
+    for index in 0..flights.len() {
+        if flights[index].until <= now {
+            return Some(index);
+        }
+    }
+    None
+}
+
+/// Returns the place for a request that begins with this number, if the table has room.
+pub(crate) fn place_for(flights: &[Flight], places: u32, now: u64, number: u64) -> Option<Place>
+    ensures place { IfSome result (λ place. IsPlace flights.now places now number place.leaves place.before) }
+    ensures none { IfNone result (has_room places now flights.now ≡ false) }
+{
+    if let Some(index) = stale_index(flights, now, number) {
+        return Some(Place {
+            leaves: Some(index),
+            before: Some(flights[index]),
+        });
+    }
+    if flights.len() < places as usize {
+        return Some(Place {
+            leaves: None,
+            before: None,
+        });
+    }
+    let index = over_index(flights, now)?;
+    Some(Place {
+        leaves: Some(index),
+        before: None,
+    })
+}
+
+// Returns the index of the first request that doesn't begin below this number.
+fn index_for(flights: &[Flight], first: u64) -> usize
+    ensures bound { result ≤ length flights.now }
+    ensures below { AreBelow flights.now result first }
+    ensures next { (f : Flight) → slice_get flights.now result ≡ Some f → first ≤ f.first }
+{
+    for index in 0..flights.len() {
+        if flights[index].first >= first {
+            return index;
+        }
+    }
+    flights.len()
+}
+
+// Inserts the request before the first one that doesn't begin below it.
+fn put(flights: &mut Vec<Flight>, sent: Flight)
+    requires { vec_len flights.old < vec_capacity flights.old }
+    ensures items { flights.new.items ≡ placed sent flights.old.items }
+    ensures capacity { vec_capacity flights.new ≡ vec_capacity flights.old }
+{
+    let index = index_for(flights, sent.first);
+    let _ = flights.insert(index, sent);
+}
+
+/// Removes the request that leaves, if one does, and inserts the new one.
+pub(crate) fn replace(flights: &mut Vec<Flight>, leaves: Option<usize>, sent: Flight)
+    requires there { IfSome leaves (λ index. index < vec_len flights.old) }
+    requires room { leaves ≡ None → vec_len flights.old < vec_capacity flights.old }
+    ensures items { flights.new.items ≡ placed sent (without leaves flights.old.items) }
+    ensures capacity { vec_capacity flights.new ≡ vec_capacity flights.old }
+{
+    if let Some(index) = leaves {
+        let _ = flights.remove(index);
+        put(flights, sent);
+        return;
+    }
+    put(flights, sent);
+}

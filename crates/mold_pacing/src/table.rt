@@ -1,0 +1,115 @@
+//! Walks over the table of requests, which is in ascending order of their first numbers.
+
+ghost use Rattle.std.specs.Prelude.{◌≡◌, ◌≤◌, ◌<◌, ◌⊎◌, ◌&&◌, true, false, nat_lt, IfSome, IfNone};
+ghost use Rattle.mold_pacing.specs.Flight.{AllInFlight, ArePassed, BeginAbove, NoneInFlight, in_flight, is_ascending};
+ghost use Rattle.mold_pacing.specs.Asks.{AreGaps, AreAllInFlight, IsFirstFree};
+
+use crate::flight::Flight;
+use crate::gap::Gap;
+
+/// How far a walk over the table has come: `number` is the least number that can be free, and the requests in flight
+/// before `index` end at or below it.
+#[derive(Clone, Copy, Debug)]
+pub(crate) struct Cursor {
+    pub(crate) index: usize,
+    pub(crate) number: u64,
+}
+
+/// A free number, the end of its gap, and the index from which on all requests begin above it.
+#[derive(Clone, Copy, Debug)]
+pub(crate) struct Free {
+    pub(crate) index: usize,
+    pub(crate) first: u64,
+    pub(crate) end: u64,
+}
+
+// Passes each request that begins at or below the cursor's number. The cursor's number then is the least one from there
+// on that is not in flight.
+fn pass_flights(flights: &[Flight], now: u64, from: Cursor) -> Cursor
+    requires sorted { is_ascending 0 flights.now ≡ true }
+    requires passed { ArePassed flights.now now from.index from.number }
+    ensures passed { ArePassed flights.now now result.index result.number }
+    ensures low { from.number ≤ result.number }
+    ensures busy { AllInFlight flights.now now from.number result.number }
+    ensures free { in_flight now result.number flights.now ≡ false }
+    ensures above { BeginAbove flights.now result.index result.number }
+{
+    let mut index = from.index;
+    let mut number = from.number;
+    while index < flights.len() {
+        let flight = flights[index];
+        if flight.first > number {
+            break;
+        }
+        if flight.until > now {
+            number = number.max(flight.end);
+        }
+        index += 1;
+    }
+    Cursor { index, number }
+}
+
+/// Returns the least number of the gaps that is below `ripe` and not in flight. Each gap and each request is visited at
+/// most once.
+pub(crate) fn first_free(flights: &[Flight], now: u64, ripe: u64, gaps: &[Gap]) -> Option<Free>
+    requires sorted { is_ascending 0 flights.now ≡ true }
+    requires gaps { AreGaps gaps.now }
+    ensures found { IfSome result (λ free. IsFirstFree flights.now now ripe gaps.now free.first free.end) }
+    ensures passed { IfSome result (λ free. ArePassed flights.now now free.index free.first) }
+    ensures above { IfSome result (λ free. BeginAbove flights.now free.index free.first) }
+    ensures none { IfNone result (AreAllInFlight flights.now now ripe gaps.now) }
+{
+    let mut cursor = Cursor {
+        index: 0,
+        number: 0,
+    };
+    for gap in gaps {
+        let from = Cursor {
+            index: cursor.index,
+            number: cursor.number.max(gap.first),
+        };
+        cursor = pass_flights(flights, now, from);
+        let end = gap.end.min(ripe);
+        if cursor.number < end {
+            return Some(Free {
+                index: cursor.index,
+                first: cursor.number,
+                end,
+            });
+        }
+    }
+    None
+}
+
+// Returns whether the request is in flight and asks for a number.
+fn is_sent(flight: Flight, now: u64) -> bool
+    ensures { result ≡ (nat_lt now flight.until && nat_lt flight.first flight.end) }
+{
+    now < flight.until && flight.first < flight.end
+}
+
+/// Returns the end of the longest range of numbers that begins at `free.first`, ends at most at `free.end`, and has no
+/// number in flight.
+pub(crate) fn free_end(flights: &[Flight], now: u64, free: Free) -> u64
+    requires sorted { is_ascending 0 flights.now ≡ true }
+    requires passed { ArePassed flights.now now free.index free.first }
+    requires above { BeginAbove flights.now free.index free.first }
+    requires some { free.first < free.end }
+    ensures some { free.first < result }
+    ensures high { result ≤ free.end }
+    ensures free { NoneInFlight flights.now now free.first result }
+    ensures stops { (result ≡ free.end) ⊎ (in_flight now result flights.now ≡ true) }
+{
+    let mut index = free.index;
+    while index < flights.len() {
+        let flight = flights[index];
+        if flight.first >= free.end {
+            break;
+        }
+        if is_sent(flight, now) {
+            return flight.first;
+        }
+        index += 1;
+    }
+    free.end
+}

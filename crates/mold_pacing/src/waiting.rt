@@ -1,0 +1,42 @@
+//! How long the requests in flight keep a number or a place.
+
+ghost use Rattle.std.specs.Prelude.{◌≡◌, ◌<◌, ◌≤◌, ℕ, true, false, length};
+ghost use Rattle.std.specs.List.{list_all, list_any};
+ghost use Rattle.mold_pacing.specs.Flight.{asks_for, in_flight, is_over};
+
+use crate::flight::Flight;
+
+// Returns whether the request asks for this number.
+fn has_number(flight: Flight, number: u64) -> bool
+    ensures { result ≡ asks_for number flight }
+{
+    flight.first <= number && number < flight.end
+}
+
+/// Returns the time from which on the number is not in flight.
+pub(crate) fn free_from(flights: &[Flight], number: u64) -> u64
+    ensures free { (time : ℕ) → result ≤ time → in_flight time number flights.now ≡ false }
+    ensures least { (time : ℕ) → time < result → in_flight time number flights.now ≡ true }
+{
+    let mut from = 0u64;
+    for index in 0..flights.len() {
+        let flight = flights[index];
+        if has_number(flight, number) {
+            from = from.max(flight.until);
+        }
+    }
+    from
+}
+
+/// Returns the time from which on one of the requests is over.
+pub(crate) fn over_from(flights: &[Flight]) -> u64
+    requires { 0 < length flights.now }
+    ensures over { (time : ℕ) → result ≤ time → list_any (is_over time) flights.now ≡ true }
+    ensures least { (time : ℕ) → time < result → list_any (is_over time) flights.now ≡ false }
+{
+    let mut from = flights[0].until;
+    for index in 0..flights.len() {
+        from = from.min(flights[index].until);
+    }
+    from
+}

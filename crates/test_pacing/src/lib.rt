@@ -1,0 +1,5 @@
+//! Tests of `mold_pacing`: which request is sent at which time.
+#![tactic(auto)]
+
+#[cfg(test)]
+mod pacer;
