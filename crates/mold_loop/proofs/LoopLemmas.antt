@@ -16,7 +16,7 @@ use Rattle.mold_session.specs.Server.{ServerState}
 use Rattle.mold_loop.proofs.HeardLemmas.{Heard, HeardFront, lines_grow, passes_are, run_behind}
 use Rattle.mold_loop.proofs.RepairLemmas.{round_answers, rounds_are}
 use Rattle.mold_turns.proofs.RunLemmas.{begins_behind, begins_more, begins_trans, begins_whole, grows_in, none_answered, none_ok}
-use Rattle.mold_listen.proofs.TurnLemmas.{hearing_before}
+use Rattle.mold_listen.proofs.TurnLemmas.{hearing_both}
 use Rattle.mold_listen.specs.Listening.{Progress}
 use Rattle.mold_loop.specs.Looping.{HasWritten, LineState, LoopRun, Outcome, LeftOut, Sent, Pass}
 use Rattle.mold_loop.specs.Looping.{goes_out, lines_after, loop_lines, loop_status, loop_text, passing}
@@ -87,12 +87,12 @@ rounds_answer None to service choices s =
 rounds_answer (Some why) to service choices s = begins_whole s.server.sent
 
 line_front : (reporting : Bool) (journal : JournalState) (refused : Option MessageRefusal) (front : List ℕ) (e : Progress) →
-    loop_lines reporting journal refused (hearing_before front e) ≡ loop_lines reporting journal refused e
+    loop_lines reporting journal refused (hearing_both front [] e) ≡ loop_lines reporting journal refused e
 line_front reporting journal None front e = refl
 line_front reporting journal (Some why) front e = refl
 
 status_front : (refused : Option MessageRefusal) (front : List ℕ) (e : Progress) →
-    loop_status refused (hearing_before front e) ≡ loop_status refused e
+    loop_status refused (hearing_both front [] e) ≡ loop_status refused e
 status_front None front e = refl
 status_front (Some why) front e = refl
 
@@ -113,7 +113,7 @@ end_is {P} a b to published server passes choices lines mid rounds now front bac
     ∙ (rounds_are to service).twice front back now
 
 text_is : (reporting : Bool) (published : PublishedInput) (front : List ℕ) (e : Progress) →
-    loop_text reporting published (hearing_before front e) ≡ front ++ loop_text reporting published e
+    loop_text reporting published (hearing_both front [] e) ≡ front ++ loop_text reporting published e
 text_is reporting published front e =
     ap (λ (l : List ℕ). (front ++ e.outgoing.text) ++ l) (line_front reporting published.journal published.refused front e)
     ∙ append_assoc front e.outgoing.text (loop_lines reporting published.journal published.refused e)
