@@ -349,3 +349,7 @@ timely_so {D} M known server burst start result live old new a a_end b b_end is_
     let leaves : D → D → Type 0 =
     λ d e. OnErr result (M → WrittenInTime (listening server burst) start live old new (IsInNextTurn (known d) (known e))) in
     subst (λ (d : D). leaves d b_end) (sym is_a) (subst (λ (e : D). leaves a e) (sym is_b) timely)
+
+-- An error is not a success.
+pub not_ok : ◌≡◌ {A = Bool} false true → ⊥
+not_ok e = cc

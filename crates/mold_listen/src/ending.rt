@@ -2,7 +2,7 @@
 
 ghost use Rattle.std.specs.Prelude.{◌≡◌, IfOk, OnOk};
 ghost use Rattle.mold_listen.specs.Listening.{last_note, listener_status, progress};
-ghost use Rattle.mold_turns.specs.Outgoing.{with_note};
+ghost use Rattle.mold_turns.specs.Outgoing.{KeepsSide, with_note};
 ghost use Rattle.mold_turns.specs.Runs.{Begins};
 ghost use Rattle.mold_listen.specs.Text.{line_name, report_line, reports_text};
 ghost use Rattle.mold_receiver.specs.Arbiter.{report_on};
@@ -28,6 +28,7 @@ fn push_report(arbiter: &Arbiter, line: Line, outgoing: &mut Outgoing) -> Result
     ensures line { OnOk result (outgoing.new ≡ with_note
         (report_line line (report_on line arbiter.now.reports) arbiter.now.view.known) outgoing.old) }
     ensures prints { Begins outgoing.old.text outgoing.new.text }
+    ensures keeps { KeepsSide outgoing.old outgoing.new }
 {
     let report = arbiter.report(line);
     let words = [
@@ -54,6 +55,7 @@ fn push_reports(
     ensures lines { OnOk result (outgoing.new ≡ with_note
         (reports_text reporting arbiter.now.reports arbiter.now.view.known) outgoing.old) }
     ensures prints { Begins outgoing.old.text outgoing.new.text }
+    ensures keeps { KeepsSide outgoing.old outgoing.new }
 {
     if !reporting {
         return Ok(());
@@ -73,6 +75,7 @@ pub fn push_end(
     ensures lines { OnOk result (outgoing.new ≡ with_note
         (last_note reporting (progress arbiter.now outgoing.old)) outgoing.old) }
     ensures prints { Begins outgoing.old.text outgoing.new.text }
+    ensures keeps { KeepsSide outgoing.old outgoing.new }
 {
     push_reports(arbiter, reporting, outgoing)?;
     push_last(arbiter, outgoing)

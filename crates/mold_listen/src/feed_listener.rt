@@ -2,11 +2,13 @@
 
 ghost use Rattle.std.specs.Prelude.{◌≡◌, ◌⊎◌, [], true, length, IfErr, OnErr, OnOk};
 ghost use Rattle.std.specs.Io.KnownBytes.{Appends};
+ghost use Rattle.mold_devices.specs.Faults.{CountsSink};
+ghost use Rattle.mold_input.specs.declared.message_format.MessageFormat.TheVariants.{Lines};
 ghost use Rattle.mold_listen.specs.Listening.{Agrees, HasAsked, HasTurned, IsInNextTurn, IsSame, asking_state};
 ghost use Rattle.mold_listen.specs.Listening.{listened_lines, listened_side, listening, put_before, put_beside};
 ghost use Rattle.mold_listen.specs.Listening.{receive_responses, receives, side_text, state, status};
 ghost use Rattle.mold_ports.specs.Ports.{received};
-ghost use Rattle.mold_turns.specs.Outgoing.{IsBounded};
+ghost use Rattle.mold_turns.specs.Outgoing.{IsBounded, KeepsSide};
 ghost use Rattle.mold_turns.specs.Runs.{Begins, WrittenInTime};
 ghost use Rattle.mold_turns.specs.Sides.{CountsSinks, RanBeside, RestsBeside, TurnRestsBeside};
 ghost use Rattle.mold_receiver.specs.Wanted.{wanted};
@@ -42,6 +44,7 @@ impl<'a, D: Datagrams> FeedListener<'a, D> {
         ensures a { self.new.a ≡ self.old.a }
         ensures b { self.new.b ≡ self.old.b }
         ensures prints { Begins self.old.printer.now.outgoing.text self.new.printer.now.outgoing.text }
+        ensures keeps { KeepsSide self.old.printer.now.outgoing self.new.printer.now.outgoing }
         ensures same { IsSame self.old self.new }
     {
         for _ in 0..most {
@@ -67,6 +70,7 @@ impl<'a, D: Datagrams> FeedListener<'a, D> {
         ensures a { self.new.a ≡ self.old.a }
         ensures b { self.new.b ≡ self.old.b }
         ensures prints { Begins self.old.printer.now.outgoing.text self.new.printer.now.outgoing.text }
+        ensures keeps { KeepsSide self.old.printer.now.outgoing self.new.printer.now.outgoing }
         ensures same { IsSame self.old self.new }
     {
         let Some(request) = self.arbiter.receiver().wanted() else {
@@ -93,6 +97,7 @@ impl<'a, D: Datagrams> FeedListener<'a, D> {
         ensures b { D.modeled ≡ true → (D.port self.new.b.now ≡ D.port self.old.b.now)
             ⊎ (D.port self.new.b.now ≡ received (D.port self.old.b.now)) }
         ensures prints { Begins self.old.printer.now.outgoing.text self.new.printer.now.outgoing.text }
+        ensures keeps { KeepsSide self.old.printer.now.outgoing self.new.printer.now.outgoing }
         ensures same { IsSame self.old self.new }
     {
         receive_on(
@@ -137,6 +142,9 @@ impl<'a, D: Datagrams> FeedListener<'a, D> {
         ensures same { IsSame self.old self.new }
         ensures sinks { CountsSinks (K.failed sink.old) (K.failed sink.new) (E.failed errors.old) (E.failed errors.new)
             result }
+        ensures format { self.new.printer.now.outgoing.format ≡ self.old.printer.now.outgoing.format }
+        ensures lines { self.old.printer.now.outgoing.format ≡ Lines → self.old.printer.now.outgoing.side ≡ [] →
+            (errors.new ≡ errors.old) × CountsSink (K.failed sink.old) (K.failed sink.new) result }
     {
         let told = self.printer.outgoing.unwritten();
         let Ok(()) = self.take_turn(options.server, options.burst, buffer) else {
@@ -172,6 +180,10 @@ impl<'a, D: Datagrams> FeedListener<'a, D> {
         ensures same { IsSame self.old self.new }
         ensures sinks { CountsSinks (K.failed sink.old) (K.failed sink.new) (E.failed errors.old) (E.failed errors.new)
             result }
+        ensures said { OnOk result (self.old.printer.now.outgoing.side ≡ [] → self.new.printer.now.outgoing.side ≡ []) }
+        ensures format { self.new.printer.now.outgoing.format ≡ self.old.printer.now.outgoing.format }
+        ensures lines { self.old.printer.now.outgoing.format ≡ Lines → self.old.printer.now.outgoing.side ≡ [] →
+            (errors.new ≡ errors.old) × CountsSink (K.failed sink.old) (K.failed sink.new) result }
     {
         for _turn in 0..options.turns {
             self.write_turn(options, buffer, sink, errors)?;
@@ -205,6 +217,8 @@ impl<'a, D: Datagrams> FeedListener<'a, D> {
         ensures same { IsSame self.old self.new }
         ensures sinks { CountsSinks (K.failed sink.old) (K.failed sink.new) (E.failed errors.old) (E.failed errors.new)
             result }
+        ensures lines { self.old.printer.now.outgoing.format ≡ Lines → self.old.printer.now.outgoing.side ≡ [] →
+            (errors.new ≡ errors.old) × CountsSink (K.failed sink.old) (K.failed sink.new) result }
     {
         self.take_turns(options, buffer, sink, errors)?;
         let outgoing = &mut self.printer.outgoing;

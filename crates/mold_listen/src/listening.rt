@@ -1,10 +1,12 @@
 //! The loop that listens on two lines, and the last line that it prints.
 
 ghost use Rattle.std.specs.Prelude.{◌≡◌, true, IfOk, OnErr, OnOk};
+ghost use Rattle.mold_devices.specs.Faults.{CountsSink};
+ghost use Rattle.mold_input.specs.declared.message_format.MessageFormat.TheVariants.{Lines};
 ghost use Rattle.mold_turns.specs.Sides.{CountsSinks, RanBeside};
 ghost use Rattle.mold_listen.specs.Listening.{Agrees, IsInNextTurn, beginning, progress, last_line, listener_status};
 ghost use Rattle.mold_listen.specs.Listening.{listened_lines, listened_side, listening, side_text, status};
-ghost use Rattle.mold_turns.specs.Outgoing.{with_note};
+ghost use Rattle.mold_turns.specs.Outgoing.{KeepsSide, with_note};
 ghost use Rattle.mold_turns.specs.Runs.{Begins, WrittenInTime};
 ghost use Rattle.mold_listen.specs.Text.{finished_line, open_line};
 
@@ -25,6 +27,7 @@ use std::alloc::{AllocError, Global};
 fn push_finished(outgoing: &mut Outgoing, next: u64) -> Result<(), AllocError>
     ensures line { OnOk result (outgoing.new ≡ with_note (finished_line next outgoing.old.failures) outgoing.old) }
     ensures prints { Begins outgoing.old.text outgoing.new.text }
+    ensures keeps { KeepsSide outgoing.old outgoing.new }
 {
     let words = [
         Word::Text(b"finished"),
@@ -40,6 +43,7 @@ fn push_finished(outgoing: &mut Outgoing, next: u64) -> Result<(), AllocError>
 fn push_open(outgoing: &mut Outgoing, next: u64, known: u64) -> Result<(), AllocError>
     ensures line { OnOk result (outgoing.new ≡ with_note (open_line next known outgoing.old.failures) outgoing.old) }
     ensures prints { Begins outgoing.old.text outgoing.new.text }
+    ensures keeps { KeepsSide outgoing.old outgoing.new }
 {
     let words = [
         Word::Text(b"open"),
@@ -61,6 +65,7 @@ pub fn push_last(arbiter: &Arbiter, outgoing: &mut Outgoing) -> Result<u8, Alloc
     ensures line { OnOk result
         (outgoing.new ≡ with_note (last_line (progress arbiter.now outgoing.old)) outgoing.old) }
     ensures prints { Begins outgoing.old.text outgoing.new.text }
+    ensures keeps { KeepsSide outgoing.old outgoing.new }
 {
     let receiver = arbiter.receiver();
     if receiver.finished() {
@@ -107,6 +112,8 @@ pub fn listen_loop<D: Datagrams, K: Sink, E: Sink>(
         (K.held sink.old) (K.held sink.new) (IsInNextTurn (D.port a.new) (D.port b.new))) }
     ensures sinks { CountsSinks (K.failed sink.old) (K.failed sink.new) (E.failed errors.old) (E.failed errors.new)
         result }
+    ensures lines { format ≡ Lines →
+        (errors.new ≡ errors.old) × CountsSink (K.failed sink.old) (K.failed sink.new) result }
 {
     let mut buffer = vec![in alloc; 0; MAX_LIMIT]?;
     let mut printer = Printer::new(alloc, format);
@@ -148,6 +155,8 @@ pub fn listen<D: Datagrams + Drop, K: Sink, E: Sink>(
         (IsInNextTurn (D.port ports.new.a) (D.port ports.new.b))) }
     ensures sinks { CountsSinks (K.failed sink.old) (K.failed sink.new) (E.failed errors.old) (E.failed errors.new)
         result }
+    ensures lines { options.format ≡ Lines →
+        (errors.new ≡ errors.old) × CountsSink (K.failed sink.old) (K.failed sink.new) result }
 {
     let ListenPorts { a, b, requests } = ports;
     let ListenOptions {

@@ -3,7 +3,7 @@
 ghost use Rattle.std.specs.Prelude.{◌≡◌, length, take, OnErr, OnOk};
 ghost use Rattle.mold_listen.specs.Listening.{progress, taken};
 ghost use Rattle.mold_listen.specs.Text.{handed_text};
-ghost use Rattle.mold_turns.specs.Outgoing.{nothing_in, with_more, with_note};
+ghost use Rattle.mold_turns.specs.Outgoing.{KeepsSide, nothing_in, with_more, with_note};
 ghost use Rattle.mold_turns.specs.Runs.{Begins};
 ghost use Rattle.mold_receiver.specs.Origin.{line_of};
 ghost use Rattle.mold_text.specs.Text.{refusal_words, refused_line};
@@ -20,6 +20,7 @@ fn print_handed(outgoing: &mut Outgoing, batch: &Batch) -> Result<(), AllocError
     ensures text { OnOk result (outgoing.new
         ≡ with_more (handed_text outgoing.old.format batch.now.first batch.now.messages) outgoing.old) }
     ensures kept { OnErr result (take (length outgoing.old.text) outgoing.new.text ≡ outgoing.old.text) }
+    ensures keeps { KeepsSide outgoing.old outgoing.new }
 {
     match outgoing.format() {
         MessageFormat::Lines => push_lines(&mut outgoing.text, batch),
@@ -32,6 +33,7 @@ fn print_handed(outgoing: &mut Outgoing, batch: &Batch) -> Result<(), AllocError
 fn print_refused(outgoing: &mut Outgoing, why: Refusal) -> Result<(), AllocError>
     ensures text { OnOk result (outgoing.new ≡ with_note (refused_line (refusal_words why)) outgoing.old) }
     ensures kept { OnErr result (take (length outgoing.old.text) outgoing.new.text ≡ outgoing.old.text) }
+    ensures keeps { KeepsSide outgoing.old outgoing.new }
 {
     let words = [Word::Text(b"refused")];
     match outgoing.format() {
@@ -75,6 +77,7 @@ impl Printer {
         ensures taken { OnOk result (progress arbiter.new self.new.outgoing
             ≡ taken (line_of origin) bytes.now (progress arbiter.old self.old.outgoing)) }
         ensures prints { Begins self.old.outgoing.text self.new.outgoing.text }
+        ensures keeps { KeepsSide self.old.outgoing self.new.outgoing }
     {
         self.batch.clear();
         match arbiter.take_from(origin, bytes, &mut self.batch) {

@@ -4,6 +4,7 @@ ghost use Rattle.std.specs.Prelude.{◌≡◌, true, length, IfOk, OnOk};
 ghost use Rattle.mold_listen.specs.Listening.{with_next_receipt, progress, is_datagram};
 ghost use Rattle.mold_ports.specs.Ports.{next_of, received};
 ghost use Rattle.mold_receiver.specs.Origin.{line_of};
+ghost use Rattle.mold_turns.specs.Outgoing.{KeepsSide};
 ghost use Rattle.mold_turns.specs.Runs.{Begins};
 ghost use Rattle.mold_wire.specs.declared.limits.TheConstants.{MAX_LIMIT};
 
@@ -28,6 +29,7 @@ pub fn receive_on<D: Datagrams>(
         OnOk result (progress arbiter.new printer.new.outgoing
         ≡ with_next_receipt (line_of origin) (D.port port.old) (progress arbiter.old printer.old.outgoing)) }
     ensures prints { Begins printer.old.outgoing.text printer.new.outgoing.text }
+    ensures keeps { KeepsSide printer.old.outgoing printer.new.outgoing }
 {
     match port.receive(buffer) {
         Ok(Some((len, _))) => {

@@ -2,7 +2,7 @@
 use Rattle.std.proofs.Common.{arith, ◌≡◌, ◌∙◌, ℕ, Bool, List, [], ◌++◌, ap, append_assoc, append-nil, refl, sym}
 use Rattle.mold_input.specs.declared.message_format.MessageFormat.{MessageFormat}
 use Rattle.mold_input.specs.declared.message_format.MessageFormat.TheVariants.{Lines, Blocks, BlocksToEmpty}
-use Rattle.mold_turns.specs.Outgoing.{IsBounded, OutgoingState, note_side, note_text, said_out, with_both, with_front}
+use Rattle.mold_turns.specs.Outgoing.{IsBounded, KeepsSide, OutgoingState, note_side, note_text, said_out, with_both, with_front}
 use Rattle.mold_turns.specs.Outgoing.{with_fronts, with_more, with_note}
 
 -- two states with the same parts are the same
@@ -108,3 +108,13 @@ note_twice one two outgoing =
     sides Lines one two = refl
     sides Blocks one two = refl
     sides BlocksToEmpty one two = refl
+
+-- Two steps that keep the format, and among lines the text for standard error.
+pub keeps_same : (o : OutgoingState) → KeepsSide o o
+keeps_same o = record { format = refl; side = λ _. refl }
+
+pub keeps_both : {first mid last : OutgoingState} → KeepsSide first mid → KeepsSide mid last → KeepsSide first last
+keeps_both one two = record {
+  format = two.format ∙ one.format;
+  side = λ lines. two.side (one.format ∙ lines) ∙ one.side lines;
+}

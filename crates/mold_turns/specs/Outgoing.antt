@@ -104,6 +104,11 @@ failed_often count outgoing = record {
   format = outgoing.format;
 }
 
+-- The format is the same. If messages are printed as lines, the text for standard error is the same too.
+pub record KeepsSide (old new : OutgoingState) : Type 0 where
+  pub format : new.format ≡ old.format
+  pub side : old.format ≡ Lines → new.side ≡ old.side
+
 -- Text that a loop may keep unwritten between turns: none for a live sink, and less than 65,536 bytes for any other.
 abbrev pub IsBounded : Bool → List ℕ → Type 0
 IsBounded live text = (live ≡ true → text ≡ []) × (length text < LARGE)

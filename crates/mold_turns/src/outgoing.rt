@@ -7,7 +7,7 @@ ghost use Rattle.std.specs.Prelude.{OnOk};
 ghost use Rattle.std.specs.Io.KnownBytes.{Appends};
 ghost use Rattle.mold_devices.specs.Devices.{AppendsPrefix, Counts};
 ghost use Rattle.mold_turns.specs.Outgoing.{IsBounded, failed_often, failed_once, nothing_in, nothing_out, said_out};
-ghost use Rattle.mold_turns.specs.Outgoing.{with_more, with_note};
+ghost use Rattle.mold_turns.specs.Outgoing.{KeepsSide, with_more, with_note};
 ghost use Rattle.mold_devices.specs.Writing.{EndsWith, Moves};
 ghost use Rattle.mold_text.specs.Line.{line_of, word_text};
 
@@ -105,7 +105,7 @@ impl Outgoing {
         ensures line { OnOk result (self.new ≡ with_more (line_of (map word_text words.now)) self.old) }
         ensures kept { OnErr result (take (length self.old.text) self.new.text ≡ self.old.text) }
         ensures failures { self.new.failures ≡ self.old.failures }
-        ensures format { self.new.format ≡ self.old.format }
+        ensures keeps { KeepsSide self.old self.new }
     {
         push_line(&mut self.text, words)
     }
@@ -116,7 +116,7 @@ impl Outgoing {
     pub fn push_note(&mut self, words: &[Word<'_>]) -> Result<(), AllocError>
         ensures note { OnOk result (self.new ≡ with_note (line_of (map word_text words.now)) self.old) }
         ensures kept { OnErr result (take (length self.old.text) self.new.text ≡ self.old.text) }
-        ensures format { self.new.format ≡ self.old.format }
+        ensures keeps { KeepsSide self.old self.new }
     {
         match self.format {
             MessageFormat::Lines => push_line(&mut self.text, words),
@@ -127,7 +127,8 @@ impl Outgoing {
         }
     }
 
-    /// Writes the text for standard error. After a fault, a prefix of it is written, and the text is unchanged.
+    /// Writes the text for standard error. If there is none, nothing is done. After a fault, a prefix of it is written,
+    /// and the text is unchanged.
     pub fn send_side<E: Sink>(&mut self, errors: &mut E) -> Result<(), CommandFault>
         ensures whole { OnOk result (Appends (E.held errors.old) (E.held errors.new) self.old.side) }
         ensures empty { OnOk result (self.new ≡ said_out self.old) }
@@ -136,7 +137,11 @@ impl Outgoing {
         ensures fault { IfErr result (λ fault. fault ≡ CommandFault.Write) }
         ensures sink { Counts (E.failed errors.old) (E.failed errors.new) result }
         ensures live { E.live errors.new ≡ E.live errors.old }
+        ensures none { self.old.side ≡ [] → IsOk result × (errors.new ≡ errors.old) }
     {
+        if self.side.is_empty() {
+            return Ok(());
+        }
         send(errors, &mut self.side)
     }
 

@@ -51,3 +51,6 @@ returns-clause-timely g c =
     (on_err_weaker c.listen.result
     (λ timely t. (rw c.new-printer.ensures at timely) t (bounded_none (g.K.Sink.live c.args.sink.now)))
     c.listen.ensures.timely)
+
+pub returns-clause-lines : goal.returns-clause-lines
+returns-clause-lines g c = λ lines. (rw c.new-printer.ensures at c.listen.ensures.lines) lines refl

@@ -14,6 +14,7 @@ returns-then-finished c =
           finished_last c.args.arbiter.now c.args.outgoing.now c.push_finished.new.outgoing c.receiver-receiver.result.now
           c.next.result over c.receiver-receiver.ensures c.next.ensures c.in_ok-push_finished.ensures.line;
       prints = c.in_ok-push_finished.ensures.prints;
+      keeps = c.in_ok-push_finished.ensures.keeps;
     }
 
 pub returns : goal.returns
@@ -28,4 +29,5 @@ returns c =
           c.next-2.result c.known.result over c.receiver-receiver.ensures c.next-2.ensures c.known.ensures
           c.in_ok-push_open.ensures.line;
       prints = c.in_ok-push_open.ensures.prints;
+      keeps = c.in_ok-push_open.ensures.keeps;
     }

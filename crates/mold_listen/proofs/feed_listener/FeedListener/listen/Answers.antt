@@ -1,14 +1,15 @@
 use Rattle.std.proofs.Common.{◌∙◌, ℕ, [], Err, List, Result, ap, inl, refl, subst, take}
 use Rattle.std.proofs.KnownBytes.{Appends-nil}
 use Rattle.mold_devices.specs.Devices.{AppendsPrefix}
+use Rattle.mold_devices.specs.Faults.{CountsSinkFault}
 use Rattle.mold_devices.specs.declared.fault.CommandFault.{CommandFault}
 use Rattle.mold_devices.proofs.WritingLemmas.{ends_front, ends_sink}
 use Rattle.mold_turns.proofs.PrintingLemmas.{front_all, front_more, front_none, kept_begins}
-use Rattle.mold_turns.proofs.FaultLemmas.{two_faults_after, two_said, two_same, two_write}
+use Rattle.mold_turns.proofs.FaultLemmas.{counts_same, counts_write, two_faults_after, two_said, two_same, two_write}
 use Rattle.mold_turns.proofs.RunLemmas.{in_time_end, on_err, ran_beside_cut, ran_beside_front, ran_beside_whole}
 use Rattle.mold_listen.specs.Listening.{Agrees, IsInNextTurn, listened_lines, listened_side, state, status}
 use Rattle.mold_turns.specs.Outgoing.{OutgoingState}
-use Rattle.mold_listen.proofs.TurnLemmas.{is_beside, is_loop}
+use Rattle.mold_listen.proofs.TurnLemmas.{is_beside, is_loop, not_ok}
 use Rattle.mold_listen.proofs.feed_listener.FeedListener.listen.Goals as goal
 
 pub returns-in_err-take_turns-clause-run : goal.returns-in_err-take_turns-clause-run
@@ -142,3 +143,45 @@ returns-in_err-send-clause-timely g c =
     (IsInNextTurn (g.D.Datagrams.port c.take_turns.new.self.a.now) (g.D.Datagrams.port c.take_turns.new.self.b.now))
     cut.front (c.in_ok-take_turns.ensures.run t).rests
     (inl (refl, refl)) (c.in_ok-take_turns.ensures.bounded bounded) cut.appended)
+
+-- ---- messages as lines
+
+pub returns-in_err-take_turns-clause-lines : goal.returns-in_err-take_turns-clause-lines
+returns-in_err-take_turns-clause-lines g c = λ lines none.
+    let turned = c.in_err-take_turns.ensures.lines lines none in (
+      turned.0,
+      counts_same c.from_residual.result c.in_err-take_turns.field-0.0 _ _ c.from_residual.ensures.1 turned.1,
+    )
+
+pub returns-in_default-clause-lines : goal.returns-in_default-clause-lines
+returns-in_default-clause-lines g c = λ lines none. (
+  (c.in_ok-take_turns.ensures.lines lines none).0,
+  subst (λ (n : ℕ). CountsSinkFault n (g.K.Sink.failed c.end_with.new.sink) c.end_with.result)
+      c.in_ok-take_turns.ensures.sinks.0 (ends_sink c.end_with.ensures.ends),
+)
+
+pub returns-in_err-send_side-clause-lines : goal.returns-in_err-send_side-clause-lines
+returns-in_err-send_side-clause-lines g c = λ lines none.
+    absurd (not_ok (c.in_err-send_side.ensures.none
+    (c.push_end.ensures.keeps.side (c.in_ok-take_turns.ensures.format ∙ lines)
+    ∙ c.in_ok-take_turns.ensures.said none)).0)
+
+pub returns-in_err-send-clause-lines : goal.returns-in_err-send-clause-lines
+returns-in_err-send-clause-lines g c = λ lines none. (
+  (c.in_ok-send_side.ensures.none
+      (c.push_end.ensures.keeps.side (c.in_ok-take_turns.ensures.format ∙ lines)
+      ∙ c.in_ok-take_turns.ensures.said none)).1
+  ∙ (c.in_ok-take_turns.ensures.lines lines none).0,
+  counts_write c.from_residual-in_err-send.result c.in_err-send.field-0.0 _ (g.K.Sink.failed c.take_turns.new.sink) _
+      c.from_residual-in_err-send.ensures.1 c.in_err-send.ensures.fault c.in_err-send.ensures.sink
+      c.in_ok-take_turns.ensures.sinks.0,
+)
+
+pub returns-clause-lines : goal.returns-clause-lines
+returns-clause-lines g c = λ lines none. (
+  (c.in_ok-send_side.ensures.none
+      (c.push_end.ensures.keeps.side (c.in_ok-take_turns.ensures.format ∙ lines)
+      ∙ c.in_ok-take_turns.ensures.said none)).1
+  ∙ (c.in_ok-take_turns.ensures.lines lines none).0,
+  c.in_ok-send.ensures.sink ∙ c.in_ok-take_turns.ensures.sinks.0,
+)

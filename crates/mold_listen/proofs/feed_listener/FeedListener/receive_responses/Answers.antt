@@ -1,6 +1,7 @@
 use Rattle.std.proofs.Common.{arith, ◌≡◌, ◌∙◌, ◌-◌, ◌+◌, ℕ, ap, sym, refl}
 use Rattle.mold_ports.specs.Ports.{Port}
 use Rattle.mold_listen.specs.Listening.{asking, asking_state, receive_responses, receives}
+use Rattle.mold_turns.proofs.OutgoingLemmas.{keeps_both, keeps_same}
 use Rattle.mold_turns.proofs.RunLemmas.{begins_trans, begins_whole}
 use Rattle.mold_listen.proofs.ListenLemmas.{answer_received, after_responses, asking_is, none_received, stepped}
 use Rattle.mold_listen.proofs.TurnLemmas.{same_at_first}
@@ -17,6 +18,7 @@ loop-init g c = record {
   b = refl;
   same = same_at_first c.args.self.now;
   prints = begins_whole _;
+  keeps = keeps_same _;
 }
 
 pub loop-preserved : goal.loop-preserved
@@ -36,6 +38,7 @@ loop-preserved g c = record {
       let same = c.loop.invariant.same in
       record { a = same.a; b = same.b; requests = same.requests; arbiter = same.arbiter; printer = same.printer };
   prints = begins_trans c.loop.invariant.prints c.receive_on.ensures.prints;
+  keeps = keeps_both c.loop.invariant.keeps c.receive_on.ensures.keeps;
 }
 
 pub returns-in_err-receive_on-clause-prints : goal.returns-in_err-receive_on-clause-prints
@@ -102,3 +105,12 @@ pub returns-then-not-branch-clause-same : goal.returns-then-not-branch-clause-sa
 returns-then-not-branch-clause-same g c =
     let same = c.loop.invariant.same in
     record { a = same.a; b = same.b; requests = same.requests; arbiter = same.arbiter; printer = same.printer }
+
+pub returns-in_err-receive_on-clause-keeps : goal.returns-in_err-receive_on-clause-keeps
+returns-in_err-receive_on-clause-keeps g c = keeps_both c.loop.invariant.keeps c.receive_on.ensures.keeps
+
+pub returns-after-loop-clause-keeps : goal.returns-after-loop-clause-keeps
+returns-after-loop-clause-keeps g c = c.loop.invariant.keeps
+
+pub returns-then-not-branch-clause-keeps : goal.returns-then-not-branch-clause-keeps
+returns-then-not-branch-clause-keeps g c = keeps_both c.loop.invariant.keeps c.receive_on.ensures.keeps

@@ -1,5 +1,6 @@
 use Rattle.std.proofs.Common.{◌≡◌, true, ◌-◌}
 use Rattle.mold_listen.specs.Listening.{IsSame, asking_state, receive_responses, receives}
+use Rattle.mold_turns.specs.Outgoing.{KeepsSide}
 use Rattle.mold_turns.specs.Runs.{Begins}
 use Rattle.mold_listen.proofs.feed_listener.FeedListener.receive_responses.Given as goal
 
@@ -17,4 +18,5 @@ invariant-loop g l = record {
   b : l.self.b ≡ l.fn.self.b;
   same : IsSame l.fn.self l.self;
   prints : Begins l.fn.self.printer.now.outgoing.text l.self.printer.now.outgoing.text;
+  keeps : KeepsSide l.fn.self.printer.now.outgoing l.self.printer.now.outgoing;
 }

@@ -2,6 +2,7 @@ use Rattle.std.proofs.Common.{◌≡◌, ◌∙◌, ap, inl, inr, refl, Some}
 use Rattle.std.specs.Borrow.{MutBor}
 use Rattle.mold_receiver.specs.declared.line.Line.TheVariants.{B}
 use Rattle.mold_listen.specs.Listening.{progress, with_next_receipt, after_lines, listener, state}
+use Rattle.mold_turns.proofs.OutgoingLemmas.{keeps_both}
 use Rattle.mold_turns.proofs.RunLemmas.{begins_trans}
 use Rattle.mold_listen.proofs.TurnLemmas.{has_turned, turned_cut}
 use Rattle.mold_listen.proofs.feed_listener.FeedListener.take_turn.Goals as goal
@@ -48,3 +49,10 @@ returns-in_err-receive_on-2-clause-b g c = λ t. inr (c.receive_on-2.ensures.por
 pub returns-clause-b : goal.returns-clause-b
 returns-clause-b g c = λ t.
     inr (ap (λ (p : MutBor _). g.D.Datagrams.port p.now) c.ask.ensures.b ∙ c.receive_on-2.ensures.port t)
+
+pub returns-in_err-receive_on-2-clause-keeps : goal.returns-in_err-receive_on-2-clause-keeps
+returns-in_err-receive_on-2-clause-keeps g c = keeps_both c.receive_on.ensures.keeps c.receive_on-2.ensures.keeps
+
+pub returns-clause-keeps : goal.returns-clause-keeps
+returns-clause-keeps g c =
+    keeps_both (keeps_both c.receive_on.ensures.keeps c.receive_on-2.ensures.keeps) c.ask.ensures.keeps

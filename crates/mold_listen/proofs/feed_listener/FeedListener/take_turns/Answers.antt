@@ -1,5 +1,6 @@
-use Rattle.std.proofs.Common.{arith, ◌≡◌, ◌∙◌, Bool, inr, refl, subst}
-use Rattle.mold_turns.proofs.FaultLemmas.{two_same}
+use Rattle.std.proofs.Common.{arith, ◌≡◌, ◌∙◌, ℕ, Bool, inr, refl, subst}
+use Rattle.mold_devices.specs.Faults.{CountsSinkFault}
+use Rattle.mold_turns.proofs.FaultLemmas.{counts_same, two_same}
 use Rattle.mold_turns.proofs.RunLemmas.{beside_init, beside_rests_all, beside_rests_broken, beside_rests_turned}
 use Rattle.mold_turns.proofs.RunLemmas.{beside_turned, in_time, on_err}
 use Rattle.mold_turns.specs.Outgoing.{IsBounded}
@@ -17,6 +18,9 @@ loop-turn-init g c = record {
   same = same_at_first c.args.self.now;
   sink = refl;
   errors = refl;
+  format = refl;
+  said = λ none. none;
+  quiet = λ lines none. refl;
 }
 
 pub loop-turn-preserved : goal.loop-turn-preserved
@@ -34,6 +38,11 @@ loop-turn-preserved g c = record {
   same = same_twice c.loop-turn.invariant.same c.in_ok-write_turn.ensures.same;
   sink = c.in_ok-write_turn.ensures.sinks.0 ∙ c.loop-turn.invariant.sink;
   errors = c.in_ok-write_turn.ensures.sinks.1 ∙ c.loop-turn.invariant.errors;
+  format = c.in_ok-write_turn.ensures.format ∙ c.loop-turn.invariant.format;
+  said = λ none. c.in_ok-write_turn.ensures.said;
+  quiet = λ lines none.
+      (c.in_ok-write_turn.ensures.lines (c.loop-turn.invariant.format ∙ lines) (c.loop-turn.invariant.said none)).0
+      ∙ c.loop-turn.invariant.quiet lines none;
 }
 
 pub returns-in_err-write_turn-clause-run : goal.returns-in_err-write_turn-clause-run
@@ -84,6 +93,13 @@ returns-then-finished g c = record {
     c.in_ok-write_turn.ensures.sinks.0 ∙ c.loop-turn.invariant.sink,
     c.in_ok-write_turn.ensures.sinks.1 ∙ c.loop-turn.invariant.errors,
   );
+  said = λ none. c.in_ok-write_turn.ensures.said;
+  format = c.in_ok-write_turn.ensures.format ∙ c.loop-turn.invariant.format;
+  lines = λ lines none. (
+    (c.in_ok-write_turn.ensures.lines (c.loop-turn.invariant.format ∙ lines) (c.loop-turn.invariant.said none)).0
+    ∙ c.loop-turn.invariant.quiet lines none,
+    c.in_ok-write_turn.ensures.sinks.0 ∙ c.loop-turn.invariant.sink,
+  );
 }
 
 pub returns : goal.returns
@@ -97,4 +113,20 @@ returns g c = record {
   live = c.loop-turn.invariant.live;
   same = c.loop-turn.invariant.same;
   sinks = (c.loop-turn.invariant.sink, c.loop-turn.invariant.errors);
+  said = c.loop-turn.invariant.said;
+  format = c.loop-turn.invariant.format;
+  lines = λ lines none. (c.loop-turn.invariant.quiet lines none, c.loop-turn.invariant.sink);
 }
+
+pub returns-in_err-write_turn-clause-format : goal.returns-in_err-write_turn-clause-format
+returns-in_err-write_turn-clause-format g c = c.write_turn.ensures.format ∙ c.loop-turn.invariant.format
+
+pub returns-in_err-write_turn-clause-lines : goal.returns-in_err-write_turn-clause-lines
+returns-in_err-write_turn-clause-lines g c = λ lines none.
+    let turned = c.in_err-write_turn.ensures.lines (c.loop-turn.invariant.format ∙ lines)
+    (c.loop-turn.invariant.said none) in (
+      turned.0 ∙ c.loop-turn.invariant.quiet lines none,
+      counts_same c.from_residual.result c.in_err-write_turn.field-0.0 _ _ c.from_residual.ensures.1
+          (subst (λ (n : ℕ). CountsSinkFault n (g.K.Sink.failed c.write_turn.new.sink) c.in_err-write_turn.field-0.0)
+          c.loop-turn.invariant.sink turned.1),
+    )

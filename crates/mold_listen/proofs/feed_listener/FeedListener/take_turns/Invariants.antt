@@ -1,10 +1,12 @@
-use Rattle.std.proofs.Common.{◌≡◌, true}
+use Rattle.std.proofs.Common.{◌≡◌, [], true}
+use Rattle.mold_input.specs.declared.message_format.MessageFormat.TheVariants.{Lines}
 use Rattle.mold_turns.proofs.RunLemmas.{GoingBeside}
 use Rattle.mold_turns.specs.Outgoing.{IsBounded}
 use Rattle.mold_listen.specs.Listening.{IsSame, listening, put_before, put_beside, state}
 use Rattle.mold_listen.proofs.feed_listener.FeedListener.take_turns.Given as goal
 
--- some turns were made, and the run continues from here; the text is bounded, and no sink failed
+-- some turns were made, and the run continues from here; the text is bounded, and no sink failed; among lines,
+-- nothing was written to standard error
 abbrev pub invariant-loop-turn : goal.invariant-loop-turn
 invariant-loop-turn g l = record {
   going : g.D.Datagrams.modeled ≡ true → GoingBeside (listening l.options.server l.options.burst) put_before put_beside
@@ -18,4 +20,8 @@ invariant-loop-turn g l = record {
   same : IsSame l.fn.self l.self;
   sink : g.K.Sink.failed l.sink ≡ g.K.Sink.failed l.fn.sink;
   errors : g.E.Sink.failed l.errors ≡ g.E.Sink.failed l.fn.errors;
+  format : l.self.printer.now.outgoing.format ≡ l.fn.self.printer.now.outgoing.format;
+  said : l.fn.self.printer.now.outgoing.side ≡ [] → l.self.printer.now.outgoing.side ≡ [];
+  quiet : l.fn.self.printer.now.outgoing.format ≡ Lines → l.fn.self.printer.now.outgoing.side ≡ [] →
+      l.errors ≡ l.fn.errors;
 }

@@ -6,11 +6,11 @@ use Rattle.mold_devices.proofs.WritingLemmas.{ends_front, ends_sink, ends_whole,
 use Rattle.mold_devices.specs.declared.fault.CommandFault.{CommandFault}
 use Rattle.mold_turns.specs.Outgoing.{OutgoingState}
 use Rattle.mold_turns.specs.Runs.{Begins}
-use Rattle.mold_turns.proofs.FaultLemmas.{two_faults, two_said, two_write}
+use Rattle.mold_turns.proofs.FaultLemmas.{counts_write, two_faults, two_said, two_write}
 use Rattle.mold_turns.proofs.PrintingLemmas.{front_none, kept_begins}
 use Rattle.mold_turns.proofs.RunLemmas.{begins_none, begins_whole, turn_cut, turn_failed, turn_sent}
 use Rattle.mold_listen.specs.Listening.{ListenerState, listener, side_text, state}
-use Rattle.mold_listen.proofs.TurnLemmas.{is_loop, moved_same}
+use Rattle.mold_listen.proofs.TurnLemmas.{is_loop, moved_same, not_ok}
 use Rattle.mold_listen.proofs.feed_listener.FeedListener.write_turn.Goals as goal
 
 -- the text before the failed turn
@@ -164,3 +164,45 @@ returns-in_err-send_large-clause-b g c = c.take_turn.ensures.b
 
 pub returns-clause-b : goal.returns-clause-b
 returns-clause-b g c = c.take_turn.ensures.b
+
+-- ---- messages as lines
+
+pub returns-in_default-clause-format : goal.returns-in_default-clause-format
+returns-in_default-clause-format g c = c.end_with.ensures.format ∙ c.take_turn.ensures.keeps.format
+
+pub returns-in_default-clause-lines : goal.returns-in_default-clause-lines
+returns-in_default-clause-lines g c = λ lines none. (refl, ends_sink c.end_with.ensures.ends)
+
+pub returns-in_err-send_side-clause-format : goal.returns-in_err-send_side-clause-format
+returns-in_err-send_side-clause-format g c =
+    ap (λ (o : OutgoingState). o.format) c.in_err-send_side.ensures.same ∙ c.take_turn.ensures.keeps.format
+
+pub returns-in_err-send_side-clause-lines : goal.returns-in_err-send_side-clause-lines
+returns-in_err-send_side-clause-lines g c = λ lines none.
+    absurd (not_ok (c.in_err-send_side.ensures.none (c.take_turn.ensures.keeps.side lines ∙ none)).0)
+
+pub returns-in_err-send_large-clause-format : goal.returns-in_err-send_large-clause-format
+returns-in_err-send_large-clause-format g c =
+    c.send_large.ensures.format
+    ∙ ap (λ (o : OutgoingState). o.format) c.in_ok-send_side.ensures.empty
+    ∙ c.take_turn.ensures.keeps.format
+
+pub returns-in_err-send_large-clause-lines : goal.returns-in_err-send_large-clause-lines
+returns-in_err-send_large-clause-lines g c = λ lines none. (
+  (c.in_ok-send_side.ensures.none (c.take_turn.ensures.keeps.side lines ∙ none)).1,
+  counts_write c.from_residual-in_err-send_large.result c.in_err-send_large.field-0.0 _
+      (g.K.Sink.failed c.args.sink.now) _ c.from_residual-in_err-send_large.ensures.1
+      c.in_err-send_large.ensures.fault c.in_err-send_large.ensures.sink refl,
+)
+
+pub returns-clause-format : goal.returns-clause-format
+returns-clause-format g c =
+    c.in_ok-send_large.ensures.format
+    ∙ ap (λ (o : OutgoingState). o.format) c.in_ok-send_side.ensures.empty
+    ∙ c.take_turn.ensures.keeps.format
+
+pub returns-clause-lines : goal.returns-clause-lines
+returns-clause-lines g c = λ lines none. (
+  (c.in_ok-send_side.ensures.none (c.take_turn.ensures.keeps.side lines ∙ none)).1,
+  c.in_ok-send_large.ensures.sink,
+)
