@@ -171,7 +171,7 @@ returns-in_err-send-clause-lines g c = λ lines none. (
   (c.in_ok-send_side.ensures.none
       (c.push_end.ensures.keeps.side (c.in_ok-take_turns.ensures.format ∙ lines)
       ∙ c.in_ok-take_turns.ensures.said none)).1
-  ∙ (c.in_ok-take_turns.ensures.lines lines none).0,
+      ∙ (c.in_ok-take_turns.ensures.lines lines none).0,
   counts_write c.from_residual-in_err-send.result c.in_err-send.field-0.0 _ (g.K.Sink.failed c.take_turns.new.sink) _
       c.from_residual-in_err-send.ensures.1 c.in_err-send.ensures.fault c.in_err-send.ensures.sink
       c.in_ok-take_turns.ensures.sinks.0,
@@ -182,6 +182,6 @@ returns-clause-lines g c = λ lines none. (
   (c.in_ok-send_side.ensures.none
       (c.push_end.ensures.keeps.side (c.in_ok-take_turns.ensures.format ∙ lines)
       ∙ c.in_ok-take_turns.ensures.said none)).1
-  ∙ (c.in_ok-take_turns.ensures.lines lines none).0,
+      ∙ (c.in_ok-take_turns.ensures.lines lines none).0,
   c.in_ok-send.ensures.sink ∙ c.in_ok-take_turns.ensures.sinks.0,
 )

@@ -97,7 +97,7 @@ returns-then-finished g c = record {
   format = c.in_ok-write_turn.ensures.format ∙ c.loop-turn.invariant.format;
   lines = λ lines none. (
     (c.in_ok-write_turn.ensures.lines (c.loop-turn.invariant.format ∙ lines) (c.loop-turn.invariant.said none)).0
-    ∙ c.loop-turn.invariant.quiet lines none,
+        ∙ c.loop-turn.invariant.quiet lines none,
     c.in_ok-write_turn.ensures.sinks.0 ∙ c.loop-turn.invariant.sink,
   );
 }
