@@ -210,8 +210,9 @@ def pack(chance):
         # About as many messages as fit in the largest packet.
         options["limit"] = 65507
         return case_of(chance, options, [(b"",)] * chance.randint(32741, 32746))
-    options["is_saved"] = has(chance, 0.3)
-    return in_some_form(chance, options, chance.choice([3, 12, 60]))
+    case = in_some_form(chance, options, chance.choice([3, 12, 60]))
+    case.options["is_saved"] = has(chance, 0.3)
+    return case
 
 
 def publish(chance):
