@@ -23,9 +23,9 @@ use mold_wire::laws::reading_law;
 
 /// Relates the lines that a loop in one process publishes to the lines that it prints.
 ///
-/// The session and the listener are new, and the listener prints lines. The listener starts at a message that will be published, or at the number
-/// after the last one. The ports may lose, repeat and reorder datagrams, but give only what the loop itself sent
-/// (`OwnPorts`).
+/// The session and the listener are new, and the listener prints lines. It starts at a message that will be published,
+/// or at the number after the last one. The ports may lose, repeat and reorder datagrams, but give only what the loop
+/// itself sent (`OwnPorts`).
 ///
 /// - `printed`: no line is refused, and the server's maximum message length is at least the journal's. The loop prints
 ///   published lines in order from the start on, each after its number. With status 0 it has printed all of them.
@@ -41,7 +41,8 @@ pub fn loop_law<D: Datagrams>()
         IsOpening journal limit → (lines_published journal lines).refused ≡ None →
         IsServer server → journal.max_message ≤ server.max_message →
         1 ≤ first → first ≤ length lines + 1 → start.progress.arbitration.view ≡ fresh journal.session first window →
-        start.progress.outgoing.text ≡ [] → start.progress.outgoing.format ≡ Lines → OwnPorts start start_left rounds rounds_left →
+        start.progress.outgoing.text ≡ [] → start.progress.outgoing.format ≡ Lines →
+        OwnPorts start start_left rounds rounds_left →
         LoopRun reporting drops a b to turns limit 0 (lines_published journal lines) server start rounds result old new
         start_left rounds_left → PrintsLines reporting lines first result old new }
     ensures refused { (reporting : Bool) (drops : Drops) (a b to : D.Peer) (turns limit first window : ℕ)
@@ -51,7 +52,8 @@ pub fn loop_law<D: Datagrams>()
         IsOpening journal limit → (lines_published journal lines).refused ≡ Some why →
         1 ≤ first → first ≤ length (lines_published journal lines).journal.messages + 1 →
         start.progress.arbitration.view ≡ fresh journal.session first window →
-        start.progress.outgoing.text ≡ [] → start.progress.outgoing.format ≡ Lines → OwnPorts start start_left rounds rounds_left →
+        start.progress.outgoing.text ≡ [] → start.progress.outgoing.format ≡ Lines →
+        OwnPorts start start_left rounds rounds_left →
         LoopRun reporting drops a b to turns limit 0 (lines_published journal lines) server start rounds result old new
         start_left rounds_left →
         PrintsRefused lines (length (lines_published journal lines).journal.messages + 1) why first result old new }

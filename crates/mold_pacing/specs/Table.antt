@@ -1,5 +1,6 @@
 -- The table of requests: how a request enters it.
-use Rattle.std.specs.Prelude.{◌≡◌, ℕ, ◌<◌, ◌≤◌, ◌||◌, Bool, true, false, List, [], ◌∷◌, length, nat_le, nat_lt, if◌then◌else◌}
+use Rattle.std.specs.Prelude.{◌≡◌, ℕ, ◌<◌, ◌≤◌, ◌||◌, Bool, true, false, List, [], ◌∷◌, length, nat_le, nat_lt}
+use Rattle.std.specs.Prelude.{if◌then◌else◌}
 use Rattle.std.specs.Prelude.{Option, None, Some, find, remove, slice_get}
 use Rattle.std.specs.List.{list_any}
 use Rattle.mold_pacing.specs.Flight.{is_over, is_stale}
@@ -33,7 +34,8 @@ CanLeave fs places now (Some index) = IsOverAt fs now index
 
 -- The place for a request that begins with this number. If an earlier request for the number is over, its record is
 -- `before`, and it leaves.
-pub record IsPlace (fs : List Flight) (places now number : ℕ) (leaves : Option ℕ) (before : Option Flight) : Type 0 where
+pub record IsPlace (fs : List Flight) (places now number : ℕ) (leaves : Option ℕ) (before : Option Flight) :
+    Type 0 where
   pub can : CanLeave fs places now leaves
   pub last : before ≡ find (is_stale now number) fs
   pub again : (f : Flight) → before ≡ Some f → (index : ℕ) × (leaves ≡ Some index) × (slice_get fs index ≡ Some f)

@@ -30,8 +30,8 @@ pub fn apart_law()
         AreApart old.options.timeout old.state.now steps asks }
 {}
 
-/// Requests never get stuck. At a time when a request for the first missing number can be sent, `Pacer::poll` returns one
-/// that begins with this number, if the number is ripe. `Pacer::deadline` returns the first such time.
+/// Requests never get stuck. At a time when a request for the first missing number can be sent, `Pacer::poll` returns
+/// one that begins with this number, if the number is ripe. `Pacer::deadline` returns the first such time.
 pub fn ready_law()
     ensures asks { (old new : Pacer) (gaps : List Gap) (gap : Gap) (ask : Ask) → HasAsked old new gaps ask →
         are_gaps 0 gaps ≡ true → slice_get gaps 0 ≡ Some gap → gap.first < old.state.ripe →

@@ -1,5 +1,5 @@
-//! The policy by which a receiver requests missing messages: when a request may be sent, for which numbers, and to which
-//! server. It has no clock and no receiver.
+//! The policy by which a receiver requests missing messages: when a request may be sent, for which numbers, and to
+//! which server. It has no clock and no receiver.
 #![tactic(auto)]
 
 mod ask;

@@ -115,8 +115,8 @@ impl Pacer {
 
     // Sends the request: it enters the table, and the next one may be sent an interval later.
     fn send(&mut self, place: Place, ask: Ask)
-        requires place { IsPlace self.old.flights.items self.old.options.places self.old.state.now ask.first place.leaves
-            place.before }
+        requires place { IsPlace self.old.flights.items self.old.options.places self.old.state.now ask.first
+            place.leaves place.before }
         requires opened { self.old.state.opens ≤ self.old.state.now + self.old.options.tolerance }
         ensures options { self.new.options ≡ self.old.options }
         ensures state { self.new.state ≡ asked self.old.options.interval self.old.state }
@@ -129,8 +129,8 @@ impl Pacer {
         self.state = self.state.ask(self.options.interval);
     }
 
-    /// Returns the next request that may be sent now, if there is one. It counts as sent. `gaps` are the missing numbers.
-    /// Those that are not ripe are not requested. Takes no memory.
+    /// Returns the next request that may be sent now, if there is one. It counts as sent. `gaps` are the missing
+    /// numbers. Those that are not ripe are not requested. Takes no memory.
     pub fn poll(&mut self, gaps: &[Gap]) -> Option<Ask>
         requires { are_gaps 0 gaps.now ≡ true }
         ensures asked { IfSome result (HasAsked self.old self.new gaps.now) }
@@ -147,8 +147,8 @@ impl Pacer {
         Some(ask)
     }
 
-    /// Returns the least time, from now on, at which a request that begins with this number can be sent, if nothing happens
-    /// before. The number is one that is missing and ripe.
+    /// Returns the least time, from now on, at which a request that begins with this number can be sent, if nothing
+    /// happens before. The number is one that is missing and ripe.
     pub fn deadline(&self, number: u64) -> u64
         ensures now { self.now.state.now ≤ result }
         ensures ready { CanAsk self.now result number }

@@ -35,7 +35,8 @@ impl PacerState {
         }
     }
 
-    /// Returns the state at a later time. Once a patience has passed since `mark` was set, the numbers below it are ripe.
+    /// Returns the state at a later time. Once a patience has passed since `mark` was set, the numbers below it are
+    /// ripe.
     pub(crate) fn advance(self, patience: u64, time: u64, known: u64) -> PacerState
         ensures { result ≡ advanced patience time known self }
     {
