@@ -3,6 +3,7 @@ pub mod SlotLemmas
 pub mod OccupiedLemmas
 pub mod RingLemmas
 pub mod OccupiedRingLemmas
+pub mod FirstFlagLemmas
 mod RuleLemmas
 pub mod CaseLemmas
 pub mod BatchLemmas
@@ -12,6 +13,7 @@ pub mod AboveLemmas
 pub mod NextLemmas
 pub mod NothingLemmas
 pub mod WantedLemmas
+pub mod GivingUpLemmas
 pub mod LawLemmas
 pub mod RefusalLemmas
 pub mod HonestLemmas

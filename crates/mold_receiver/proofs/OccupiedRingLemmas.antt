@@ -3,10 +3,10 @@ use Rattle.std.proofs.Common.{◌≡◌, ℕ, ◌+◌, ◌-◌, ◌<◌, ◌≤�
 use Rattle.std.proofs.Common.{◌⊎◌, cond, take, set, subst, sym, ap, ◌∙◌, inl, inr, arith, Bool, true, false, eqb, min, true≢false, ◌↔◌}
 use Rattle.std.specs.Prelude.{IsTrue}
 use Rattle.std.proofs.lemmas.Bool.{cases_lt, eq-eqb, ne_eqb}
-use Rattle.mold_receiver.specs.Occupied.{bit_of, AreWritten, AreClear, AreUnset, IsNextSet, flags_in, flag_at, IsFirstSet}
+use Rattle.mold_receiver.specs.Occupied.{bit_of, AreWritten, AreClear, AreUnset, flags_in, flag_at}
 use Rattle.mold_receiver.specs.Ring.{index_of}
 use Rattle.mold_receiver.proofs.OccupiedLemmas.{bit_clear}
-use Rattle.mold_receiver.proofs.RingLemmas.{index_along, index_first, index_over, index_within, index_wrapped}
+use Rattle.mold_receiver.proofs.RingLemmas.{index_along, index_first, index_over, index_wrapped}
 use Rattle.mold_receiver.proofs.RingLemmas.{item_in, item_past}
 use Rattle.mold_receiver.proofs.RingLemmas.{ring_filled, ring_long, ring_new, ring_set, ring_skipped}
 
@@ -127,69 +127,6 @@ pub flags_skipped : (words : List ℕ) (head count n : ℕ) (before : List Bool)
     flags_in words (index_of head count n) count ≡ drop n before ++ replicate n false
 flags_skipped words head count n before within few are =
     ring_skipped false (λ i. eqb (bit_of words i) 1) head count n within few before are
-
--- The first set flag, from the first set bit at or after the head, or else from bit 0 on.
-module _ (words : List ℕ) (head count : ℕ) (within : head < count)
-    (unused : (i : ℕ) → count ≤ i → bit_of words i ≡ 0) where
-  pub used : (bit : ℕ) → bit_of words bit ≡ 1 → bit < count
-  used bit set = elim (cases_lt bit count) [ inl below ↦ below | inr past ↦ absurd (omega (arith, unused bit past)) ]
-
-  clear_flag : (slot : ℕ) → slot < count → bit_of words (index_of head count slot) ≡ 0 →
-      flag_at (flags_in words head count) slot ≡ false
-  clear_flag slot below clear = flag_in words head count slot below ∙ ne_eqb _ 1 (omega arith)
-
-  set_flag : (slot bit : ℕ) → slot < count → index_of head count slot ≡ bit → bit_of words bit ≡ 1 →
-      flag_at (flags_in words head count) slot ≡ true
-  set_flag slot bit below at set = flag_in words head count slot below ∙ eq-eqb _ 1 (ap (λ p. bit_of words p) at ∙ set)
-
-  pub first_after : (bit : ℕ) → IsNextSet words head bit → IsFirstSet (flags_in words head count) (bit - head)
-  first_after bit next =
-      let below : bit < count = used bit next.set in record {
-        within = omega (arith, flags_long words head count);
-        none = λ i least.
-            let start = index_first head count i within (omega (arith, next.after)) in
-            clear_flag i (omega arith) (ap (λ p. bit_of words p) start
-            ∙ next.clear (head + i) (omega arith) (omega (arith, next.after)));
-        stops = inr (set_flag (bit - head) bit (omega arith)
-            (index_first head count (bit - head) within (omega (arith, next.after)) ∙ omega (arith, next.after))
-            next.set);
-      }
-
-  module _ (none : (to : ℕ) → AreClear words head to) where
-    clear_start : (i : ℕ) → head + i < count → flag_at (flags_in words head count) i ≡ false
-    clear_start i below =
-        clear_flag i (omega arith) (ap (λ p. bit_of words p) (index_first head count i within below)
-        ∙ none count (head + i) (omega arith) below)
-
-    before_head : (bit : ℕ) → bit_of words bit ≡ 1 → bit < head
-    before_head bit set = elim (cases_lt bit head) [
-      | inl below ↦ below
-      | inr past ↦
-          absurd (omega (arith, none (bit + 1) bit past))
-    ]
-
-    pub first_wrapped : (bit : ℕ) → IsNextSet words 0 bit → IsFirstSet (flags_in words head count) (bit + count - head)
-    first_wrapped bit next =
-        let low : bit < head = before_head bit next.set in record {
-          within = omega (arith, flags_long words head count);
-          none = λ i least.
-              elim (cases_lt (head + i) count) [
-                | inl below ↦ clear_start i below
-                | inr past ↦
-                    clear_flag i (omega arith) (ap (λ p. bit_of words p) (index_wrapped head count i within past)
-                    ∙ next.clear (head + i - count) (omega arith) (omega arith))
-              ];
-          stops = inr (set_flag (bit + count - head) bit (omega arith)
-              (index_wrapped head count (bit + count - head) within (omega arith) ∙ omega arith) next.set);
-        }
-
-    pub first_none : ((to : ℕ) → AreClear words 0 to) → IsFirstSet (flags_in words head count) count
-    first_none empty = record {
-      within = omega (arith, flags_long words head count);
-      none = λ i below. clear_flag i below (empty count (index_of head count i) (omega arith)
-          (index_within head count i within below));
-      stops = inl (sym (flags_long words head count));
-    }
 
 -- The flags of a range and its bits, which start at bit `start`.
 module _ (words : List ℕ) (head count from to : ℕ) (within : head < count) where

@@ -13,8 +13,9 @@ use Rattle.std.proofs.lemmas.Option.{slice_get_past}
 use Rattle.std.proofs.lemmas.List.{length-map, map-set, length-replicate, length-set, length-drop, drop-drop, drop-append-le, replicate_more}
 use Rattle.std.proofs.lemmas.List.{drop-replicate, replicate-append-replicate}
 use Rattle.mold_receiver.specs.Store.{Message, differs}
-use Rattle.mold_receiver.specs.Slots.{Slot, slot_at, slot_entries, store_of, count_held, flags_of, AreEmpty, AreSlots, IsFirstHeld}
-use Rattle.mold_receiver.specs.Occupied.{AreUnset, IsFirstSet, flag_at}
+use Rattle.mold_receiver.specs.Slots.{Slot, slot_at, slot_entries, store_of, count_held, flags_of, AreEmpty, AreSlots}
+use Rattle.mold_receiver.specs.Slots.{IsFirstEmpty, IsNextHeld}
+use Rattle.mold_receiver.specs.Occupied.{AreUnset, IsFirstFlag, flag_at}
 use Rattle.mold_receiver.proofs.StoreLemmas.{get_made, none_some}
 
 pub count_within : (slots : List Slot) → count_held slots ≤ length slots
@@ -183,48 +184,88 @@ pub clear_flags : (slots : List Slot) (flags : List Bool) (from to : ℕ) → fl
 clear_flags slots flags from to same empty i low high =
     ap (λ (t : List Bool). flag_at t i) same ∙ flag_is slots i ∙ ap is_some (empty i low high)
 
--- The first slot with a message, from the first set flag.
-first_below : (slots : List Slot) (most first : ℕ) → IsFirstSet (flags_of slots) first → first < length slots →
-    IsFirstHeld slots most (min first most)
-first_below slots most first is there = record {
+-- The first empty slot, and the next one with a message, from flags.
+some_flag : (slots : List Slot) (i : ℕ) → flag_at (flags_of slots) i ≡ true → is_some (slot_at slots i) ≡ true
+some_flag slots i set = sym (flag_is slots i) ∙ set
+
+empty_at : (slots : List Slot) (from slot : ℕ) → IsFirstFlag (flags_of slots) from false slot →
+    IsFirstEmpty slots from slot
+empty_at slots from slot is = record {
+  after = is.after;
+  held = λ i low high. some_flag slots i (is.others i low high);
+  empty = elim is.stops [
+    | inl end ↦ slot_past slots slot (omega (arith, end, length-map slots is_some))
+    | inr clear ↦ none_flag slots slot clear
+  ];
+}
+
+pub empty_found : (slots : List Slot) (flags : List Bool) (from slot : ℕ) → flags ≡ flags_of slots →
+    IsFirstFlag flags from false slot → IsFirstEmpty slots from slot
+empty_found slots flags from slot same is =
+    empty_at slots from slot (subst (λ (t : List Bool). IsFirstFlag t from false slot) same is)
+
+pub empty_past : (slots : List Slot) (flags : List Bool) (from : ℕ) → flags ≡ flags_of slots → length flags ≤ from →
+    IsFirstEmpty slots from from
+empty_past slots flags from same past = record {
+  after = omega arith;
+  held = λ i low high. absurd (omega (arith, low, high));
+  empty = slot_past slots from (omega (arith, past, ap (λ (t : List Bool). length t) same, length-map slots is_some));
+}
+
+next_at : (slots : List Slot) (from to first : ℕ) → from ≤ to → IsFirstFlag (flags_of slots) from true first →
+    first < length slots → IsNextHeld slots from to (min first to)
+next_at slots from to first order is there = record {
+  after = omega (arith, order, is.after);
   within = omega arith;
-  none = λ i below. none_flag slots i (is.none i (omega (arith, below)));
+  none = λ i low high. none_flag slots i (is.others i low (omega (arith, high)));
   stops =
-      elim (cases_lt first most) [
+      elim (cases_lt first to) [
         | inr past ↦ inl (omega (arith, past))
         | inl below ↦
-            let least : min first most ≡ first = omega (arith, below) in
-            inr (ap (λ (n : ℕ). is_some (slot_at slots n)) least ∙ sym (flag_is slots first) ∙ elim is.stops [
+            let least : min first to ≡ first = omega (arith, below) in
+            inr (ap (λ (n : ℕ). is_some (slot_at slots n)) least ∙ elim is.stops [
               | inl end ↦ absurd (omega (arith, end, there, length-map slots is_some))
-              | inr set ↦ set
+              | inr set ↦ some_flag slots first set
             ])
       ];
 }
 
-first_past : (slots : List Slot) (most first : ℕ) → IsFirstSet (flags_of slots) first → length slots ≤ first →
-    IsFirstHeld slots most most
-first_past slots most first is past = record {
+pub next_found : (slots : List Slot) (flags : List Bool) (from to first slot : ℕ) → flags ≡ flags_of slots →
+    from ≤ to → IsFirstFlag flags from true first → first < length flags → slot ≡ min first to →
+    IsNextHeld slots from to slot
+next_found slots flags from to first slot same order is there least =
+    subst (λ (n : ℕ). IsNextHeld slots from to n) (sym least)
+    (next_at slots from to first order (subst (λ (t : List Bool). IsFirstFlag t from true first) same is)
+    (omega (arith, there, ap (λ (t : List Bool). length t) same, length-map slots is_some)))
+
+next_end : (slots : List Slot) (from to first : ℕ) → from ≤ to → IsFirstFlag (flags_of slots) from true first →
+    length slots ≤ first → IsNextHeld slots from to to
+next_end slots from to first order is past = record {
+  after = order;
   within = omega arith;
-  none = λ i below.
+  none = λ i low high.
       elim (cases_lt i first) [
-        | inl before ↦ none_flag slots i (is.none i before)
-        | inr after ↦ slot_past slots i (omega (arith, past, after))
+        | inl before ↦ none_flag slots i (is.others i low before)
+        | inr later ↦ slot_past slots i (omega (arith, later, past))
       ];
   stops = inl refl;
 }
 
-pub held_below : (slots : List Slot) (flags : List Bool) (most first slot : ℕ) → flags ≡ flags_of slots →
-    IsFirstSet flags first → first < length flags → slot ≡ min first most → IsFirstHeld slots most slot
-held_below slots flags most first slot same is there least =
-    subst (λ (n : ℕ). IsFirstHeld slots most n) (sym least)
-    (first_below slots most first (subst (λ (t : List Bool). IsFirstSet t first) same is)
-    (omega (arith, there, ap (λ (t : List Bool). length t) same, length-map slots is_some)))
-
-pub held_past : (slots : List Slot) (flags : List Bool) (most first : ℕ) → flags ≡ flags_of slots →
-    IsFirstSet flags first → length flags ≤ first → IsFirstHeld slots most most
-held_past slots flags most first same is past =
-    first_past slots most first (subst (λ (t : List Bool). IsFirstSet t first) same is)
+pub next_none : (slots : List Slot) (flags : List Bool) (from to first : ℕ) → flags ≡ flags_of slots → from ≤ to →
+    IsFirstFlag flags from true first → length flags ≤ first → IsNextHeld slots from to to
+next_none slots flags from to first same order is past =
+    next_end slots from to first order (subst (λ (t : List Bool). IsFirstFlag t from true first) same is)
     (omega (arith, past, ap (λ (t : List Bool). length t) same, length-map slots is_some))
+
+pub next_past : (slots : List Slot) (flags : List Bool) (from to : ℕ) → flags ≡ flags_of slots → from ≤ to →
+    length flags ≤ from → IsNextHeld slots from to to
+next_past slots flags from to same order past = record {
+  after = order;
+  within = omega arith;
+  none = λ i low high.
+      slot_past slots i (omega (arith, low, past, ap (λ (t : List Bool). length t) same, length-map slots is_some));
+  stops = inl refl;
+}
 
 -- The ring stays valid.
 pub are_moved : (slots : List Slot) (count : ℕ) (flags : List Bool) → AreSlots slots count flags →

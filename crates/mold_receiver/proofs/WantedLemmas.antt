@@ -3,7 +3,7 @@ use Rattle.std.proofs.Common.{◌≡◌, ℕ, zero, suc, ◌+◌, ◌-◌, ◌<�
 use Rattle.std.proofs.Common.{inl, inr, arith}
 use Rattle.std.specs.Prelude.{Option, None, Some, is_some}
 use Rattle.std.specs.FinMap as finite
-use Rattle.mold_receiver.specs.Slots.{Slot, slot_at, store_of, IsFirstHeld}
+use Rattle.mold_receiver.specs.Slots.{Slot, slot_at, store_of, IsNextHeld}
 use Rattle.mold_receiver.specs.Store.{Message}
 use Rattle.mold_receiver.specs.Wanted.{lacking_run}
 use Rattle.mold_receiver.proofs.ViewLemmas.{get_from}
@@ -52,9 +52,9 @@ lacking_ends look number (suc most) (suc count) few some =
       | Some m ↦ omega arith
     ]
 
--- The first slot with a message among a limited number of slots is the length of the gap, up to that limit.
+-- The first slot with a message below a limit is the length of the gap, up to that limit.
 pub gap_found : (next known bound : ℕ) (slots : List Slot) (slot : ℕ) →
-    IsFirstHeld slots (min (known - next) bound) slot
+    IsNextHeld slots 0 (min (known - next) bound) slot
     → min bound (next + lacking_run (finite.get (store_of next slots)) next (known - next) - next) ≡ slot
 gap_found next known bound slots slot first =
     let look = finite.get (store_of next slots) in
@@ -62,7 +62,7 @@ gap_found next known bound slots slot first =
     ∙ ap (slot_at slots) (let e : next + i - next ≡ i = omega arith in e) in
     let short = lacking_short look next (known - next) in
     let long = lacking_long look next (known - next) slot (omega (arith, first.within)) (λ i below. at i
-    ∙ first.none i below) in
+    ∙ first.none i (omega arith) below) in
     elim first.stops [
       | inl whole ↦ omega (arith, whole, short, long)
       | inr some ↦ omega (

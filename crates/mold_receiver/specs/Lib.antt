@@ -3,6 +3,7 @@ pub mod View
 pub mod Origin
 pub mod Receive
 pub mod Wanted
+pub mod Skip
 pub mod Batch
 pub mod Slots
 pub mod Occupied

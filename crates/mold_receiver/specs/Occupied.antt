@@ -1,5 +1,5 @@
--- A ring of flags, kept as bits, and its first set flag.
-use Rattle.std.specs.Prelude.{◌≡◌, ◌≢◌, ℕ, ◌+◌, ◌*◌, ◌/◌, ◌%◌, ◌<◌, ◌≤◌, ◌⊎◌, min, nat_eq, Bool, true}
+-- A ring of flags, kept as bits, and its next flag that is set or not.
+use Rattle.std.specs.Prelude.{◌≡◌, ◌≢◌, ℕ, ◌+◌, ◌-◌, ◌*◌, ◌/◌, ◌%◌, ◌<◌, ◌≤◌, ◌⊎◌, min, nat_eq, not, Bool, true}
 use Rattle.std.specs.Prelude.{false, List, length, slice_index, slice_index_or, Option, None, Some}
 use Rattle.std.specs.Int.{bit_at}
 use Rattle.mold_receiver.specs.declared.occupied.Levels.{Levels}
@@ -13,11 +13,12 @@ flag_at flags slot = slice_index_or flags slot false
 abbrev pub AreUnset : List Bool → ℕ → ℕ → Type 0
 AreUnset flags from to = (i : ℕ) → from ≤ i → i < to → flag_at flags i ≡ false
 
--- The slot is the first one whose flag is set. It is the number of flags if no flag is set.
-pub record IsFirstSet (flags : List Bool) (slot : ℕ) : Type 0 where
+-- The slot is the first one from slot `from` on whose flag is `set`. It is the number of flags if there is none.
+pub record IsFirstFlag (flags : List Bool) (from : ℕ) (set : Bool) (slot : ℕ) : Type 0 where
+  pub after : from ≤ slot
   pub within : slot ≤ length flags
-  pub none : (i : ℕ) → i < slot → flag_at flags i ≡ false
-  pub stops : (slot ≡ length flags) ⊎ (flag_at flags slot ≡ true)
+  pub others : (i : ℕ) → from ≤ i → i < slot → flag_at flags i ≡ not set
+  pub stops : (slot ≡ length flags) ⊎ (flag_at flags slot ≡ set)
 
 -- Bit `i` of words of 64 bits, which is 0 or 1. It is 0 if no word has it.
 unfoldable pub bit_of : List ℕ → ℕ → ℕ
@@ -58,6 +59,13 @@ IsNext words from (Some bit) = IsNextSet words from bit
 abbrev pub IsNextInWord : List ℕ → ℕ → Option ℕ → Type 0
 IsNextInWord words from None = AreClear words from (64 * (from / 64 + 1))
 IsNextInWord words from (Some bit) = IsNextSet words from bit
+
+-- It is the first bit from bit `from` on and below bit `to` that is `bit`, which is 0 or 1. It is `to` if there is none.
+pub record IsFirstBit (words : List ℕ) (from to bit at : ℕ) : Type 0 where
+  pub after : from ≤ at
+  pub within : at ≤ to
+  pub others : (i : ℕ) → from ≤ i → i < at → bit_of words i ≡ 1 - bit
+  pub stops : (at ≡ to) ⊎ (bit_of words at ≡ bit)
 
 -- Bit `k` of the summary is set exactly if word `k` has a set bit.
 abbrev pub IsSummary : List ℕ → List ℕ → Type 0

@@ -49,8 +49,15 @@ pub record AreSlots (slots : List Slot) (count : ℕ) (flags : List Bool) : Type
 abbrev pub AreEmpty : List Slot → ℕ → ℕ → Type 0
 AreEmpty slots from to = (i : ℕ) → from ≤ i → i < to → slot_at slots i ≡ None
 
--- The slot is the first one with a message among the first `most` slots. It is `most` if these are empty.
-pub record IsFirstHeld (slots : List Slot) (most slot : ℕ) : Type 0 where
-  pub within : slot ≤ most
-  pub none : (i : ℕ) → i < slot → slot_at slots i ≡ None
-  pub stops : (slot ≡ most) ⊎ (is_some (slot_at slots slot) ≡ true)
+-- The slot is the first empty one from slot `from` on. Slots that don't exist are empty.
+pub record IsFirstEmpty (slots : List Slot) (from slot : ℕ) : Type 0 where
+  pub after : from ≤ slot
+  pub held : (i : ℕ) → from ≤ i → i < slot → is_some (slot_at slots i) ≡ true
+  pub empty : slot_at slots slot ≡ None
+
+-- The slot is the first one with a message from slot `from` on and below slot `to`. It is `to` if there is none.
+pub record IsNextHeld (slots : List Slot) (from to slot : ℕ) : Type 0 where
+  pub after : from ≤ slot
+  pub within : slot ≤ to
+  pub none : (i : ℕ) → from ≤ i → i < slot → slot_at slots i ≡ None
+  pub stops : (slot ≡ to) ⊎ (is_some (slot_at slots slot) ≡ true)

@@ -5,6 +5,7 @@ use Rattle.std.specs.FinMap as finite
 use Rattle.mold_wire.specs.declared.limits.TheConstants.{MAX_COUNT}
 use Rattle.mold_wire.specs.declared.request.Request.{Request}
 use Rattle.mold_rule.specs.Ranges.{Range, ranges}
+use Rattle.mold_receiver.specs.declared.gap.Gap.{Gap}
 use Rattle.mold_receiver.specs.Store.{Message, Store}
 use Rattle.mold_receiver.specs.View.{View}
 
@@ -46,3 +47,18 @@ pub record IsGap (v : View) (end : ℕ) : Type 0 where
   pub lacked : (number : ℕ) → number < end → finite.get v.store number ≡ None
   -- A message is stored at `end`, or `end` is `known`.
   pub stops : (end ≡ v.known) ⊎ (is_some (finite.get v.store end) ≡ true)
+
+-- The first gap at or above `from`: all numbers from `from` to just below it are stored. No number of the gap is
+-- stored. The number `gap.end` is stored, or it is `known`.
+pub record IsNextGap (v : View) (from : ℕ) (gap : Gap) : Type 0 where
+  pub after : from ≤ gap.first
+  pub some : gap.first < gap.end
+  pub within : gap.end ≤ v.known
+  pub held : (number : ℕ) → from ≤ number → number < gap.first → is_some (finite.get v.store number) ≡ true
+  pub lacked : (number : ℕ) → gap.first ≤ number → number < gap.end → finite.get v.store number ≡ None
+  pub stops : (gap.end ≡ v.known) ⊎ (is_some (finite.get v.store gap.end) ≡ true)
+
+-- All numbers from `from` to just below `known` are stored.
+abbrev pub HasNoGap : View → ℕ → Type 0
+HasNoGap v from =
+    (number : ℕ) → from ≤ number → number < v.known → is_some (finite.get v.store number) ≡ true

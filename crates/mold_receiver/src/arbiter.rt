@@ -1,17 +1,21 @@
 //! The arbiter of line A and line B: one receiver and a report for each line.
 
-ghost use Rattle.std.specs.Prelude.{◌≡◌, ◌-◌, ◌≤◌, None, Some, IfOk, IfErr, OnErr};
+ghost use Rattle.std.specs.Prelude.{◌≡◌, ◌-◌, ◌<◌, ◌≤◌, length, max, None, Some, IfOk, IfErr, IfNone, IfSome, OnOk, OnErr};
 ghost use Rattle.mold_receiver.specs.Arbiter.{HasArbitrated, HasRefused, report_on};
-ghost use Rattle.mold_receiver.specs.Batch.{Follows};
+ghost use Rattle.mold_receiver.specs.Batch.{Follows, followed_by};
 ghost use Rattle.mold_receiver.specs.Origin.{line_of};
 ghost use Rattle.mold_receiver.specs.Receive.{IsRefusedFor};
+ghost use Rattle.mold_receiver.specs.Skip.{AreMissing, skipped, skipped_run};
+ghost use Rattle.mold_receiver.specs.Wanted.{HasNoGap, IsNextGap};
 
 use crate::batch::Batch;
+use crate::gap::Gap;
 use crate::line::{Line, LineReport, LineReports};
 use crate::origin::Origin;
 use crate::receiver::Receiver;
 use crate::taken::{Accepted, Taken};
 use mold_rule::Refusal;
+use std::alloc::AllocError;
 use std::marker::Model;
 
 /// A receiver of packets that arrive on two lines, with a report for each line. It doesn't matter on which line a
@@ -141,5 +145,29 @@ impl Arbiter {
         ensures { result.now ≡ self.now.view }
     {
         &self.receiver
+    }
+
+    /// Gives up the messages from the receiver's `next` to just below `to`, as `Receiver::skip` does. No line's
+    /// report changes. The batch must be empty or end just before `to`.
+    pub fn skip(&mut self, to: u64, batch: &mut Batch) -> Result<u32, AllocError>
+        requires ahead { self.old.view.next < to }
+        requires missing { AreMissing self.old.view to }
+        requires follows { Follows batch.old to }
+        ensures skipped { OnOk result (self.new ≡ record { view = skipped self.old.view to; reports = self.old.reports }) }
+        ensures handed { OnOk result (batch.new ≡ followed_by batch.old to (skipped_run self.old.view to)) }
+        ensures count { IfOk result (λ count. count ≡ length (skipped_run self.old.view to)) }
+        ensures needed { OnErr result (0 < length (skipped_run self.old.view to)) }
+        ensures same { OnErr result (self.new ≡ self.old) }
+        ensures batch { OnErr result (batch.new ≡ batch.old) }
+    {
+        self.receiver.skip(to, batch)
+    }
+
+    /// Returns the first gap at or above the number `from`, as `Receiver::next_missing` does.
+    pub fn next_missing(&self, from: u64) -> Option<Gap>
+        ensures some { IfSome result (λ gap. IsNextGap self.now.view (max from self.now.view.next) gap) }
+        ensures none { IfNone result (HasNoGap self.now.view (max from self.now.view.next)) }
+    {
+        self.receiver.next_missing(from)
     }
 }

@@ -139,3 +139,33 @@ pub(crate) fn hand_on(
     }
     handed
 }
+
+/// Delivers the stored messages from the slot `start` on, up to the first empty slot, and returns that slot. The first
+/// slot has the number `next`. If an allocation fails, it returns an error and the batch is unchanged.
+pub(crate) fn hand_stored(
+    batch: &mut Batch,
+    next: u64,
+    slots: &Slots,
+    start: usize,
+) -> Result<usize, AllocError>
+    requires follows { Follows batch.old (next + start) }
+    requires counted { next + start < 2 ^ 64 }
+    requires numbered { AreNumbered slots.now next }
+    ensures handed { OnOk result (batch.new ≡ followed_by batch.old (next + start) (run_in slots.now start)) }
+    ensures stopped { IfOk result (λ end. end ≡ start + length (run_in slots.now start)) }
+    ensures fits { IfOk result (λ end. next + end < 2 ^ 64) }
+    ensures needed { OnErr result (0 < length (run_in slots.now start)) }
+    ensures same { OnErr result (batch.new ≡ batch.old) }
+{
+    let Some(_first) = slots.get(start) else {
+        return Ok(start);
+    };
+    let number = next + start as u64;
+    batch.make_room(number)?;
+    let before = batch.len();
+    let end = push_stored(batch, next, slots, start);
+    if end.is_err() {
+        batch.take_back(before, number);
+    }
+    end
+}

@@ -1,12 +1,12 @@
-//! A ring of flags whose first set flag is found in constant time.
+//! A ring of flags whose next set flag is found in constant time.
 
 ghost use Rattle.std.specs.Prelude.{◌≡◌, ℕ, ◌+◌, ◌-◌, ◌*◌, ◌/◌, ◌%◌, ◌^◌, ◌<◌, ◌≤◌, ◌↔◌, ◌++◌, ◌∷◌, [], length, take};
 ghost use Rattle.std.specs.Prelude.{drop, replicate, nat_eq, slice_index, slice_set, false, true, IfOk, IsTrue};
 ghost use Rattle.std.specs.Prelude.{if◌then◌else◌};
 ghost use Rattle.mold_receiver.specs.Occupied.{flag_at, bit_of, AreWritten, IsWrite, IsNext, IsNextInWord, IsNextSet};
-ghost use Rattle.mold_receiver.specs.Occupied.{AreClear, AreUnset};
+ghost use Rattle.mold_receiver.specs.Occupied.{AreClear, AreUnset, IsFirstBit, IsFirstFlag};
 ghost use Rattle.mold_wire.specs.declared.limits.TheConstants.{MAX_WIDE_WINDOW};
-ghost use Rattle.mold_receiver.specs.Occupied.{AreLevels, IsFirstSet};
+ghost use Rattle.mold_receiver.specs.Occupied.{AreLevels};
 
 use crate::ring::ring_index;
 use std::alloc::{AllocError, Global};
@@ -79,6 +79,18 @@ fn next_in_word(words: &[u64], from: usize) -> Option<usize>
         return None;
     }
     Some(from + rest.trailing_zeros() as usize)
+}
+
+// Returns the first bit from bit `from` on that is not set, or the first bit of the next word if there is none in the
+// same word.
+fn first_clear_in_word(words: &[u64], from: usize) -> usize
+    requires there { from / 64 < length words.now }
+    requires few { from < 2 ^ 32 }
+    ensures { IsFirstBit words.now from (64 * (from / 64 + 1)) 0 result }
+{
+    let rest = !words[from / 64] >> (from % 64);
+    let end = 64 * (from / 64 + 1);
+    end.min(from + rest.trailing_zeros() as usize)
 }
 
 // Bits in levels. `bits` has a bit for each flag of a ring. Each other level has a bit for each word of the level below
@@ -192,6 +204,42 @@ impl Levels {
         }
     }
 
+    // Returns the first bit from bit `from` on and below bit `to` that is not set, or `to` if each of them is set.
+    fn first_clear(&self, from: usize, to: usize) -> usize
+        requires levels { AreLevels self.now }
+        requires order { from ≤ to }
+        requires within { to ≤ 64 * length self.now.bits.items }
+        ensures { IsFirstBit self.now.bits.items from to 0 result }
+    {
+        let mut from = from;
+        while from < to {
+            let end = to.min((from / 64 + 1) * 64);
+            let bit = first_clear_in_word(&self.bits, from);
+            if bit < end {
+                return bit;
+            }
+            from = end;
+        }
+        to
+    }
+
+    // Returns the first bit from bit `from` on and below bit `to` that is set, or that is not. Returns `to` if there is
+    // none.
+    fn first_bit(&self, from: usize, to: usize, set: bool) -> usize
+        requires levels { AreLevels self.now }
+        requires order { from ≤ to }
+        requires within { to ≤ 64 * length self.now.bits.items }
+        ensures { IsFirstBit self.now.bits.items from to (if set then 1 else 0) result }
+    {
+        if !set {
+            return self.first_clear(from, to);
+        }
+        match self.next(from) {
+            Some(bit) => to.min(bit),
+            None => to,
+        }
+    }
+
     // Returns whether no bit is set from bit `from` on and below bit `to`.
     fn is_clear(&self, from: usize, to: usize) -> bool
         requires levels { AreLevels self.now }
@@ -213,7 +261,7 @@ impl Levels {
 }
 
 /// A ring of flags, one for each slot. It is allocated once, and takes little more than one bit for each flag. No call
-/// searches the flags: `first` reads at most 14 words, wherever the first set flag is.
+/// searches for a set flag: `first_from` reads at most 28 words, wherever it is.
 #[derive(Debug, Drop)]
 pub(crate) struct Occupied {
     levels: Levels,
@@ -264,6 +312,22 @@ impl Occupied {
             return false;
         }
         is_bit_set(&self.levels.bits, ring_index(self.head, self.count, slot))
+    }
+
+    /// Returns the first slot from slot `from` on whose flag is `set`, or the number of flags if there is none. It reads
+    /// at most 28 words if `set` is true, otherwise one word for each 64 flags that it passes.
+    pub(crate) fn first_from(&self, from: usize, set: bool) -> usize
+        requires { from ≤ length self.now }
+        ensures { IsFirstFlag self.now from set result }
+    {
+        let start = ring_index(self.head, self.count, from);
+        let end = start + (self.count - from);
+        let last = end.min(self.count);
+        let bit = self.levels.first_bit(start, last, set);
+        if bit < last {
+            return from + (bit - start);
+        }
+        from + (last - start) + self.levels.first_bit(0, end - last, set)
     }
 
     /// Returns whether no flag is set from slot `from` up to, but not including, slot `to`. Slots that don't exist have
@@ -318,18 +382,5 @@ impl Occupied {
         ensures { self.new ≡ take slot self.old ++ replicate count true ++ drop (slot + count) self.old }
     {
         self.write(slot, count, true);
-    }
-
-    /// Returns the first slot whose flag is set, or the number of flags if none is set.
-    pub(crate) fn first(&self) -> usize
-        ensures { IsFirstSet self.now result }
-    {
-        match self.levels.next(self.head) {
-            Some(bit) => bit - self.head,
-            None => match self.levels.next(0) {
-                Some(bit) => bit + self.count - self.head,
-                None => self.count,
-            },
-        }
     }
 }

@@ -4,7 +4,7 @@
 // emits calls that return structs through memory. They take a third of the time of a datagram with one message.
 
 ghost use Rattle.std.specs.Prelude.{◌≡◌, ◌↔◌, IsTrue, ◌⊎◌, [], ◌+◌, ◌-◌, ◌<◌, ◌≤◌, ◌^◌, min, length, Some, None, Ok};
-ghost use Rattle.std.specs.Prelude.{Err, IfOk, IfErr, OnOk, OnErr};
+ghost use Rattle.std.specs.Prelude.{Err, IfOk, IfErr, IfNone, IfSome, OnOk, OnErr, max};
 ghost use Rattle.std.specs.FinMap as finite;
 ghost use Rattle.mold_wire.specs.Packet.{IsBody, messages_of, top_of};
 ghost use Rattle.mold_wire.specs.Reading.{reading};
@@ -15,7 +15,8 @@ ghost use Rattle.mold_receiver.specs.Handing.{HasNext};
 ghost use Rattle.mold_receiver.specs.Receive.{HasTaken, HasTakenPacket, IsRefusedFor, TakesMemory, data_packet};
 ghost use Rattle.mold_receiver.specs.Receive.{ended_after, handed_on, refusal, top_read};
 ghost use Rattle.mold_receiver.specs.Store.{first_conflict, from_next};
-ghost use Rattle.mold_receiver.specs.Wanted.{wanted};
+ghost use Rattle.mold_receiver.specs.Skip.{AreMissing, skipped, skipped_run};
+ghost use Rattle.mold_receiver.specs.Wanted.{HasNoGap, IsNextGap, wanted};
 ghost use Rattle.mold_receiver.specs.View.{View, IsWellFormed, IsWideWindow, IsWindow, fresh};
 ghost use Rattle.mold_receiver.specs.declared.error.ReceiverError.TheVariants.{NextZero, Window, Memory};
 ghost use Rattle.mold_receiver.specs.declared.segments.TheConstants.{MAX_SPARE};
@@ -24,7 +25,8 @@ ghost use Rattle.mold_rule.specs.Refusals.{end_below, past_end};
 use crate::batch::Batch;
 use crate::conflict::conflict_of;
 use crate::error::ReceiverError;
-use crate::hand::hand_on;
+use crate::gap::Gap;
+use crate::hand::{hand_on, hand_stored};
 use crate::slots::Slots;
 use crate::taken::{Accepted, Taken};
 use mold_rule::{Refusal, check_header};
@@ -383,11 +385,53 @@ impl Receiver {
             return None;
         }
         let most = (self.known - self.next).min(MAX_COUNT as u64);
-        let count = self.slots.first_held(most as usize);
+        let count = self.slots.next_held(0, most as usize);
         Some(Request {
             session: self.session,
             sequence: self.next,
             count: count as u16,
+        })
+    }
+
+    /// Gives up the messages from `next` to just below `to`, all of which must be missing: `next_missing` returns the end
+    /// of the gap at `next`. The stored messages from `to` on, up to the first missing one, are appended to `batch`, and `next` then comes
+    /// after them. Returns how many they are. If an allocation fails, it returns an error, and the receiver and the
+    /// batch are unchanged. The batch must be empty or end just before `to`.
+    pub fn skip(&mut self, to: u64, batch: &mut Batch) -> Result<u32, AllocError>
+        requires ahead { self.old.next < to }
+        requires missing { AreMissing self.old to }
+        requires follows { Follows batch.old to }
+        ensures skipped { OnOk result (self.new ≡ skipped self.old to) }
+        ensures handed { OnOk result (batch.new ≡ followed_by batch.old to (skipped_run self.old to)) }
+        ensures count { IfOk result (λ count. count ≡ length (skipped_run self.old to)) }
+        ensures needed { OnErr result (0 < length (skipped_run self.old to)) }
+        ensures view { OnErr result (self.new ≡ self.old) }
+        ensures batch { OnErr result (batch.new ≡ batch.old) }
+    {
+        let start = (to - self.next) as usize;
+        let end = hand_stored(batch, self.next, &self.slots, start)?;
+        self.slots.skip(end.min(self.slots.len()));
+        self.next += end as u64;
+        Ok((end - start) as u32)
+    }
+
+    /// Returns the first gap at or above the number `from`, or the rest of a gap if `from` is in it. Numbers below `next`
+    /// are not missing. Returns `None` if no message from `from` to just below `known` is missing. It skips 64 stored
+    /// messages, or any number of missing ones, in a step.
+    pub fn next_missing(&self, from: u64) -> Option<Gap>
+        ensures some { IfSome result (λ gap. IsNextGap self.now (max from self.now.next) gap) }
+        ensures none { IfNone result (HasNoGap self.now (max from self.now.next)) }
+    {
+        let start = from.saturating_sub(self.next) as usize;
+        let end = (self.known - self.next) as usize;
+        let first = self.slots.first_empty(start);
+        if first >= end {
+            return None;
+        }
+        let after = self.slots.next_held(first, end);
+        Some(Gap {
+            first: self.next + first as u64,
+            end: self.next + after as u64,
         })
     }
 }

@@ -10,7 +10,7 @@ ghost use Rattle.mold_receiver.specs.Places.{IsBlockAt, place_at};
 ghost use Rattle.mold_receiver.specs.Segments.{IsAppended, bytes_at};
 ghost use Rattle.mold_receiver.specs.Run.{IsRunAt};
 ghost use Rattle.mold_receiver.specs.Shelf.{IsExtent, IsKept, message_on, slots_on};
-ghost use Rattle.mold_receiver.specs.Slots.{slot_at, count_held, AreEmpty, IsFirstHeld};
+ghost use Rattle.mold_receiver.specs.Slots.{slot_at, count_held, AreEmpty, IsFirstEmpty, IsNextHeld};
 ghost use Rattle.mold_receiver.specs.declared.place.TheConstants.{NO_START};
 ghost use Rattle.mold_receiver.specs.declared.segments.TheConstants.{MAX_SPARE};
 ghost use Rattle.mold_wire.specs.declared.limits.TheConstants.{MAX_WIDE_WINDOW};
@@ -264,16 +264,31 @@ impl Shelf {
         end <= self.ring.len() as u64 && self.is_clear(first as usize, end as usize)
     }
 
-    /// Returns the first slot that has a message among the first `most` slots, or `most` if they are empty.
-    pub(crate) fn first_held(&self, most: usize) -> usize
+    /// Returns the first empty slot from slot `from` on. Slots that don't exist are empty.
+    pub(crate) fn first_empty(&self, from: usize) -> usize
         requires { IsKept self.now }
-        ensures { IsFirstHeld (slots_on self.now) most result }
+        ensures { IsFirstEmpty (slots_on self.now) from result }
     {
-        let first = self.occupied.first();
-        if first < self.occupied.len() {
-            first.min(most)
+        if from >= self.occupied.len() {
+            return from;
+        }
+        self.occupied.first_from(from, false)
+    }
+
+    /// Returns the first slot that has a message from slot `from` on and below slot `to`, or `to` if there is none.
+    pub(crate) fn next_held(&self, from: usize, to: usize) -> usize
+        requires kept { IsKept self.now }
+        requires order { from ≤ to }
+        ensures { IsNextHeld (slots_on self.now) from to result }
+    {
+        if from >= self.occupied.len() {
+            return to;
+        }
+        let slot = self.occupied.first_from(from, true);
+        if slot < self.occupied.len() {
+            slot.min(to)
         } else {
-            most
+            to
         }
     }
 }

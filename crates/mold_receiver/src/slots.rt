@@ -4,7 +4,7 @@ ghost use Rattle.std.specs.Prelude.{◌≡◌, ◌↔◌, IsTrue, ◌+◌, ◌^�
 ghost use Rattle.std.specs.Option.{option_copied};
 ghost use Rattle.mold_receiver.specs.Keeping.{filled, fresh};
 ghost use Rattle.mold_receiver.specs.Run.{IsRunAt};
-ghost use Rattle.mold_receiver.specs.Slots.{slot_at, count_held, AreEmpty, IsFirstHeld};
+ghost use Rattle.mold_receiver.specs.Slots.{slot_at, count_held, AreEmpty, IsFirstEmpty, IsNextHeld};
 ghost use Rattle.mold_receiver.specs.declared.segments.TheConstants.{MAX_SPARE};
 ghost use Rattle.mold_wire.specs.declared.limits.TheConstants.{MAX_WIDE_WINDOW};
 ghost use Rattle.mold_wire.specs.declared.header.TheConstants.{END_OF_SESSION};
@@ -126,10 +126,18 @@ impl Slots {
         self.shelf.is_clear(from, to)
     }
 
-    /// Returns the first slot that has a message among the first `most` slots, or `most` if they are empty.
-    pub(crate) fn first_held(&self, most: usize) -> usize
-        ensures { IsFirstHeld self.now most result }
+    /// Returns the first empty slot from slot `from` on. Slots that don't exist are empty.
+    pub(crate) fn first_empty(&self, from: usize) -> usize
+        ensures { IsFirstEmpty self.now from result }
     {
-        self.shelf.first_held(most)
+        self.shelf.first_empty(from)
+    }
+
+    /// Returns the first slot that has a message from slot `from` on and below slot `to`, or `to` if there is none.
+    pub(crate) fn next_held(&self, from: usize, to: usize) -> usize
+        requires { from ≤ to }
+        ensures { IsNextHeld self.now from to result }
+    {
+        self.shelf.next_held(from, to)
     }
 }

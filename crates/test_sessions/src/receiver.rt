@@ -63,6 +63,34 @@ fn receiver_backwards(rt: HostRuntime) -> Result<(), Fail> {
     expect_steps(&rt, rt.alloc(), 1, 4, BACKWARDS)
 }
 
+/// Messages 2 and 3 and message 6 are stored, and 8 messages are known of. The gaps at 1 and at 4 are given up.
+const GIVEN_UP: &[Step] = &[
+    Step::Missing(0, None),
+    Step::Taken(DATA_2_3, (0, 2, 0)),
+    Step::Taken(b"SESSION001\0\0\0\0\0\0\0\x06\0\x01\0\x01F", (0, 1, 0)),
+    Step::Taken(b"SESSION001\0\0\0\0\0\0\0\x09\0\0", (0, 0, 0)),
+    Step::Missing(0, Some((1, 2))),
+    Step::Missing(2, Some((4, 6))),
+    Step::Missing(5, Some((5, 6))),
+    Step::Missing(6, Some((7, 9))),
+    Step::Missing(9, None),
+    Step::Skipped(2),
+    Step::Batch(2, &[b"B", b"C"]),
+    Step::Numbers(4, 9, 1),
+    Step::Missing(0, Some((4, 6))),
+    Step::Skipped(1),
+    Step::Batch(6, &[b"F"]),
+    Step::Numbers(7, 9, 0),
+    Step::Skipped(0),
+    Step::Numbers(9, 9, 0),
+    Step::Missing(0, None),
+];
+
+#[test]
+fn gaps_are_found_and_given_up(rt: HostRuntime) -> Result<(), Fail> {
+    expect_steps(&rt, rt.alloc(), 1, 8, GIVEN_UP)
+}
+
 const EIGHT: &[u8] = b"SESSION001\0\0\0\0\0\0\0\x02\0\x08\
     \0\x012\0\x013\0\x014\0\x015\0\x016\0\x017\0\x018\0\x019";
 
@@ -335,6 +363,24 @@ fn take_backwards(rt: &impl Abort, reception: &mut Reception) -> Result<(), Refu
     reception.take_again(rt, DATA_3, (0, 1, 0), (1, 1, 0, 0, None))?;
     reception.take_again(rt, DATA_2, (0, 1, 0), (1, 4, 1, 0, None))?;
     reception.take_again(rt, DATA_1, (3, 0, 0), (1, 4, 2, 0, None))
+}
+
+/// Messages 2 and 3 are stored, and message 1 is given up. If an allocation fails, nothing changes, and it is given up
+/// again.
+#[test]
+fn out_of_memory_gives_up_nothing(rt: HostRuntime) -> Result<(), Fail> {
+    let receiver = receiver_again(&rt, rt.alloc())?;
+    let mut reception = Reception::of(rt.alloc(), receiver);
+    reception.take_again(&rt, DATA_2_3, (0, 2, 0), (1, 1, 0, 0, None))?;
+    if reception.skip(&rt).is_err() {
+        reception.expect_state(&rt, (1, 4, 2, 0, None));
+        reception.skip(&rt)?;
+    }
+    reception.expect_steps(
+        &rt,
+        &[Step::Batch(2, &[b"B", b"C"]), Step::Numbers(4, 4, 0)],
+    );
+    Ok(())
 }
 
 /// A message of 10,000 bytes.

@@ -3,7 +3,7 @@
 use crate::comparisons::{same_message, same_number, same_truth};
 use mold_receiver::{Batch, Receiver, Refusal, Taken};
 use mold_wire::Session;
-use std::alloc::Global;
+use std::alloc::{AllocError, Global};
 use std::process::Abort;
 use std::test::Fail;
 
@@ -88,6 +88,10 @@ pub enum Step {
     Numbers(u64, u64, u32),
     /// The request for missing messages, if there is one: its sequence number and its count.
     Wanted(Option<(u64, u16)>),
+    /// The first gap at or above a number: its first number and its end.
+    Missing(u64, Option<(u64, u64)>),
+    /// The gap at the next message is given up: how many stored messages are then delivered.
+    Skipped(u32),
     /// The batch: the number of its first message, and its messages.
     Batch(u64, &'static [&'static [u8]]),
     /// The end that is known, and whether the receiver has all messages before it.
@@ -177,9 +181,34 @@ impl Reception {
             Step::Refused(packet, refused) => self.expect_refused(rt, packet, refused),
             Step::Numbers(next, known, stored) => self.expect_numbers(rt, next, known, stored),
             Step::Wanted(request) => self.expect_wanted(rt, request),
+            Step::Missing(from, gap) => self.expect_missing(rt, from, gap),
+            Step::Skipped(count) => self.expect_skipped(rt, count),
             Step::Batch(first, messages) => expect_batch(rt, &self.batch, first, messages),
             Step::Ended(end, finished) => self.expect_ended(rt, end, finished),
         }
+    }
+
+    fn expect_missing(&self, rt: &impl Abort, from: u64, wanted: Option<(u64, u64)>) {
+        let Some(gap) = self.receiver.next_missing(from) else {
+            assert!(rt; wanted.is_none(), "no gap");
+            return;
+        };
+        assert!(rt; Some((gap.first, gap.end)) == wanted, "another gap");
+    }
+
+    /// Gives up the gap at the next message. Returns how many stored messages were then delivered.
+    pub fn skip(&mut self, rt: &impl Abort) -> Result<u32, AllocError> {
+        let next = self.receiver.next();
+        let Some(gap) = self.receiver.next_missing(next) else {
+            return Ok(0);
+        };
+        assert!(rt; gap.first == next);
+        self.batch.clear();
+        self.receiver.skip(gap.end, &mut self.batch)
+    }
+
+    fn expect_skipped(&mut self, rt: &impl Abort, count: u32) {
+        assert!(rt; self.skip(rt) == Ok(count), "another count, or no memory");
     }
 
     pub fn expect_steps(&mut self, rt: &impl Abort, steps: &[Step]) {

@@ -1,7 +1,7 @@
 use Rattle.std.proofs.Common.{◌≡◌, ℕ, ◌-◌, min, eqb, sym, ap, ◌∙◌, subst, Option, None, Some}
 use Rattle.std.proofs.lemmas.Bool.{cond-false, ne_eqb}
 use Rattle.mold_wire.specs.declared.request.Request.{Request}
-use Rattle.mold_receiver.specs.Slots.{IsFirstHeld}
+use Rattle.mold_receiver.specs.Slots.{IsNextHeld}
 use Rattle.mold_receiver.specs.View.{View, view_over}
 use Rattle.mold_receiver.specs.Wanted.{wanted, gap_end}
 use Rattle.mold_receiver.proofs.WantedLemmas.{gap_found}
@@ -12,10 +12,10 @@ returns-clause-wanted c =
     let a = c.self.inside in
     let v = view_over a.session a.next a.known a.ended a.slots in
     let ask : ℕ → Request = λ n. record { session = a.session; sequence = a.next; count = n } in
-    let first : IsFirstHeld a.slots (min (a.known - a.next) 65534) c.first_held-count.result =
-    subst (λ (n : ℕ). IsFirstHeld a.slots n c.first_held-count.result) c.min-most.ensures c.first_held-count.ensures
+    let first : IsNextHeld a.slots 0 (min (a.known - a.next) 65534) c.next_held-count.result =
+    subst (λ (n : ℕ). IsNextHeld a.slots 0 n c.next_held-count.result) c.min-most.ensures c.next_held-count.ensures
     in
-    subst (λ (w : View). ◌≡◌ {A = Option Request} (Some (ask c.first_held-count.result)) (wanted w)) c.self.view_is
-    (ap (λ (n : ℕ). Some (ask n)) (sym (gap_found a.next a.known 65534 a.slots c.first_held-count.result first))
+    subst (λ (w : View). ◌≡◌ {A = Option Request} (Some (ask c.next_held-count.result)) (wanted w)) c.self.view_is
+    (ap (λ (n : ℕ). Some (ask n)) (sym (gap_found a.next a.known 65534 a.slots c.next_held-count.result first))
     ∙ sym (cond-false (eqb a.next a.known) None (Some (ask (min 65534 (gap_end v - a.next))))
     (ne_eqb a.next a.known c.if-self.false)))
