@@ -462,7 +462,9 @@ def words(chance):
     form = "lines"
     if command in ("pack", "publish", "dump"):
         form = chance.choice(sorted(FLAGS))
-        drawn += FLAGS[form]
+    if command == "listen":
+        form = chance.choice(["lines", "blocks"])
+    drawn += FLAGS[form]
     return Case({"command": command, "values": values, "form": form}, [], drawn)
 
 
@@ -481,4 +483,7 @@ def listen(chance):
         drawn = damaged(chance, drawn) if has(chance, 0.1) else drawn
         items.append((chance.choice([b"a", b"a", b"b", b"b", b"answer"]), drawn))
         view = view_after(view, *items[-1]) or view
-    return maybe_reporting(chance, maybe_live(chance, case_of(chance, options, items)))
+    form = chance.choice(["lines", "blocks"])
+    case = case_of(chance, options, items, form=form)
+    case.arguments += FLAGS[form]
+    return maybe_reporting(chance, maybe_live(chance, case))

@@ -571,12 +571,28 @@ class Listener:
         return text_of([*self.output, *(self.report_lines() if is_reported else []), line]), status
 
 
-def listen(view, datagrams, is_reported):
-    """The text and the status for datagrams in the order in which they are taken, each with its way: a, b or answer."""
+def apart(text):
+    """The text of a listener that prints blocks, which are on standard output, and its text on standard error. The
+    given text is that of a listener that prints lines."""
+    printed, notes = [], []
+    for line in text.splitlines():
+        number, _, digits = line.partition(b" ")
+        if number.isdigit():
+            printed.append(b"" if digits == b"-" else bytes.fromhex(digits.decode()))
+        else:
+            notes.append(line + b"\n")
+    return blocks(printed), b"".join(notes)
+
+
+def listen(view, datagrams, is_reported, form):
+    """The text, the status and the text on standard error for datagrams in the order in which they are taken, each with
+    its way: a, b or answer."""
     listener = Listener(view)
     for way, datagram in datagrams:
         listener.take(way, datagram)
-    return listener.text(is_reported)
+    text, status = listener.text(is_reported)
+    printed, errors = (text, b"") if form == "lines" else apart(text)
+    return printed, status, errors
 
 
 # loop

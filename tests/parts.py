@@ -69,9 +69,9 @@ WITHOUT_PROGRAM = (
 LANES = (
     (
         over_program("tests/program-checks", "try", "mold", "examples/*", "tests/checks.sh", "tests/table*",
-                     "tests/udp-sessions"),
-        over_program("tests/library", "library/*", "docs/LIBRARY.md", "install.sh", "tests/udp-sessions", crate=LIBRARY,
-                     needs_compiler=True),
+                     "tests/udp-sessions", "tests/model.py"),
+        over_program("tests/library", "library/*", "docs/LIBRARY.md", "install.sh", "tests/udp-sessions",
+                     "tests/model.py", crate=LIBRARY, needs_compiler=True),
         over_program("tests/documents " + " ".join(DOCUMENTS), *DOCUMENTS, "examples/*", "library/*", "install.sh"),
     ),
     (

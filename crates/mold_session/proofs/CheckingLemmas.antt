@@ -1,10 +1,12 @@
 -- How the bytes of a file are checked, block by block.
-use Rattle.std.proofs.Common.{◌≡◌, ◌⊎◌, ℕ, ◌+◌, ◌<◌, ◌≤◌, List, [], ◌∷◌, ◌++◌, length, length-append, append-nil}
-use Rattle.std.proofs.Common.{Option, None, Some, refl, sym, ap, subst, ◌∙◌, append_assoc, inl, inr, arith}
+use Rattle.std.proofs.Common.{◌≡◌, ◌⊎◌, ℕ, ◌+◌, ◌-◌, ◌<◌, ◌≤◌, List, [], ◌∷◌, ◌++◌, length, length-append, append-nil}
+use Rattle.std.proofs.Common.{take, Option, None, Some, refl, sym, ap, subst, ◌∙◌, append_assoc, inl, inr, arith}
 use Rattle.std.specs.Prelude.{unwrap_or, OnOk, Result, Ok, Err}
 use Rattle.std.specs.List.{AllByRecursion}
+use Rattle.std.proofs.Math.Seq.{take-append_seam}
 use Rattle.mold_wire.specs.Block.{block, blocks}
-use Rattle.mold_session.specs.Checking.{IsBody, HasBlock, HasCounted}
+use Rattle.mold_wire.specs.declared.block.TheConstants.{MAX_MESSAGE}
+use Rattle.mold_session.specs.Checking.{AreWholeBlocks, IsBody, HasBlock, HasCounted}
 use Rattle.mold_session.specs.FileFault.{IsBody1, IsBody2, BlockFault, BlocksFault, FaultInBlocks, JournalFault}
 use Rattle.mold_session.specs.Journal.{IsWithin}
 use Rattle.mold_session.specs.Reader.{CountFault}
@@ -52,6 +54,27 @@ one_counted most count bytes rest behind has few next = record {
       ∙ ap (λ (t : List ℕ). blocks has.messages ++ t) next.parts
       ∙ blocks_more has.messages next.message behind;
 }
+
+-- The bytes before the remaining ones are the counted blocks.
+pub whole_before : (limit count : ℕ) (bytes rest : List ℕ) → HasCounted MAX_MESSAGE count bytes rest → count ≤ limit →
+    AreWholeBlocks limit bytes (length bytes - length rest) count
+whole_before limit count bytes rest has few =
+    let front = blocks has.messages in
+    let long : length bytes ≡ length front + length rest =
+    ap (λ (t : List ℕ). length t) has.parts ∙ length-append front rest
+    in
+    let len : length bytes - length rest ≡ length front = omega (arith, long) in
+    record {
+      messages = has.messages;
+      few = omega (arith, few, has.counted);
+      each = has.listed.each;
+      counted = has.counted;
+      within = omega (arith, long);
+      parts =
+          ap (λ (n : ℕ). take n bytes) len
+          ∙ ap (take (length front)) has.parts
+          ∙ take-append_seam front rest;
+    }
 
 -- A fault of the next block is a fault of the blocks.
 pub counted_fault : (most count : ℕ) (bytes rest : List ℕ) (error : FileError) → HasCounted most count bytes rest →

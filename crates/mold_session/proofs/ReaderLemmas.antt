@@ -2,16 +2,17 @@
 use Rattle.std.proofs.Common.{◌≡◌, ℕ, ◌<◌, ◌≤◌, List, [], ◌∷◌, ◌++◌, length, length-append, Option, None, Some}
 use Rattle.std.proofs.Common.{refl, sym, ap, subst, ◌∙◌, append_assoc, append-nil, arith}
 use Rattle.std.specs.Prelude.{IfSome, unwrap_or}
-use Rattle.std.specs.Io.KnownBytes.{Consumes}
+use Rattle.std.specs.Io.KnownBytes.{Consumes, prepend_known}
 use Rattle.std.specs.List.{AllByRecursion}
-use Rattle.std.proofs.KnownBytes.{Consumes-trans}
+use Rattle.std.proofs.KnownBytes.{Consumes-trans, Keeps-refl, prepend_known-read}
 use Rattle.std.proofs.lemmas.List.Concat.{flat_map-append}
 use Rattle.mold_wire.specs.Block.{block, blocks}
+use Rattle.mold_wire.specs.declared.block.TheConstants.{MAX_MESSAGE}
 use Rattle.mold_session.specs.Contents.{HasBlocks, AreBefore, Gives, FileContents, IsFront}
 use Rattle.mold_session.specs.FileFault.{BlockFault, JournalFault}
 use Rattle.mold_session.specs.Journal.{IsWithin}
 use Rattle.mold_session.specs.Loading.{head_spelling, IsOfHead, IsStated, ReadsHead, Refuses}
-use Rattle.mold_session.specs.Reader.{ReaderState, HasRead, ReadsNext, EndsWith, RestFault}
+use Rattle.mold_session.specs.Reader.{EndsWith, HasRead, PassesBlocks, ReaderState, ReadsNext, RestFault}
 use Rattle.mold_session.specs.declared.error.FileError.{FileError}
 use Rattle.mold_session.specs.declared.error.FileError.TheVariants.{TooLong, Memory, BadMagic, Short, BlockCut, Read, Write, Full, CountDiffers, BadFlag}
 use Rattle.mold_session.specs.declared.loading.FileHead.{FileHead}
@@ -80,6 +81,46 @@ read_more known left after reader next messages read more =
           (subst (Consumes known after) joined
           (Consumes-trans known left after (head reader.head ++ blocks messages) (block next.message) read.consumed
           more.consumed));
+    }
+
+-- ---- blocks that are taken at once
+
+each_all : (front messages : List (List ℕ)) → AllByRecursion (IsWithin MAX_MESSAGE) front →
+    AllByRecursion (IsWithin MAX_MESSAGE) messages → AllByRecursion (IsWithin MAX_MESSAGE) (front ++ messages)
+each_all [] messages front each = each
+each_all (first ∷ others) messages front each = (front.0, each_all others messages front.1 each)
+
+pub read_blocks : (known left : Option (List ℕ)) (reader next : ReaderState) (limit : ℕ)
+    (messages more : List (List ℕ)) → HasRead known (prepend_known reader.rest left) reader messages →
+    PassesBlocks limit reader next more → HasRead known (prepend_known next.rest left) next (messages ++ more)
+read_blocks known left reader next limit messages more read passes =
+    let head : FileHead → List ℕ = λ h. head_spelling h.session.0 h.closed h.stated in
+    let after = prepend_known next.rest left in
+    let joined : (head reader.head ++ blocks messages) ++ blocks more ≡ head reader.head ++ blocks (messages ++ more) =
+    append_assoc (head reader.head) (blocks messages) (blocks more)
+    ∙ ap (λ (t : List ℕ). head reader.head ++ t) (sym (flat_map-append block messages more))
+    in
+    let taken : Consumes (prepend_known reader.rest left) after (blocks more) =
+    (prepend_known-read (prepend_known reader.rest left) left reader.rest next.rest (blocks more) ⊥
+    (Keeps-refl (prepend_known reader.rest left)) passes.parts (λ none. absurd none)).0
+    in
+    let same : reader.head ≡ next.head = sym passes.same in
+    let counted : next.count ≡ length (messages ++ more) =
+    omega (arith, read.counted, passes.counted, length-append messages more)
+    in
+    record {
+      named = subst (λ (h : FileHead). length h.session.0 ≡ 10) same read.named;
+      said = subst (λ (h : FileHead). IsStated h.closed h.stated) same read.said;
+      listed = record {
+        few = omega (arith, counted, passes.below);
+        each = each_all messages more read.listed.each passes.each;
+      };
+      counted = counted;
+      consumed =
+          subst (λ (h : FileHead). Consumes known after (head h ++ blocks (messages ++ more))) same
+          (subst (Consumes known after) joined
+          (Consumes-trans known (prepend_known reader.rest left) after (head reader.head ++ blocks messages)
+          (blocks more) read.consumed taken));
     }
 
 -- ---- the contents of the file

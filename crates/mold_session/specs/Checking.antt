@@ -1,7 +1,9 @@
 -- How the bytes of a file are checked without memory for its messages.
-use Rattle.std.specs.Prelude.{◌≡◌, ℕ, List, ◌++◌, length, drop, Option, None, Some}
+use Rattle.std.specs.Prelude.{◌≡◌, ℕ, ◌≤◌, List, ◌++◌, length, take, drop, Option, None, Some}
+use Rattle.std.specs.List.{AllByRecursion}
 use Rattle.byteorder.specs.Endian.{big_number}
 use Rattle.mold_wire.specs.Block.{block, blocks}
+use Rattle.mold_wire.specs.declared.block.TheConstants.{MAX_MESSAGE}
 use Rattle.mold_session.specs.FileFault.{IsBody1, IsBody2}
 use Rattle.mold_session.specs.Journal.{AreMessages, IsWithin}
 
@@ -23,3 +25,12 @@ pub record HasCounted (most count : ℕ) (bytes rest : List ℕ) : Type 0 where
   pub listed : AreMessages most messages
   pub counted : count ≡ length messages
   pub parts : bytes ≡ blocks messages ++ rest
+
+-- The first `len` bytes are whole blocks, of `count` messages, and there are at most `limit` of them.
+pub record AreWholeBlocks (limit : ℕ) (bytes : List ℕ) (len count : ℕ) : Type 0 where
+  pub messages : List (List ℕ)
+  pub few : length messages ≤ limit
+  pub each : AllByRecursion (IsWithin MAX_MESSAGE) messages
+  pub counted : count ≡ length messages
+  pub within : len ≤ length bytes
+  pub parts : take len bytes ≡ blocks messages

@@ -1,6 +1,7 @@
 -- How a file is read message by message.
-use Rattle.std.specs.Prelude.{◌≡◌, ℕ, ◌+◌, ◌<◌, List, [], ◌++◌, length, Option, unwrap_or}
+use Rattle.std.specs.Prelude.{◌≡◌, ℕ, ◌+◌, ◌<◌, ◌≤◌, List, [], ◌++◌, length, Option, unwrap_or}
 use Rattle.std.specs.Io.KnownBytes.{Consumes, IsAtEnd}
+use Rattle.std.specs.List.{AllByRecursion}
 use Rattle.mold_wire.specs.Block.{block, blocks}
 use Rattle.mold_wire.specs.declared.block.TheConstants.{MAX_MESSAGE}
 use Rattle.mold_session.specs.FileFault.{BlockFault}
@@ -37,6 +38,23 @@ pub record ReadsNext (known left : Option (List ℕ)) (old new : ReaderState) : 
   pub counted : new.count ≡ old.count + 1
   pub within : IsWithin MAX_MESSAGE new.message
   pub consumed : Consumes known left (block new.message)
+
+-- The blocks of these messages were at the start of the unused bytes, and they were taken: `next` is the reader after
+-- them. There are at most `limit` of them.
+pub record PassesBlocks (limit : ℕ) (reader next : ReaderState) (messages : List (List ℕ)) : Type 0 where
+  pub same : next.head ≡ reader.head
+  pub last : next.message ≡ reader.message
+  pub few : length messages ≤ limit
+  pub counted : next.count ≡ reader.count + length messages
+  pub below : next.count ≤ MAX_MESSAGES
+  pub each : AllByRecursion (IsWithin MAX_MESSAGE) messages
+  pub parts : reader.rest ≡ blocks messages ++ next.rest
+
+-- Blocks at the start of the unused bytes, at most `limit`, were taken and appended to the bytes `text`.
+pub record TakesBlocks (limit : ℕ) (old new : ReaderState) (text more : List ℕ) : Type 0 where
+  pub messages : List (List ℕ)
+  pub passes : PassesBlocks limit old new messages
+  pub appended : more ≡ text ++ blocks messages
 
 -- The file ends after the messages that were read. It states their number, or it states no number.
 pub record EndsWith (known : Option (List ℕ)) (reader : ReaderState) : Type 0 where

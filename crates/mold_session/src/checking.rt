@@ -1,7 +1,7 @@
 //! Checks bytes that should be the file of a journal, of version 1 or 2, and allocates nothing.
 
 ghost use Rattle.std.specs.Prelude.{◌≡◌, ◌<◌, ℕ, [], length, IfOk, IfErr, OnOk};
-ghost use Rattle.mold_session.specs.Checking.{IsBody, HasBlock, HasCounted};
+ghost use Rattle.mold_session.specs.Checking.{AreWholeBlocks, IsBody, HasBlock, HasCounted};
 ghost use Rattle.mold_session.specs.FileFault.{BlockFault, BlocksFault, JournalFault};
 ghost use Rattle.mold_session.specs.declared.error.FileError.{FileError as AFault};
 ghost use Rattle.mold_session.specs.declared.journal.TheConstants.{MAX_MESSAGES};
@@ -11,7 +11,7 @@ use crate::journal::MAX_MESSAGES;
 use crate::loading::check_count;
 use crate::magic::{MAGIC_LENGTH, first_magic, second_magic};
 use byteorder::{BigEndian, ByteOrder};
-use mold_wire::LENGTH_BYTES;
+use mold_wire::{LENGTH_BYTES, MAX_MESSAGE};
 
 // Returns the bytes after the head, and the number of messages that the head states.
 fn split_head(bytes: &[u8]) -> Result<(&[u8], Option<u64>), FileError>
@@ -85,6 +85,22 @@ fn count_messages(most: u16, bytes: &[u8]) -> Result<u64, FileError>
         count += 1;
     }
     Ok(count)
+}
+
+/// Returns the length in bytes, and the number, of the whole blocks at the start of the bytes, at most `limit` of them.
+pub fn whole_blocks(bytes: &[u8], limit: u64) -> (usize, u64)
+    ensures { AreWholeBlocks limit bytes.now result.0 result.1 }
+{
+    let mut rest = bytes;
+    let mut count = 0;
+    'counted: while count < limit && !rest.is_empty() {
+        let Ok(behind) = skip_block(MAX_MESSAGE, count, rest) else {
+            break;
+        };
+        rest = behind;
+        count += 1;
+    }
+    (bytes.len() - rest.len(), count)
 }
 
 /// Checks that the bytes are the file of a journal, of either version, whose messages have at most `most` bytes.

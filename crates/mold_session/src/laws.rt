@@ -4,6 +4,7 @@
 ghost use Rattle.std.specs.Prelude.{◌≡◌, ◌+◌, ◌<◌, ◌≤◌, ◌++◌, ◌∷◌, [], List, ℕ, Bool, length, take, None, Ok, Some};
 ghost use Rattle.std.specs.Prelude.{Option, IfSome};
 ghost use Rattle.std.specs.Prelude.{slice_get};
+ghost use Rattle.std.specs.Io.KnownBytes.{prepend_known};
 ghost use Rattle.std.specs.List.{AllByRecursion};
 ghost use Rattle.mold_wire.specs.Block.{IsBytes};
 ghost use Rattle.mold_wire.specs.Packet.{Spells, spelling_of};
@@ -27,7 +28,7 @@ ghost use Rattle.mold_session.specs.Publisher.{IsPublisher, MayPublish, Publishe
 ghost use Rattle.mold_session.specs.Publisher.{next_datagram, next_end, next_heartbeat, published};
 ghost use Rattle.mold_session.specs.Truthful.{MayAnswer, IsTrueDatagram};
 ghost use Rattle.mold_session.specs.Loading.{Refuses};
-ghost use Rattle.mold_session.specs.Reader.{EndsWith, HasRead, ReaderState, ReadsNext, RestFault};
+ghost use Rattle.mold_session.specs.Reader.{EndsWith, HasRead, PassesBlocks, ReaderState, ReadsNext, RestFault};
 ghost use Rattle.mold_session.specs.Server.{ServerState, IsServer, IsAnswerable, checked_request, planning};
 
 use mold_wire::laws::{
@@ -187,6 +188,9 @@ pub fn reader_law()
     ensures next { (known left after : Option (List ℕ)) (reader next : ReaderState) (messages : List (List ℕ)) →
         HasRead known left reader messages → ReadsNext left after reader next →
         HasRead known after next (messages ++ next.message ∷ []) }
+    ensures blocks { (known left : Option (List ℕ)) (reader next : ReaderState) (limit : ℕ)
+        (messages more : List (List ℕ)) → HasRead known (prepend_known reader.rest left) reader messages →
+        PassesBlocks limit reader next more → HasRead known (prepend_known next.rest left) next (messages ++ more) }
     ensures end { (known left : Option (List ℕ)) (reader : ReaderState) (messages : List (List ℕ)) →
         HasRead known left reader messages → EndsWith left reader →
         IfSome known (λ bytes. Gives bytes messages None) }

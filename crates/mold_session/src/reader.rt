@@ -5,9 +5,11 @@ ghost use Rattle.std.specs.Bool.{OnFalse, OnTrue};
 ghost use Rattle.std.specs.Io.KnownBytes.{prepend_known};
 ghost use Rattle.mold_session.specs.Contents.{Gives};
 ghost use Rattle.mold_session.specs.Loading.{CountsLoad, Refuses, work_left};
-ghost use Rattle.mold_session.specs.Reader.{EndsWith, HasRead, ReadsNext, RestFault};
+ghost use Rattle.mold_session.specs.Reader.{EndsWith, HasRead, ReadsNext, RestFault, TakesBlocks};
 
+use crate::checking::whole_blocks;
 use crate::error::FileError;
+use crate::journal::MAX_MESSAGES;
 use crate::loading::{FileHead, check_count, next_block, read_head};
 use crate::piece::Piece;
 use mold_devices::Source;
@@ -119,5 +121,23 @@ impl JournalReader {
         }
         self.count += 1;
         Ok(true)
+    }
+
+    /// Takes the next blocks, at most `limit` of them, and appends them to `out` as they are in the file. It reads
+    /// nothing, so it takes only blocks that the last read got whole. If an allocation fails, it takes none, and
+    /// `advance` still reads the next message.
+    pub fn take_blocks(&mut self, limit: u64, out: &mut Vec<u8>)
+        ensures { TakesBlocks limit self.old self.new out.old.items out.new.items }
+    {
+        let most = limit.min(MAX_MESSAGES - self.count);
+        if most == 0 {
+            return;
+        }
+        let bytes = self.piece.rest();
+        let (len, count) = whole_blocks(bytes, most);
+        if let Ok(()) = out.extend_from_slice(&bytes[..len]) {
+            self.piece.skip(len);
+            self.count += count;
+        }
     }
 }

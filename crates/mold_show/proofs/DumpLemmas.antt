@@ -1,24 +1,25 @@
 -- What was written of the messages of a file.
-use Rattle.std.proofs.Common.{◌≡◌, ℕ, Bool, false}
+use Rattle.std.proofs.Common.{◌≡◌, ℕ, ◌≤◌, Bool, false, length}
 use Rattle.std.proofs.Common.{List, [], ◌∷◌, ◌++◌, Option, None, Some}
 use Rattle.std.proofs.Common.{refl, sym, ap, subst, ◌∙◌, append_assoc}
 use Rattle.std.specs.Prelude.{IfSome}
-use Rattle.std.specs.Io.KnownBytes.{Appends}
+use Rattle.std.specs.Io.KnownBytes.{Appends, prepend_known}
 use Rattle.std.proofs.KnownBytes.{Appends-nil, Appends-trans}
 use Rattle.mold_devices.specs.Devices.{AppendsPrefix}
 use Rattle.mold_devices.specs.Writing.{Moves}
 use Rattle.mold_session.specs.Contents.{FileContents, Gives, IsFront}
 use Rattle.mold_session.specs.File.{SpellsJournal, SpellsJournal2}
 use Rattle.mold_session.specs.Loading.{Refuses}
-use Rattle.mold_session.specs.Reader.{ReaderState, HasRead, ReadsNext, RestFault}
+use Rattle.mold_session.specs.Reader.{HasRead, PassesBlocks, ReaderState, ReadsNext, RestFault, TakesBlocks}
 use Rattle.mold_session.specs.declared.error.FileError.{FileError}
-use Rattle.mold_show.specs.Dump.{PassesNext, dump_errors}
+use Rattle.mold_show.specs.Dump.{PassesNext, blocks_left, dump_errors}
 use Rattle.mold_show.specs.Dump.{dump_text, dumped}
 use Rattle.mold_show.specs.Dump.{ends_session, fault_of}
 use Rattle.mold_show.specs.Dump.{has_unprintable, last_text, messages_text, next_text, printed}
 use Rattle.mold_show.specs.declared.dump_options.DumpOptions.{DumpOptions}
-use Rattle.mold_show.proofs.DumpedLemmas.{first_texts, no_texts, none_pass, passes_more}
+use Rattle.mold_show.proofs.DumpedLemmas.{first_texts, no_texts, none_pass, passes_more, printed_blocks}
 use Rattle.mold_show.proofs.DumpedLemmas.{texts_more}
+use Rattle.mold_wire.specs.Block.{blocks}
 use Rattle.mold_wire.specs.declared.session.Session.{Session}
 
 -- ---- what was written so far
@@ -55,6 +56,9 @@ pub record ReaderLaws : Type 0 where
   pub next : (known left after : Option (List ℕ)) (reader next : ReaderState) (messages : List (List ℕ)) →
       HasRead known left reader messages → ReadsNext left after reader next →
       HasRead known after next (messages ++ next.message ∷ [])
+  pub blocks : (known left : Option (List ℕ)) (reader next : ReaderState) (limit : ℕ)
+      (messages more : List (List ℕ)) → HasRead known (prepend_known reader.rest left) reader messages →
+      PassesBlocks limit reader next more → HasRead known (prepend_known next.rest left) next (messages ++ more)
   pub refused : (known left : Option (List ℕ)) (reader : ReaderState) (messages : List (List ℕ))
       (error : FileError) → HasRead known left reader messages →
       Refuses (RestFault reader.head.stated reader.count) left error →
@@ -111,6 +115,38 @@ dumping_more laws options known left after old now reader next text more so_far 
             ∙ ap (λ (t : List ℕ). t ++ last) so_far.gathered.parts
             ∙ append_assoc written text last
             ∙ ap (λ (t : List ℕ). written ++ t) (sym added);
+      };
+    }
+
+-- Blocks that the file has were taken.
+pub dumping_blocks : ReaderLaws → (options : DumpOptions) (known left old now : Option (List ℕ))
+    (reader next : ReaderState) (text more : List ℕ) →
+    Dumping options known (prepend_known reader.rest left) old now reader text →
+    TakesBlocks (blocks_left options reader.count) reader next text more →
+    Dumping options known (prepend_known next.rest left) old now next more
+dumping_blocks laws options known left old now reader next text more so_far takes =
+    let messages = so_far.messages in
+    let taken = takes.messages in
+    let after = prepend_known next.rest left in
+    let read = laws.blocks known left reader next (blocks_left options reader.count) messages taken so_far.read
+    takes.passes in
+    let shown = printed_blocks options messages taken
+    (subst (λ (n : ℕ). length taken ≤ blocks_left options n) so_far.read.counted takes.passes.few)
+    so_far.gathered.passes in
+    let written = so_far.gathered.written in
+    record {
+      messages = messages ++ taken;
+      read = read;
+      gathered = record {
+        first = laws.front known after next (messages ++ taken) read;
+        passes = shown.passes;
+        written = written;
+        sent = so_far.gathered.sent;
+        parts =
+            shown.texts
+            ∙ ap (λ (t : List ℕ). t ++ blocks taken) so_far.gathered.parts
+            ∙ append_assoc written text (blocks taken)
+            ∙ ap (λ (t : List ℕ). written ++ t) (sym takes.appended);
       };
     }
 

@@ -1,7 +1,7 @@
 -- Which messages are printed, one message after another.
 use Rattle.std.proofs.Common.{◌≡◌, ℕ, ◌+◌, ◌-◌, ◌<◌, ◌≤◌, Bool, true, false, nat_le, nat_lt, List, [], ◌∷◌, ◌++◌, length}
 use Rattle.std.proofs.Common.{length-append, length-drop, take, drop, sym, ap, ◌∙◌, append_assoc, append-nil, arith}
-use Rattle.std.proofs.Common.{⊎_elim, refl, true≢false}
+use Rattle.std.proofs.Common.{◌⊎◌, ⊎_elim, inl, inr, refl, true≢false}
 use Rattle.std.specs.Prelude.{◌&&◌, if◌then◌else◌}
 use Rattle.std.specs.List.{list_any}
 use Rattle.std.proofs.lemmas.Bool.{cases_lt}
@@ -10,9 +10,10 @@ use Rattle.std.proofs.lemmas.List.{drop-append-le, take-append-le, take_all, dro
 use Rattle.std.proofs.lemmas.List.Concat.{flat_map-append}
 use Rattle.mold_input.specs.declared.message_format.MessageFormat.{MessageFormat}
 use Rattle.mold_input.specs.declared.message_format.MessageFormat.TheVariants.{Lines, Blocks, BlocksToEmpty}
-use Rattle.mold_show.specs.Dump.{PassesNext, dumped, has_unprintable, is_dumped, is_empty, message_text, messages_text}
-use Rattle.mold_show.specs.Dump.{messages_to_empty, next_text, printable, printed}
+use Rattle.mold_show.specs.Dump.{PassesNext, blocks_left, dumped, has_unprintable, is_dumped, is_empty, message_text}
+use Rattle.mold_show.specs.Dump.{messages_text, messages_to_empty, next_text, plain_blocks, printable, printed}
 use Rattle.mold_show.specs.declared.dump_options.DumpOptions.{DumpOptions}
+use Rattle.mold_wire.specs.Block.{blocks}
 
 pub le_true : (a b : ℕ) → a ≤ b → nat_le a b ≡ true
 le_true a b holds = grind (arith, nat_tests)
@@ -271,3 +272,82 @@ number_asked options front asked =
     let all : dumped options front ≡ drop (options.from - 1) front =
     take_all options.count (drop (options.from - 1) front) (omega (arith, within, length-drop (options.from - 1) front)) in
     omega (arith, after, ap length all, length-drop (options.from - 1) front)
+
+-- ---- messages that are printed as the blocks that the file has
+
+none_of : (messages : List (List ℕ)) → length messages ≤ 0 → messages ≡ []
+none_of [] few = refl
+none_of (message ∷ messages) few = absurd (omega (arith, few))
+
+-- Only plain blocks permit messages to be printed as the file's blocks.
+permitted : (format : MessageFormat) (started : Bool) (count : ℕ) (more : List (List ℕ)) →
+    length more ≤ plain_blocks format started count →
+    (more ≡ []) ⊎ ((format ≡ Blocks) × ((started ≡ true) × (length more ≤ count)))
+permitted Lines started count more few = inl (none_of more few)
+permitted Blocks true count more few = inr (refl, (refl, few))
+permitted Blocks false count more few = inl (none_of more few)
+permitted BlocksToEmpty started count more few = inl (none_of more few)
+
+-- All these messages are asked for.
+dumped_all : (options : DumpOptions) (messages more : List (List ℕ)) → options.from - 1 ≤ length messages →
+    length messages - (options.from - 1) + length more ≤ options.count →
+    dumped options (messages ++ more) ≡ dumped options messages ++ more
+dumped_all options messages more started few =
+    let skipped = options.from - 1 in
+    let asked = drop skipped messages in
+    let long : length asked ≡ length messages - skipped = length-drop skipped messages in
+    ap (take options.count) (drop-append-le skipped messages more started)
+    ∙ take_all options.count (asked ++ more) (omega (arith, length-append asked more, long, few))
+    ∙ ap (λ (t : List (List ℕ)). t ++ more) (sym (take_all options.count asked (omega (arith, long, few))))
+
+-- What follows if the blocks of `more` are appended to the output.
+pub record ArePrinted (options : DumpOptions) (messages more : List (List ℕ)) : Type 0 where
+  pub passes : has_unprintable options.format (dumped options (messages ++ more)) ≡ false
+  pub texts : messages_text options.format (dumped options (messages ++ more))
+      ≡ messages_text options.format (dumped options messages) ++ blocks more
+
+no_more : (options : DumpOptions) (messages more : List (List ℕ)) →
+    has_unprintable options.format (dumped options messages) ≡ false → more ≡ [] → ArePrinted options messages more
+no_more options messages more none is =
+    let same : messages ++ more ≡ messages = ap (λ (t : List (List ℕ)). messages ++ t) is ∙ append-nil messages in
+    let texts = messages_text options.format (dumped options messages) in
+    record {
+      passes = ap (λ (t : List (List ℕ)). has_unprintable options.format (dumped options t)) same ∙ none;
+      texts =
+          ap (λ (t : List (List ℕ)). messages_text options.format (dumped options t)) same
+          ∙ sym (append-nil texts)
+          ∙ ap (λ (t : List (List ℕ)). texts ++ blocks t) (sym is);
+    }
+
+all_more : (options : DumpOptions) (messages more : List (List ℕ)) → options.format ≡ Blocks →
+    dumped options (messages ++ more) ≡ dumped options messages ++ more → ArePrinted options messages more
+all_more options messages more is asked =
+    let shown = dumped options messages in
+    record {
+      passes = ap (λ (f : MessageFormat). has_unprintable f (dumped options (messages ++ more))) is;
+      texts =
+          ap (messages_text options.format) asked
+          ∙ flat_map-append (message_text options.format) shown more
+          ∙ ap (λ (f : MessageFormat). messages_text options.format shown ++ messages_text f more) is;
+    }
+
+some_more : (options : DumpOptions) (messages more : List (List ℕ)) → options.format ≡ Blocks →
+    options.from - 1 ≤ length messages → length more ≤ options.count - (length messages - (options.from - 1)) →
+    has_unprintable options.format (dumped options messages) ≡ false → ArePrinted options messages more
+some_more options messages [] is started few none = no_more options messages [] none refl
+some_more options messages (message ∷ more) is started few none =
+    all_more options messages (message ∷ more) is
+    (dumped_all options messages (message ∷ more) started (omega (arith, few)))
+
+-- Blocks that the file has were appended to the output.
+pub printed_blocks : (options : DumpOptions) (messages more : List (List ℕ)) →
+    length more ≤ blocks_left options (length messages) →
+    has_unprintable options.format (dumped options messages) ≡ false → ArePrinted options messages more
+printed_blocks options messages more few none =
+    let count = options.count - (length messages - (options.from - 1)) in
+    ⊎_elim
+    (λ is. no_more options messages more none is)
+    (λ blocks_asked.
+    some_more options messages more blocks_asked.0
+    (true_le (options.from - 1) (length messages) blocks_asked.1.0) blocks_asked.1.1 none)
+    (permitted options.format (nat_le (options.from - 1) (length messages)) count more few)

@@ -205,6 +205,18 @@ abbrev pub PassesNext : DumpOptions → ℕ → List ℕ → Type 0
 PassesNext options before message =
     is_dumped options before ≡ true → has_unprintable options.format (message ∷ []) ≡ false
 
+-- The number of messages that the format and the start of the output permit to be printed as blocks, out of `count`.
+abbrev pub plain_blocks : MessageFormat → Bool → ℕ → ℕ
+plain_blocks Lines started count = 0
+plain_blocks Blocks started count = if started then count else 0
+plain_blocks BlocksToEmpty started count = 0
+
+-- How many messages after the first `before` ones may be printed as the blocks that the file has: all that remain of
+-- those asked for. There are none if the output is not plain blocks, or if it starts after the next message.
+abbrev pub blocks_left : DumpOptions → ℕ → ℕ
+blocks_left options before =
+    plain_blocks options.format (nat_le (options.from - 1) before) (options.count - (before - (options.from - 1)))
+
 -- The next message was read, and it is an empty one that cannot be printed. `number` is its number.
 pub record ReadsEmpty (options : DumpOptions) (known left : Option (List ℕ)) (old new : ReaderState) (number : ℕ) :
     Type 0 where

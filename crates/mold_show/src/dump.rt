@@ -8,9 +8,9 @@ ghost use Rattle.mold_devices.specs.Devices.{AppendsPrefix};
 ghost use Rattle.mold_devices.specs.Faults.{CountsCommand, CountsFault};
 ghost use Rattle.mold_session.specs.Contents.{FileContents};
 ghost use Rattle.mold_session.specs.Loading.{work_left};
-ghost use Rattle.mold_session.specs.Reader.{EndsWith, ReadsNext};
+ghost use Rattle.mold_session.specs.Reader.{EndsWith, ReadsNext, TakesBlocks};
 ghost use Rattle.mold_show.specs.Dump.{CountsDump, CountsEither, CountsEnd, CountsNext, HasContents, IsTold, PassesNext};
-ghost use Rattle.mold_show.specs.Dump.{RefusesNext};
+ghost use Rattle.mold_show.specs.Dump.{RefusesNext, blocks_left};
 ghost use Rattle.mold_show.specs.Dump.{dump_errors, dump_fault_words, dump_status, dump_text, ended_errors, ended_line};
 ghost use Rattle.mold_show.specs.Dump.{ended_text, fault_status, has_unprintable, is_dumped, is_to_last, last_text};
 ghost use Rattle.mold_show.specs.Dump.{message_text, next_text, reaches_end};
@@ -156,6 +156,27 @@ fn dump_next<S: Source>(
         push_message(text, options.format, reader.message())?;
     }
     Ok(true)
+}
+
+// The maximum number of messages that may be appended as the blocks that the file has, after `before` messages.
+fn blocks_left(options: DumpOptions, before: u64) -> u64
+    ensures { result ≡ blocks_left options before }
+{
+    let skipped = options.from.saturating_sub(1);
+    match options.format {
+        MessageFormat::Blocks if skipped <= before => {
+            options.count.saturating_sub(before - skipped)
+        }
+        _ => 0,
+    }
+}
+
+// Appends the next blocks as the file has them, if the output has plain blocks and they are asked for. They are those
+// that the last read got whole. If an allocation fails, nothing changes, and `dump_next` appends them one by one.
+fn dump_blocks(reader: &mut JournalReader, options: DumpOptions, text: &mut Vec<u8>)
+    ensures { TakesBlocks (blocks_left options reader.old.count) reader.old reader.new text.old.items text.new.items }
+{
+    reader.take_blocks(blocks_left(options, reader.count()), text);
 }
 
 // Sends the text and returns the fault that ended the command, or `Write` if the text could not be sent.
@@ -365,7 +386,7 @@ pub fn dump_file<S: Source, K: Sink, E: Sink>(
     };
     'messages: loop {
         match dump_next(&mut reader, source, options, &mut text) {
-            Ok(true) => {}
+            Ok(true) => dump_blocks(&mut reader, options, &mut text),
             Ok(false) => return end_dump(&mut text, None, options.format, sink, errors),
             Err(fault) => return end_dump(&mut text, Some(fault), options.format, sink, errors),
         }

@@ -112,3 +112,51 @@ fn out_of_memory_ends_a_reading(rt: HostRuntime) -> Result<(), Fail> {
     }
     Ok(())
 }
+
+/// The whole blocks of a read are taken at once, up to the limit. `advance` reads what follows them.
+fn expect_taken(rt: &impl Abort, alloc: Global) -> Result<(), FileError> {
+    let mut source = MemorySource::new(&CLOSED);
+    let mut reader = JournalReader::new(alloc, &mut source)?;
+    let mut taken = Vec::new(alloc);
+    reader.take_blocks(1, &mut taken);
+    same_bytes(rt, taken.as_slice(), b"\0\x02AB");
+    same_number(rt, reader.count(), 1);
+    reader.take_blocks(5, &mut taken);
+    same_bytes(rt, taken.as_slice(), b"\0\x02AB\0\0");
+    same_number(rt, reader.count(), 2);
+    same_turn(rt, reader.advance(&mut source), Ok(false));
+    Ok(())
+}
+
+#[test]
+fn the_blocks_of_a_read_are_taken(rt: HostRuntime) -> Result<(), Fail> {
+    expect_taken(&rt, rt.alloc())?;
+    Ok(())
+}
+
+/// Takes the two blocks, or returns `Memory` and takes none.
+fn take_two(
+    rt: &impl Abort,
+    reader: &mut JournalReader,
+    taken: &mut Vec<u8>,
+) -> Result<(), FileError> {
+    reader.take_blocks(5, taken);
+    if reader.count() == 0 {
+        same_bytes(rt, taken.as_slice(), b"");
+        return Err(FileError::Memory);
+    }
+    same_bytes(rt, taken.as_slice(), b"\0\x02AB\0\0");
+    Ok(())
+}
+
+/// If an allocation fails, no block is taken, and the same reader takes them later.
+#[test]
+fn out_of_memory_takes_no_block(rt: HostRuntime) -> Result<(), Fail> {
+    let mut reader = JournalReader::new(rt.alloc(), &mut MemorySource::new(&CLOSED))?;
+    let mut taken = Vec::new(rt.alloc());
+    if let Err(error) = take_two(&rt, &mut reader, &mut taken) {
+        same_refusal(&rt, error, FileError::Memory);
+        take_two(&rt, &mut reader, &mut taken)?;
+    }
+    Ok(())
+}

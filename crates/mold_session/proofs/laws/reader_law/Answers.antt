@@ -1,5 +1,11 @@
-use Rattle.mold_session.proofs.ReaderLemmas.{read_front, read_more, read_refused, read_whole}
+use Rattle.mold_session.proofs.ReaderLemmas.{read_blocks, read_front, read_more, read_refused, read_whole}
 use Rattle.mold_session.proofs.laws.reader_law.Goals as goal
 
 pub returns : goal.returns
-returns c = record { next = read_more; end = read_whole; refused = read_refused; front = read_front }
+returns c = record {
+  next = read_more;
+  blocks = read_blocks;
+  end = read_whole;
+  refused = read_refused;
+  front = read_front;
+}

@@ -4,18 +4,19 @@ use Rattle.std.specs.Io.KnownBytes.{Appends, prepend_known}
 use Rattle.mold_devices.specs.Devices.{AppendsPrefix}
 use Rattle.mold_show.specs.Dump.{CountsDump, CountsEnd, ended_errors}
 use Rattle.mold_show.specs.declared.dump_fault.DumpFault.TheVariants.{File}
-use Rattle.mold_show.proofs.DumpLemmas.{Dumping, ReaderLaws, dumping_more, dumping_none, dumping_moved}
+use Rattle.mold_show.proofs.DumpLemmas.{Dumping, ReaderLaws, dumping_blocks, dumping_more, dumping_moved, dumping_none}
 use Rattle.mold_show.proofs.DumpLemmas.{gathered_front, unsent_errors}
 use Rattle.mold_show.proofs.EndLemmas.{Ending, ended_contents, ended_errors_front, ended_front, ended_report, ended_whole}
 use Rattle.mold_show.proofs.EndLemmas.{counts_write, ending_head, ending_refused, ending_whole}
 use Rattle.mold_show.proofs.dump.dump_file.Given.{Over}
-use Rattle.mold_show.proofs.dump.dump_file.Goals.{After-one_file_law, In-Err-dump_next, In-Ok-false, In-Ok-true}
+use Rattle.mold_show.proofs.dump.dump_file.Goals.{After-dump_blocks, After-one_file_law, In-Err-dump_next, In-Ok-false}
 use Rattle.mold_show.proofs.dump.dump_file.Goals as goal
 
 laws_of : (g : Over) (c : After-one_file_law g) → ReaderLaws
 laws_of g c = record {
   one = c.contents_law.ensures.one;
   next = c.reader_law.ensures.next;
+  blocks = c.reader_law.ensures.blocks;
   refused = c.reader_law.ensures.refused;
   front = c.reader_law.ensures.front;
   files = record {
@@ -242,7 +243,7 @@ returns-in-Err-dump_next-clause-failures g c =
 
 -- ---- one more message
 
-more : (g : Over) (c : In-Ok-true g) → ReaderLaws →
+more : (g : Over) (c : After-dump_blocks g) → ReaderLaws →
     Dumping c.args.options (g.S.Source.left c.args.source.now)
     (prepend_known c.dump_next.new.reader.rest (g.S.Source.left c.dump_next.new.source))
     (g.K.Sink.held c.args.sink.now) (g.K.Sink.held c.messages.sink) c.dump_next.new.reader c.dump_next.new.text.items
@@ -257,9 +258,21 @@ more g c laws =
     (rw c.in-Ok-true.field-0-test at c.in-Ok-true.ensures.text)
     (rw c.in-Ok-true.field-0-test at c.in-Ok-true.ensures.passes)
 
+-- The blocks that were read with the message were taken, too.
+more_blocks : (g : Over) (c : After-dump_blocks g) → ReaderLaws →
+    Dumping c.args.options (g.S.Source.left c.args.source.now)
+    (prepend_known c.dump_blocks.new.reader.rest (g.S.Source.left c.dump_next.new.source))
+    (g.K.Sink.held c.args.sink.now) (g.K.Sink.held c.messages.sink) c.dump_blocks.new.reader
+    c.dump_blocks.new.text.items
+more_blocks g c laws =
+    dumping_blocks laws c.args.options
+    (g.S.Source.left c.args.source.now) (g.S.Source.left c.dump_next.new.source)
+    (g.K.Sink.held c.args.sink.now) (g.K.Sink.held c.messages.sink) c.dump_next.new.reader c.dump_blocks.new.reader
+    c.dump_next.new.text.items c.dump_blocks.new.text.items (more g c laws) c.dump_blocks.ensures
+
 pub messages-preserved : goal.messages-preserved
 messages-preserved g c = record {
-  dumping = dumping_moved _ _ _ _ _ _ _ _ _ (more g (goal.at.messages-preserved g c).In-Ok-true
+  dumping = dumping_moved _ _ _ _ _ _ _ _ _ (more_blocks g (goal.at.messages-preserved g c).After-dump_blocks
       (laws_of g (goal.at.messages-preserved g c).After-one_file_law))
       c.in_ok-send_large.ensures.moved;
   source = c.in-Ok-true.ensures.failures ∙ c.messages.invariant.source;
@@ -271,9 +284,9 @@ messages-preserved g c = record {
 pub returns-in_err-send_large-clause-front : goal.returns-in_err-send_large-clause-front
 returns-in_err-send_large-clause-front g c =
     let at = goal.at.returns-in_err-send_large-clause-front g c in
-    let so_far = more g at.In-Ok-true (laws_of g at.After-one_file_law) in
+    let so_far = more_blocks g at.After-dump_blocks (laws_of g at.After-one_file_law) in
     gathered_front c.args.options (g.S.Source.left c.args.source.now) _ _ _ so_far.messages
-    c.dump_next.new.text.items so_far.gathered c.send_large.ensures.front
+    c.dump_blocks.new.text.items so_far.gathered c.send_large.ensures.front
 
 pub returns-in_err-send_large-clause-errors : goal.returns-in_err-send_large-clause-errors
 returns-in_err-send_large-clause-errors g c =
