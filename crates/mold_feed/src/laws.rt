@@ -2,12 +2,14 @@
 //! function that does nothing; its contract is the theorem.
 
 ghost use Rattle.mold_wire.specs.declared.limits.TheConstants.{MESSAGE_OVERHEAD};
-ghost use Rattle.std.specs.Prelude.{◌≡◌, ◌+◌, ◌++◌, ◌≤◌, Bool, List, [], None, Option, Result, Some, length, true, ℕ};
+ghost use Rattle.std.specs.Prelude.{◌≡◌, ◌+◌, ◌++◌, ◌≤◌, Bool, List, [], None, Ok, Option, Result, Some, length, map};
+ghost use Rattle.std.specs.Prelude.{true, ℕ};
 ghost use Rattle.std.specs.List.{AllByRecursion};
 ghost use Rattle.mold_devices.specs.declared.fault.CommandFault.{CommandFault};
 ghost use Rattle.mold_feed.specs.Received.{CanReceive, HasFinished, HasListened, IsFed, IsHarmless, PrintsAmong};
 ghost use Rattle.mold_feed.specs.Received.{ReceivesOnly};
-ghost use Rattle.mold_feed.specs.Received.{PrintsBlocks, PrintsLines, PrintsOpen};
+ghost use Rattle.mold_feed.specs.Received.{PrintsBlocks, PrintsLines, PrintsOpen, lines_text};
+ghost use Rattle.mold_input.specs.Entries.{line_entry};
 ghost use Rattle.mold_input.specs.declared.message_format.MessageFormat.TheVariants.{Blocks, Lines};
 ghost use Rattle.mold_listen.specs.Listening.{Agrees, ListenerState, beginning, is_finished, listened_lines, listening};
 ghost use Rattle.mold_listen.specs.Listening.{status};
@@ -21,10 +23,12 @@ ghost use Rattle.mold_publish.specs.Publishing.{lines_published};
 ghost use Rattle.mold_publish.specs.declared.message_refusal.MessageRefusal.{MessageRefusal};
 ghost use Rattle.mold_receiver.specs.Arbiter.{Arbitration};
 ghost use Rattle.mold_receiver.specs.Honest.{IsHonest};
+ghost use Rattle.mold_receiver.specs.Store.{Message};
 ghost use Rattle.mold_receiver.specs.View.{fresh};
 ghost use Rattle.mold_session.specs.Answer.{between};
 ghost use Rattle.mold_session.specs.Journal.{JournalState};
 ghost use Rattle.mold_session.specs.Truthful.{MayAnswer, IsTrueDatagram};
+ghost use Rattle.mold_wire.specs.Block.{blocks};
 ghost use Rattle.mold_wire.specs.Packer.{IsLimit};
 
 use mold_ports::Datagrams;
@@ -108,6 +112,17 @@ pub fn listened_law<D: Datagrams>()
     taken_law();
     reading_law();
 }
+
+/// States what a listener prints for messages. As blocks, these are the blocks of the messages. As lines, these are the
+/// lines of an input that has these messages, each after its number and with its digits in lower case.
+pub fn printed_law()
+    ensures blocks { (number : ℕ) (messages : List Message) → handed_text Blocks number messages ≡ blocks messages }
+    ensures lines { (number : ℕ) (lines : List (List ℕ)) (messages : List Message) →
+        map line_entry lines ≡ map Ok messages → handed_text Lines number messages ≡ lines_text number lines }
+    ensures between { (first next : ℕ) (lines : List (List ℕ)) (messages : List Message) →
+        map line_entry lines ≡ map Ok messages →
+        handed_text Lines first (between messages first next) ≡ lines_text first (between lines first next) }
+{}
 
 /// States that a listener prints the lines that were published. Lines are published into a new session, and any number
 /// of servers answer from copies of the journal that the publisher left. A listener starts at a published message or
