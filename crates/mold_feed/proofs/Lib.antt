@@ -4,6 +4,7 @@ pub mod TakingLemmas
 pub mod ReceivedTurnLemmas
 pub mod LinesPrintedLemmas
 pub mod LinesTextLemmas
+pub mod MessagesPrintedLemmas
 pub mod OpeningLemmas
 pub mod PublishedLemmas
 pub mod SentLemmas

@@ -209,11 +209,3 @@ all_messages format Q none (Handed number message ∷ printed_lines) each =
     ap (λ (text : List ℕ). message_text format number message ++ text)
     (all_messages format Q none printed_lines each.1)
 all_messages format Q none (Refuses bytes why ∷ printed_lines) each = absurd (none bytes why each.0)
-
--- the messages among a listener's printed lines are the lines
-pub lines_said : (lines : List (List ℕ)) (messages : List Message) (printed_lines : List PrintedLine) (first next : ℕ) →
-    AreSpelled lines messages → handed_of printed_lines ≡ numbered first (between messages first next) →
-    messages_text Lines printed_lines ≡ lines_text first (between lines first next)
-lines_said lines messages printed_lines first next spelled handed =
-    messages_said Lines printed_lines first (between messages first next) handed
-    ∙ text_between lines messages first next spelled

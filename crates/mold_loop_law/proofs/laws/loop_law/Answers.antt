@@ -1,15 +1,20 @@
-use Rattle.std.proofs.Common.{sym, ◌∙◌}
+use Rattle.std.proofs.Common.{◌≡◌, ◌∙◌, ◌+◌, ◌≤◌, ap, arith, length, None, refl, Some, subst, sym}
 use Rattle.std.proofs.lemmas.Option.{none-some}
+use Rattle.mold_feed.specs.Received.{PrintsRefused}
+use Rattle.mold_feed.specs.Sent.{lines_input}
+use Rattle.mold_feed.proofs.LinesPrintedLemmas.{all_lines, lines_within, prints_lines}
 use Rattle.mold_feed.proofs.TakingLemmas.{HearingLaws}
-use Rattle.mold_loop_law.proofs.LoopLawLemmas.{LoopLaws, loop_prints_lines, loop_prints_refused, server_may}
-use Rattle.mold_feed.proofs.OpeningLemmas.{OpeningLaws, lines_within, messages_within}
+use Rattle.mold_input.specs.declared.message_format.MessageFormat.TheVariants.{Lines}
+use Rattle.mold_loop.specs.Looping.{LoopRun}
+use Rattle.mold_loop_law.proofs.LoopLawLemmas.{LoopLaws, loop_prints_messages, loop_prints_refused, server_may}
+use Rattle.mold_feed.proofs.OpeningLemmas.{OpeningLaws, left_by, messages_within}
 use Rattle.mold_loop_law.proofs.laws.loop_law.Given.{Over}
 use Rattle.mold_loop_law.proofs.laws.loop_law.Goals.{After-reading_law}
 use Rattle.mold_loop_law.proofs.laws.loop_law.Goals as goal
+use Rattle.mold_publish.specs.Publishing.{PublishedInput, input_published, lines_published}
 
 opening_laws : (g : Over) → After-reading_law g → OpeningLaws
 opening_laws g c = record {
-  lines = c.published_law.ensures.lines;
   answers = c.published_law.ensures.answers;
   begins = c.honest_stays_law.ensures.fresh;
 }
@@ -31,20 +36,46 @@ laws g c = record {
   progress = progress g c;
 }
 
+pub returns-clause-messages : goal.returns-clause-messages
+returns-clause-messages g c =
+    λ format reporting drops a b to turns limit first window journal input server start start_left rounds rounds_left
+    result old new opening unrefused serves longest least within anew blank in_format own ran.
+    let may = server_may (opening_laws g c) limit journal input server opening serves longest in
+    loop_prints_messages (laws g c) reporting drops a b to turns limit journal input server start start_left rounds
+    rounds_left result old new opening (λ _. may) own ran first window least within anew format blank in_format unrefused
+
 pub returns-clause-printed : goal.returns-clause-printed
 returns-clause-printed g c =
-    λ reporting drops a b to turns limit first window journal lines server start start_left rounds rounds_left result old new opening
-    unrefused serves longest least most anew blank plain own ran.
-    let within = lines_within (opening_laws g c) limit journal lines opening unrefused first most in
-    let may = server_may (opening_laws g c) limit journal lines server opening serves longest in
-    loop_prints_lines (laws g c) reporting drops a b to turns limit journal lines server start start_left rounds rounds_left result
-    old new opening (λ _. may) own ran first window least within anew blank plain unrefused
+    λ reporting drops a b to turns limit first window journal lines server start start_left rounds rounds_left result old
+    new opening unrefused serves longest least most anew blank plain own ran.
+    let input = lines_input lines in
+    let same : input_published journal input ≡ lines_published journal lines =
+    c.lines_published_law.ensures.lines journal lines in
+    let whole : (input_published journal input).refused ≡ None =
+    ap (λ (p : PublishedInput). p.refused) same ∙ unrefused in
+    let all = all_lines lines (left_by journal input) (c.published_law.ensures.messages limit journal input opening whole) in
+    let may = server_may (opening_laws g c) limit journal input server opening serves longest in
+    prints_lines lines (left_by journal input) all
+    (loop_prints_messages (laws g c) reporting drops a b to turns limit journal input server start start_left rounds
+    rounds_left result old new opening (λ _. may) own
+    (subst (λ (p : PublishedInput). LoopRun reporting drops a b to turns limit 0 p server start rounds result old new
+    start_left rounds_left) (sym same) ran)
+    first window least (lines_within lines (left_by journal input) first all most) anew Lines blank plain whole)
 
 pub returns-clause-refused : goal.returns-clause-refused
 returns-clause-refused g c =
-    λ reporting drops a b to turns limit first window journal lines why server start start_left rounds rounds_left result old new
-    opening refused least most anew blank plain own ran.
-    let within = messages_within journal lines first most in
-    loop_prints_refused (laws g c) reporting drops a b to turns limit journal lines server start start_left rounds rounds_left result
-    old new opening (λ unrefused. absurd (none-some why (sym unrefused ∙ refused))) own ran first window least within anew
-    blank plain why refused
+    λ reporting drops a b to turns limit first window journal lines why server start start_left rounds rounds_left result
+    old new opening refused least most anew blank plain own ran.
+    let input = lines_input lines in
+    let same : input_published journal input ≡ lines_published journal lines =
+    c.lines_published_law.ensures.lines journal lines in
+    let stops : (input_published journal input).refused ≡ Some why =
+    ap (λ (p : PublishedInput). p.refused) same ∙ refused in
+    let within = messages_within journal input first
+    (subst (λ (p : PublishedInput). first ≤ length p.journal.messages + 1) (sym same) most) in
+    subst (λ (p : PublishedInput). PrintsRefused lines (length p.journal.messages + 1) why first result old new) same
+    (loop_prints_refused (laws g c) reporting drops a b to turns limit journal input server start start_left rounds
+    rounds_left result old new opening (λ unrefused. absurd (none-some why (sym unrefused ∙ stops))) own
+    (subst (λ (p : PublishedInput). LoopRun reporting drops a b to turns limit 0 p server start rounds result old new
+    start_left rounds_left) (sym same) ran)
+    first window least within anew Lines blank plain lines refl refl why stops)
