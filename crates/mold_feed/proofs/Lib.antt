@@ -7,6 +7,7 @@ pub mod LinesTextLemmas
 pub mod MessagesPrintedLemmas
 pub mod OpeningLemmas
 pub mod PublishedLemmas
+pub mod SameBytesLemmas
 pub mod SentLemmas
 pub mod ServedLemmas
 pub mod SessionLawLemmas

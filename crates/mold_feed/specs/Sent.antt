@@ -4,8 +4,9 @@ use Rattle.std.specs.Prelude.{◌≡◌, ◌⊎◌, ℕ, ◌+◌, ◌≤◌, Boo
 use Rattle.std.specs.Prelude.{Option, Some, Result, Ok, Err}
 use Rattle.std.specs.List.{AllByRecursion, Contains}
 use Rattle.mold_devices.specs.declared.fault.CommandFault.{CommandFault}
+use Rattle.mold_input.specs.Blocks.{block_entries}
 use Rattle.mold_input.specs.Entries.{Entry, InputEntries, line_entry}
-use Rattle.mold_input.specs.declared.input_kind.InputKind.TheVariants.{Lines}
+use Rattle.mold_input.specs.declared.input_kind.InputKind.TheVariants.{Lines, Blocks}
 use Rattle.mold_ports.specs.Ports.{Port}
 use Rattle.mold_publish.specs.Publishing.{entry_outcome, input_published}
 use Rattle.mold_publish.specs.declared.message_refusal.MessageRefusal.{MessageRefusal}
@@ -29,6 +30,10 @@ pub record IsOpening (journal : JournalState) (limit : ℕ) : Type 0 where
 -- The input that has these lines.
 abbrev pub lines_input : List (List ℕ) → InputEntries
 lines_input lines = record { kind = Lines; entries = map line_entry lines }
+
+-- The input of message blocks that has these bytes.
+abbrev pub blocks_input : List ℕ → InputEntries
+blocks_input bytes = record { kind = Blocks; entries = block_entries bytes }
 
 -- The journal is closed, and its messages are the entries, in order.
 pub record HasMessages (entries : List Entry) (journal : JournalState) : Type 0 where

@@ -4,6 +4,7 @@
 ghost use Rattle.mold_wire.specs.declared.limits.TheConstants.{MESSAGE_OVERHEAD};
 ghost use Rattle.std.specs.Prelude.{◌≡◌, ◌+◌, ◌++◌, ◌≤◌, Bool, List, [], None, Ok, Option, Result, Some, length, map};
 ghost use Rattle.std.specs.Prelude.{true, ℕ};
+ghost use Rattle.std.specs.Io.KnownBytes.{Appends};
 ghost use Rattle.std.specs.List.{AllByRecursion};
 ghost use Rattle.mold_devices.specs.declared.fault.CommandFault.{CommandFault};
 ghost use Rattle.mold_feed.specs.Received.{CanReceive, HasFinished, HasListened, IsFed, IsHarmless, PrintsAmong};
@@ -16,7 +17,8 @@ ghost use Rattle.mold_listen.specs.Listening.{Agrees, ListenerState, beginning, 
 ghost use Rattle.mold_listen.specs.Listening.{status};
 ghost use Rattle.mold_send.specs.PublishLoop.{PublishRun, all_datagrams, left_journal};
 ghost use Rattle.mold_turns.specs.Runs.{Ran, run};
-ghost use Rattle.mold_feed.specs.Sent.{AllSent, HasMessages, HasMessagesBefore, IsOpening, IsSent, lines_input};
+ghost use Rattle.mold_feed.specs.Sent.{AllSent, HasMessages, HasMessagesBefore, IsOpening, IsSent, blocks_input};
+ghost use Rattle.mold_feed.specs.Sent.{lines_input};
 ghost use Rattle.mold_serve.specs.Serving.{ResponderState, Service, serving};
 ghost use Rattle.mold_listen.specs.Text.{handed_text};
 ghost use Rattle.mold_ports.specs.Ports.{Port};
@@ -29,9 +31,10 @@ ghost use Rattle.mold_receiver.specs.View.{fresh};
 ghost use Rattle.mold_session.specs.Answer.{between};
 ghost use Rattle.mold_session.specs.Journal.{JournalState};
 ghost use Rattle.mold_session.specs.Truthful.{MayAnswer, IsTrueDatagram};
-ghost use Rattle.mold_wire.specs.Block.{blocks};
+ghost use Rattle.mold_wire.specs.Block.{IsBytes, blocks};
 ghost use Rattle.mold_wire.specs.Packer.{IsLimit};
 
+use mold_input::laws::blocks_law;
 use mold_ports::Datagrams;
 use mold_publish::laws::lines_published_law;
 use mold_receiver::laws::{honest_stays_law, honest_take_law, taken_law};
@@ -224,4 +227,24 @@ pub fn session_lines_law<D: Datagrams>()
     session_law::<D>();
     published_law::<D>();
     lines_published_law();
+}
+
+/// States that a listener with status 0 has written exactly the bytes that the publisher read, if both its output and
+/// the publisher's input are message blocks. The listener starts at message 1. All datagrams of the session that its
+/// ports give were sent by the publisher or its servers. The ports may also give bytes that do not encode a packet of
+/// the session. A publisher that refused a block leaves the session open, so no listener then has status 0.
+pub fn same_bytes_law<D: Datagrams>()
+    ensures { (reporting : Bool) (limit window turns burst : ℕ) (journal : JournalState) (input : List ℕ)
+        (server : D.Peer) (a b requests : Port D.Peer) (arbitration : Arbitration)
+        (a_left b_left requests_left : Port D.Peer) (left : Arbitration) (result : Result ℕ CommandFault)
+        (old new : Option (List ℕ)) (sent : List (D.Peer × List ℕ)) → IsOpening journal limit → IsBytes input →
+        arbitration.view ≡ fresh journal.session 1 window →
+        ReceivesOnly (IsFed D.Peer journal limit (blocks_input input)) (beginning Blocks a b requests arbitration) →
+        Ran (listening server burst) turns (beginning Blocks a b requests arbitration) (listened_lines reporting) status
+        (Agrees a_left b_left requests_left left) result old new sent →
+        result ≡ Ok 0 → Appends old new input }
+{
+    session_law::<D>();
+    published_law::<D>();
+    blocks_law();
 }
