@@ -1,11 +1,12 @@
 -- What a listener that prints blocks has written at its end: the blocks of the published messages.
-use Rattle.std.proofs.Common.{◌≡◌, ℕ, ◌+◌, Bool, true, false, List, [], ◌∷◌, ◌++◌, Option, Result, ap, append-nil}
-use Rattle.std.proofs.Common.{refl, subst, sym, ◌∙◌}
+use Rattle.std.proofs.Common.{◌≡◌, ℕ, ◌+◌, ◌≤◌, Bool, true, false, List, [], ◌∷◌, ◌++◌, length, Option, Result, ap}
+use Rattle.std.proofs.Common.{append-nil, refl, subst, sym, ◌∙◌}
+use Rattle.std.specs.Prelude.{IfOk}
 use Rattle.std.specs.Io.KnownBytes.{Appends}
 use Rattle.std.proofs.lemmas.Result.{IfOk-weaker}
 use Rattle.mold_devices.specs.Devices.{AppendsPrefix}
-use Rattle.mold_feed.specs.Received.{Handed, PrintedLine, PrintsBlocks, PrintsMessagesAmong, Refuses, messages_text}
-use Rattle.mold_feed.specs.Received.{closing_status, closing_text, printed_lines_text}
+use Rattle.mold_feed.specs.Received.{Handed, PrintedLine, PrintsBlocks, PrintsMessages, PrintsMessagesAmong, Refuses}
+use Rattle.mold_feed.specs.Received.{closing_status, messages_text, printed_lines_text}
 use Rattle.mold_input.specs.declared.message_format.MessageFormat.TheVariants.{Blocks}
 use Rattle.mold_listen.specs.Text.{handed_text}
 use Rattle.mold_receiver.specs.Store.{Message}
@@ -32,31 +33,47 @@ finishes : (over : Bool) → closing_status over ≡ 0 → over ≡ true
 finishes true is = refl
 finishes false is = let no : ⊥ = cc in absurd no
 
--- a listener that printed messages as blocks has written their blocks, whatever foreign bytes it received
+-- text that is the blocks of the messages was written
+blocks_written : {E : Type 0} {first : ℕ} {result : Result ℕ E} {old new : Option (List ℕ)} (journal : JournalState)
+    (next : ℕ) (finished : Bool) (text : List ℕ) → first ≤ next → next ≤ length journal.messages + 1 →
+    (finished ≡ true → (journal.closed ≡ true) × (next ≡ length journal.messages + 1)) →
+    text ≡ blocks (between journal.messages first next) →
+    IfOk result (λ status. (status ≡ closing_status finished) × Appends old new text) → AppendsPrefix old new text →
+    PrintsBlocks journal first result old new
+blocks_written {E} {first} {result} {old} {new} journal next finished text from to ends same whole front = record {
+  next = next;
+  from = from;
+  to = to;
+  text =
+      IfOk-weaker result _ _
+      (λ answer written. (
+        subst (λ (t : List ℕ). Appends old new t) same written.1,
+        λ none. ends (finishes finished (sym written.0 ∙ none)),
+      ))
+      whole;
+  front = subst (λ (t : List ℕ). AppendsPrefix old new t) same front;
+}
+
+-- a listener that printed messages as blocks has written their blocks
 pub prints_blocks : {E : Type 0} {reporting : Bool} {first : ℕ} {result : Result ℕ E} {old new : Option (List ℕ)}
-    (Came : List ℕ → Type 0) (journal : JournalState) →
-    PrintsMessagesAmong Blocks reporting Came journal first result old new → PrintsBlocks journal first result old new
-prints_blocks {E} {reporting} {first} {result} {old} {new} Came journal prints =
+    (journal : JournalState) → PrintsMessages Blocks reporting journal first result old new →
+    PrintsBlocks journal first result old new
+prints_blocks {E} {reporting} {first} journal prints =
     let messages : List Message = between journal.messages first prints.next in
-    let same : printed_lines_text Blocks prints.printed_lines
-    ++ closing_text Blocks reporting prints.reports prints.finished prints.next prints.known prints.failures
-    ≡ blocks messages =
-    append-nil (printed_lines_text Blocks prints.printed_lines)
+    blocks_written journal prints.next prints.finished _ prints.from prints.to
+    (λ over. (prints.closed over, prints.all over))
+    (append-nil (handed_text Blocks first messages) ∙ blocks_text first messages) prints.text prints.front
+
+-- the same, whatever foreign bytes it received
+pub prints_blocks_among : {E : Type 0} {reporting : Bool} {first : ℕ} {result : Result ℕ E}
+    {old new : Option (List ℕ)} (Came : List ℕ → Type 0) (journal : JournalState) →
+    PrintsMessagesAmong Blocks reporting Came journal first result old new → PrintsBlocks journal first result old new
+prints_blocks_among {E} {reporting} {first} Came journal prints =
+    let messages : List Message = between journal.messages first prints.next in
+    blocks_written journal prints.next prints.finished _ prints.from prints.to
+    (λ over. (prints.closed over, prints.all over))
+    (append-nil (printed_lines_text Blocks prints.printed_lines)
     ∙ blocks_alone prints.printed_lines
     ∙ prints.messages
-    ∙ blocks_text first messages in
-    record {
-      next = prints.next;
-      from = prints.from;
-      to = prints.to;
-      text =
-          IfOk-weaker result _ _
-          (λ answer written. (
-            subst (λ (t : List ℕ). Appends old new t) same written.1,
-            λ none.
-                let over = finishes prints.finished (sym written.0 ∙ none) in
-                (prints.closed over, prints.all over),
-          ))
-          prints.text;
-      front = subst (λ (t : List ℕ). AppendsPrefix old new t) same prints.front;
-    }
+    ∙ blocks_text first messages)
+    prints.text prints.front

@@ -32,7 +32,7 @@ pub record SameBytesLaws : Type 0 where
 all_between : (messages : List Message) (next : ℕ) → next ≡ length messages + 1 → between messages 1 next ≡ messages
 all_between messages next is = take_all (next - 1) messages (omega (arith, is))
 
-none_if : (refused : Option MessageRefusal) → ((why : MessageRefusal) → refused ≡ Some why → ⊥) → refused ≡ None
+pub none_if : (refused : Option MessageRefusal) → ((why : MessageRefusal) → refused ≡ Some why → ⊥) → refused ≡ None
 none_if None never = refl
 none_if (Some why) never = absurd (never why refl)
 

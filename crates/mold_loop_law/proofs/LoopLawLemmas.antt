@@ -1,6 +1,7 @@
 -- Lemmas from the messages that a loop publishes to what it prints, if its ports give only what it sent.
 use Rattle.std.proofs.Common.{◌≡◌, ℕ, ◌+◌, ◌≤◌, Bool, true, false, List, [], ◌∷◌, ◌++◌, length, map, take, Option, None, Some}
-use Rattle.std.proofs.Common.{Result, inl, refl, sym, ap, subst, ◌∙◌, arith}
+use Rattle.std.proofs.Common.{Ok, Result, inl, refl, sym, ap, subst, ◌∙◌, arith}
+use Rattle.std.specs.Prelude.{IfOk}
 use Rattle.std.specs.Io.KnownBytes.{Appends}
 use Rattle.std.specs.List.{AllByRecursion}
 use Rattle.std.proofs.lemmas.Result.{IfOk-weaker}
@@ -32,6 +33,7 @@ use Rattle.mold_feed.proofs.ReceivedTurnLemmas.{after_responses, ends_so, port_r
 use Rattle.mold_feed.proofs.LinesPrintedLemmas.{lines_before}
 use Rattle.mold_feed.proofs.LinesTextLemmas.{text_between}
 use Rattle.mold_feed.proofs.MessagesPrintedLemmas.{HasCome, prints_messages}
+use Rattle.mold_feed.proofs.SameBytesLemmas.{none_if}
 use Rattle.mold_feed.proofs.SentLemmas.{each_append, each_begun, each_front, each_rest, sent_front, sent_offered, sent_one}
 use Rattle.mold_feed.proofs.OpeningLemmas.{OpeningLaws, begins_at, begins_honest, begins_in, left_by, left_messages}
 use Rattle.mold_feed.proofs.SessionLawLemmas.{none_sent, port_weaker}
@@ -360,6 +362,15 @@ module _ {P : Type 0} (laws : LoopLaws P) (reporting : Bool) (drops : Drops) (a 
       (made_received left (Unit {0}) Good laws.progress comes published.refused to (service_of left server) ran.choices
       (with_progress mid rounds) on_lines.sound
       (gives_true Good rounds_left.server.sent rounds.requests server_true own.requests))
+
+  -- a loop with status 0 refused no entry
+  pub no_refusal : result ≡ Ok 0 → published.refused ≡ None
+  no_refusal zero =
+      none_if published.refused (λ why refused.
+      let written = subst (λ (r : Result ℕ E). IfOk r (λ status. Appends old new (loop_text reporting published end)
+      × (status ≡ loop_status published.refused end))) zero ran.whole in
+      let two : 0 ≡ 2 = written.1 ∙ ap (λ (r : Option MessageRefusal). loop_status r end) refused in
+      omega (arith, two))
 
   -- ---- a new listener
 

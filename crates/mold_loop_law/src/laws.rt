@@ -1,13 +1,14 @@
 //! The law of the loop in one process, over the definitions of its contract. A law is a function that does nothing: its
 //! contract is a theorem.
 
-ghost use Rattle.std.specs.Prelude.{◌≡◌, ◌+◌, ◌≤◌, Bool, List, [], None, Option, Result, Some, length, ℕ};
+ghost use Rattle.std.specs.Prelude.{◌≡◌, ◌+◌, ◌≤◌, Bool, List, [], None, Ok, Option, Result, Some, length, ℕ};
+ghost use Rattle.std.specs.Io.KnownBytes.{Appends};
 ghost use Rattle.mold_devices.specs.declared.fault.CommandFault.{CommandFault};
 ghost use Rattle.mold_feed.specs.Received.{PrintsLines, PrintsMessages, PrintsRefused};
-ghost use Rattle.mold_feed.specs.Sent.{IsOpening};
+ghost use Rattle.mold_feed.specs.Sent.{IsOpening, blocks_input};
 ghost use Rattle.mold_input.specs.Entries.{InputEntries};
 ghost use Rattle.mold_input.specs.declared.message_format.MessageFormat.{MessageFormat};
-ghost use Rattle.mold_input.specs.declared.message_format.MessageFormat.TheVariants.{Lines};
+ghost use Rattle.mold_input.specs.declared.message_format.MessageFormat.TheVariants.{Blocks, Lines};
 ghost use Rattle.mold_loop.specs.Looping.{LineState, LoopRun};
 ghost use Rattle.mold_loop.specs.Repairing.{RepairState};
 ghost use Rattle.mold_loop.specs.declared.loop_parts.Drops.{Drops};
@@ -18,8 +19,10 @@ ghost use Rattle.mold_receiver.specs.View.{fresh};
 ghost use Rattle.mold_session.specs.Journal.{JournalState};
 ghost use Rattle.mold_send.specs.PublishLoop.{left_journal};
 ghost use Rattle.mold_session.specs.Server.{IsServer, ServerState};
+ghost use Rattle.mold_wire.specs.Block.{IsBytes};
 
 use mold_feed::laws::{published_law, served_law};
+use mold_input::laws::blocks_law;
 use mold_ports::Datagrams;
 use mold_publish::laws::lines_published_law;
 use mold_receiver::laws::{honest_stays_law, honest_take_law, taken_law};
@@ -34,8 +37,10 @@ use mold_wire::laws::reading_law;
 /// - `messages`: no entry of the input is refused, and the server's maximum message length is at least the journal's.
 ///   The loop prints published messages in order from the start on, in the listener's format. With status 0 it has
 ///   printed all of them.
-/// - `printed`: the same for an input of lines and a listener that prints lines. The loop prints the published lines,
-///   each after its number.
+/// - `same_bytes`: the input is blocks, and the listener prints blocks from message 1 on. With status 0 the loop has
+///   written exactly the bytes of its input.
+/// - `printed`: as `messages`, for an input of lines and a listener that prints lines. The loop prints the published
+///   lines, each after its number.
 /// - `refused`: a line is refused, so no request is made. The loop prints lines before the refused one, and then the
 ///   refusal.
 ///
@@ -55,6 +60,15 @@ pub fn loop_law<D: Datagrams>()
         LoopRun reporting drops a b to turns limit 0 (input_published journal input) server start rounds result old new
         start_left rounds_left →
         PrintsMessages format reporting (left_journal (input_published journal input)) first result old new }
+    ensures same_bytes { (reporting : Bool) (drops : Drops) (a b to : D.Peer) (turns limit window : ℕ)
+        (journal : JournalState) (input : List ℕ) (server : ServerState) (start start_left : LineState D.Peer)
+        (rounds rounds_left : RepairState D.Peer) (result : Result ℕ CommandFault) (old new : Option (List ℕ)) →
+        IsOpening journal limit → IsBytes input → IsServer server → journal.max_message ≤ server.max_message →
+        start.progress.arbitration.view ≡ fresh journal.session 1 window →
+        start.progress.outgoing.text ≡ [] → start.progress.outgoing.format ≡ Blocks →
+        OwnPorts start start_left rounds rounds_left →
+        LoopRun reporting drops a b to turns limit 0 (input_published journal (blocks_input input)) server start rounds
+        result old new start_left rounds_left → result ≡ Ok 0 → Appends old new input }
     ensures printed { (reporting : Bool) (drops : Drops) (a b to : D.Peer) (turns limit first window : ℕ)
         (journal : JournalState) (lines : List (List ℕ)) (server : ServerState) (start start_left : LineState D.Peer)
         (rounds rounds_left : RepairState D.Peer) (result : Result ℕ CommandFault) (old new : Option (List ℕ)) →
@@ -81,6 +95,7 @@ pub fn loop_law<D: Datagrams>()
     published_law::<D>();
     served_law::<D>();
     lines_published_law();
+    blocks_law();
     honest_stays_law();
     honest_take_law();
     taken_law();

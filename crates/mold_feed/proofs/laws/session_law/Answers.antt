@@ -1,6 +1,6 @@
 use Rattle.mold_input.specs.declared.message_format.MessageFormat.TheVariants.{Blocks}
 use Rattle.mold_feed.specs.Received.{CanReceive}
-use Rattle.mold_feed.proofs.BlocksPrintedLemmas.{prints_blocks}
+use Rattle.mold_feed.proofs.BlocksPrintedLemmas.{prints_blocks_among}
 use Rattle.mold_feed.proofs.OpeningLemmas.{OpeningLaws, left_by}
 use Rattle.mold_feed.proofs.SessionLawLemmas.{FeedLaws, session_prints_among, session_prints_messages}
 use Rattle.mold_feed.proofs.laws.session_law.Given.{Over}
@@ -42,6 +42,6 @@ pub returns-clause-blocks : goal.returns-clause-blocks
 returns-clause-blocks g c =
     λ reporting limit first window turns burst journal input server a b requests arbitration a_left b_left requests_left
     left result old new sent opening least within anew hears ran.
-    prints_blocks (CanReceive (beginning Blocks a b requests arbitration)) (left_by journal input)
+    prints_blocks_among (CanReceive (beginning Blocks a b requests arbitration)) (left_by journal input)
     (session_prints_among (laws g c) limit journal input opening first window least within arbitration anew Blocks
     reporting burst turns server a b requests _ result old new sent ran hears)

@@ -1,12 +1,14 @@
 use Rattle.std.proofs.Common.{◌≡◌, ◌∙◌, ◌+◌, ◌≤◌, ap, arith, length, None, refl, Some, subst, sym}
 use Rattle.std.proofs.lemmas.Option.{none-some}
 use Rattle.mold_feed.specs.Received.{PrintsRefused}
-use Rattle.mold_feed.specs.Sent.{lines_input}
+use Rattle.mold_feed.specs.Sent.{blocks_input, lines_input}
+use Rattle.mold_feed.proofs.BlocksPrintedLemmas.{prints_blocks}
 use Rattle.mold_feed.proofs.LinesPrintedLemmas.{all_lines, lines_within, prints_lines}
+use Rattle.mold_feed.proofs.SameBytesLemmas.{SameBytesLaws, same_bytes}
 use Rattle.mold_feed.proofs.TakingLemmas.{HearingLaws}
-use Rattle.mold_input.specs.declared.message_format.MessageFormat.TheVariants.{Lines}
+use Rattle.mold_input.specs.declared.message_format.MessageFormat.TheVariants.{Blocks, Lines}
 use Rattle.mold_loop.specs.Looping.{LoopRun}
-use Rattle.mold_loop_law.proofs.LoopLawLemmas.{LoopLaws, loop_prints_messages, loop_prints_refused, server_may}
+use Rattle.mold_loop_law.proofs.LoopLawLemmas.{LoopLaws, loop_prints_messages, loop_prints_refused, no_refusal, server_may}
 use Rattle.mold_feed.proofs.OpeningLemmas.{OpeningLaws, left_by, messages_within}
 use Rattle.mold_loop_law.proofs.laws.loop_law.Given.{Over}
 use Rattle.mold_loop_law.proofs.laws.loop_law.Goals.{After-reading_law}
@@ -43,6 +45,27 @@ returns-clause-messages g c =
     let may = server_may (opening_laws g c) limit journal input server opening serves longest in
     loop_prints_messages (laws g c) reporting drops a b to turns limit journal input server start start_left rounds
     rounds_left result old new opening (λ _. may) own ran first window least within anew format blank in_format unrefused
+
+pub returns-clause-same_bytes : goal.returns-clause-same_bytes
+returns-clause-same_bytes g c =
+    λ reporting drops a b to turns limit window journal bytes server start start_left rounds rounds_left result old new
+    opening fits serves longest anew blank in_blocks own ran zero.
+    let input = blocks_input bytes in
+    let may = server_may (opening_laws g c) limit journal input server opening serves longest in
+    let unrefused =
+    no_refusal (laws g c) reporting drops a b to turns limit journal input server start start_left rounds rounds_left
+    result old new opening (λ _. may) own ran zero in
+    let bytes_laws : SameBytesLaws = record {
+      messages = c.published_law.ensures.messages;
+      before = c.published_law.ensures.before;
+      spelled = c.blocks_law.ensures.spelled;
+    } in
+    same_bytes bytes_laws limit journal opening bytes fits
+    (prints_blocks (left_by journal input)
+    (loop_prints_messages (laws g c) reporting drops a b to turns limit journal input server start start_left rounds
+    rounds_left result old new opening (λ _. may) own ran 1 window (omega arith) (omega arith) anew Blocks blank in_blocks
+    unrefused))
+    zero
 
 pub returns-clause-printed : goal.returns-clause-printed
 returns-clause-printed g c =
