@@ -37,25 +37,26 @@ use mold_wire::laws::reading_law;
 pub fn loop_law<D: Datagrams>()
     ensures printed { (reporting : Bool) (drops : Drops) (a b to : D.Peer) (turns limit first window : ℕ)
         (journal : JournalState) (lines : List (List ℕ)) (server : ServerState) (start start_left : LineState D.Peer)
-        (rounds rounds_left : RepairState D.Peer) (result : Result ℕ CommandFault) (old new : Option (List ℕ)) →
+        (rounds rounds_left : RepairState D.Peer) (result : Result ℕ CommandFault)
+        (old new errors_old errors_new : Option (List ℕ)) →
         IsOpening journal limit → (lines_published journal lines).refused ≡ None →
         IsServer server → journal.max_message ≤ server.max_message →
         1 ≤ first → first ≤ length lines + 1 → start.progress.arbitration.view ≡ fresh journal.session first window →
         start.progress.outgoing.text ≡ [] → start.progress.outgoing.format ≡ Lines →
         OwnPorts start start_left rounds rounds_left →
         LoopRun reporting drops a b to turns limit 0 (lines_published journal lines) server start rounds result old new
-        start_left rounds_left → PrintsLines reporting lines first result old new }
+        errors_old errors_new start_left rounds_left → PrintsLines reporting lines first result old new }
     ensures refused { (reporting : Bool) (drops : Drops) (a b to : D.Peer) (turns limit first window : ℕ)
         (journal : JournalState) (lines : List (List ℕ)) (why : MessageRefusal) (server : ServerState)
         (start start_left : LineState D.Peer) (rounds rounds_left : RepairState D.Peer)
-        (result : Result ℕ CommandFault) (old new : Option (List ℕ)) →
+        (result : Result ℕ CommandFault) (old new errors_old errors_new : Option (List ℕ)) →
         IsOpening journal limit → (lines_published journal lines).refused ≡ Some why →
         1 ≤ first → first ≤ length (lines_published journal lines).journal.messages + 1 →
         start.progress.arbitration.view ≡ fresh journal.session first window →
         start.progress.outgoing.text ≡ [] → start.progress.outgoing.format ≡ Lines →
         OwnPorts start start_left rounds rounds_left →
         LoopRun reporting drops a b to turns limit 0 (lines_published journal lines) server start rounds result old new
-        start_left rounds_left →
+        errors_old errors_new start_left rounds_left →
         PrintsRefused lines (length (lines_published journal lines).journal.messages + 1) why first result old new }
 {
     published_law::<D>();

@@ -33,18 +33,21 @@ laws g c = record {
 
 pub returns-clause-printed : goal.returns-clause-printed
 returns-clause-printed g c =
-    λ reporting drops a b to turns limit first window journal lines server start start_left rounds rounds_left result old new opening
+    λ reporting drops a b to turns limit first window journal lines server start start_left rounds rounds_left result
+    old new errors_old errors_new opening
     unrefused serves longest least most anew blank plain own ran.
     let within = lines_within (opening_laws g c) limit journal lines opening unrefused first most in
     let may = server_may (opening_laws g c) limit journal lines server opening serves longest in
     loop_prints_lines (laws g c) reporting drops a b to turns limit journal lines server start start_left rounds rounds_left result
-    old new opening (λ _. may) own ran first window least within anew blank plain unrefused
+    old new errors_old errors_new opening (λ _. may) own ran first window least within anew blank plain unrefused
 
 pub returns-clause-refused : goal.returns-clause-refused
 returns-clause-refused g c =
-    λ reporting drops a b to turns limit first window journal lines why server start start_left rounds rounds_left result old new
+    λ reporting drops a b to turns limit first window journal lines why server start start_left rounds rounds_left
+    result old new errors_old errors_new
     opening refused least most anew blank plain own ran.
     let within = messages_within journal lines first most in
     loop_prints_refused (laws g c) reporting drops a b to turns limit journal lines server start start_left rounds rounds_left result
-    old new opening (λ unrefused. absurd (none-some why (sym unrefused ∙ refused))) own ran first window least within anew
+    old new errors_old errors_new opening (λ unrefused. absurd (none-some why (sym unrefused ∙ refused))) own ran first
+    window least within anew
     blank plain why refused
