@@ -12,7 +12,7 @@ use Rattle.mold_loop.specs.Looping.{Failed, LeftOut, LineState, LoopRun, Outcome
 use Rattle.mold_loop.specs.Looping.{after_line_if, after_routes, lines_after, loop_end, loop_lines, loop_status, loop_text, offered_by}
 use Rattle.mold_loop.specs.Looping.{outgoing_after, passed, port_after, received_if, rounds_made}
 use Rattle.mold_loop.specs.Looping.{routed_by, sent_by, with_progress}
-use Rattle.mold_turns.specs.Outgoing.{OutgoingState}
+use Rattle.mold_turns.specs.Outgoing.{OutgoingState, note_text}
 use Rattle.mold_input.specs.Entries.{InputEntries}
 use Rattle.mold_input.specs.declared.message_format.MessageFormat.{MessageFormat}
 use Rattle.mold_input.specs.declared.message_format.MessageFormat.TheVariants.{Lines}
@@ -309,11 +309,12 @@ gives_true Good sent port all gives =
 
 module _ {P : Type 0} (laws : LoopLaws P) (reporting : Bool) (drops : Drops) (a b to : P) (turns limit : ℕ)
     (journal : JournalState) (input : InputEntries) (server : ServerState) (start start_left : LineState P) (rounds rounds_left : RepairState P)
-    {E : Type 0} (result : Result ℕ E) (old new : Option (List ℕ)) (opening : IsOpening journal limit)
+    {E : Type 0} (result : Result ℕ E) (old new errors_old errors_new : Option (List ℕ))
+    (opening : IsOpening journal limit)
     (may : (input_published journal input).refused ≡ None → MayAnswer (left_by journal input) server.limit)
     (own : OwnPorts start start_left rounds rounds_left)
     (ran : LoopRun reporting drops a b to turns limit 0 (input_published journal input) server start rounds result old new
-    start_left rounds_left) where
+    errors_old errors_new start_left rounds_left) where
   abbrev published : PublishedInput
   published = input_published journal input
 
@@ -441,6 +442,10 @@ module _ {P : Type 0} (laws : LoopLaws P) (reporting : Bool) (drops : Drops) (a 
           ap (λ (text : List ℕ). text ++ loop_lines reporting published.journal published.refused end) refused_is
           ∙ ap (λ (r : Option MessageRefusal).
           lines_text first (between lines first end.arbitration.view.next) ++ loop_lines reporting published.journal r end) refused
+          ∙ ap (λ (f : MessageFormat).
+          lines_text first (between lines first end.arbitration.view.next) ++ note_text f
+          (refused_text (count + 1) why))
+          (done.format ∙ in_format ∙ plain)
 
       two_is : loop_status published.refused end ≡ 2
       two_is = ap (λ (r : Option MessageRefusal). loop_status r end) refused

@@ -50,7 +50,7 @@ pub fn loop_law<D: Datagrams>()
     ensures messages { (format : MessageFormat) (reporting : Bool) (drops : Drops) (a b to : D.Peer)
         (turns limit first window : ℕ) (journal : JournalState) (input : InputEntries) (server : ServerState)
         (start start_left : LineState D.Peer) (rounds rounds_left : RepairState D.Peer)
-        (result : Result ℕ CommandFault) (old new : Option (List ℕ)) →
+        (result : Result ℕ CommandFault) (old new errors_old errors_new : Option (List ℕ)) →
         IsOpening journal limit → (input_published journal input).refused ≡ None →
         IsServer server → journal.max_message ≤ server.max_message → 1 ≤ first →
         first ≤ length (left_journal (input_published journal input)).messages + 1 →
@@ -58,38 +58,40 @@ pub fn loop_law<D: Datagrams>()
         start.progress.outgoing.text ≡ [] → start.progress.outgoing.format ≡ format →
         OwnPorts start start_left rounds rounds_left →
         LoopRun reporting drops a b to turns limit 0 (input_published journal input) server start rounds result old new
-        start_left rounds_left →
+        errors_old errors_new start_left rounds_left →
         PrintsMessages format reporting (left_journal (input_published journal input)) first result old new }
     ensures same_bytes { (reporting : Bool) (drops : Drops) (a b to : D.Peer) (turns limit window : ℕ)
         (journal : JournalState) (input : List ℕ) (server : ServerState) (start start_left : LineState D.Peer)
-        (rounds rounds_left : RepairState D.Peer) (result : Result ℕ CommandFault) (old new : Option (List ℕ)) →
+        (rounds rounds_left : RepairState D.Peer) (result : Result ℕ CommandFault)
+        (old new errors_old errors_new : Option (List ℕ)) →
         IsOpening journal limit → IsBytes input → IsServer server → journal.max_message ≤ server.max_message →
         start.progress.arbitration.view ≡ fresh journal.session 1 window →
         start.progress.outgoing.text ≡ [] → start.progress.outgoing.format ≡ Blocks →
         OwnPorts start start_left rounds rounds_left →
         LoopRun reporting drops a b to turns limit 0 (input_published journal (blocks_input input)) server start rounds
-        result old new start_left rounds_left → result ≡ Ok 0 → Appends old new input }
+        result old new errors_old errors_new start_left rounds_left → result ≡ Ok 0 → Appends old new input }
     ensures printed { (reporting : Bool) (drops : Drops) (a b to : D.Peer) (turns limit first window : ℕ)
         (journal : JournalState) (lines : List (List ℕ)) (server : ServerState) (start start_left : LineState D.Peer)
-        (rounds rounds_left : RepairState D.Peer) (result : Result ℕ CommandFault) (old new : Option (List ℕ)) →
+        (rounds rounds_left : RepairState D.Peer) (result : Result ℕ CommandFault)
+        (old new errors_old errors_new : Option (List ℕ)) →
         IsOpening journal limit → (lines_published journal lines).refused ≡ None →
         IsServer server → journal.max_message ≤ server.max_message →
         1 ≤ first → first ≤ length lines + 1 → start.progress.arbitration.view ≡ fresh journal.session first window →
         start.progress.outgoing.text ≡ [] → start.progress.outgoing.format ≡ Lines →
         OwnPorts start start_left rounds rounds_left →
         LoopRun reporting drops a b to turns limit 0 (lines_published journal lines) server start rounds result old new
-        start_left rounds_left → PrintsLines reporting lines first result old new }
+        errors_old errors_new start_left rounds_left → PrintsLines reporting lines first result old new }
     ensures refused { (reporting : Bool) (drops : Drops) (a b to : D.Peer) (turns limit first window : ℕ)
         (journal : JournalState) (lines : List (List ℕ)) (why : MessageRefusal) (server : ServerState)
         (start start_left : LineState D.Peer) (rounds rounds_left : RepairState D.Peer)
-        (result : Result ℕ CommandFault) (old new : Option (List ℕ)) →
+        (result : Result ℕ CommandFault) (old new errors_old errors_new : Option (List ℕ)) →
         IsOpening journal limit → (lines_published journal lines).refused ≡ Some why →
         1 ≤ first → first ≤ length (lines_published journal lines).journal.messages + 1 →
         start.progress.arbitration.view ≡ fresh journal.session first window →
         start.progress.outgoing.text ≡ [] → start.progress.outgoing.format ≡ Lines →
         OwnPorts start start_left rounds rounds_left →
         LoopRun reporting drops a b to turns limit 0 (lines_published journal lines) server start rounds result old new
-        start_left rounds_left →
+        errors_old errors_new start_left rounds_left →
         PrintsRefused lines (length (lines_published journal lines).journal.messages + 1) why first result old new }
 {
     published_law::<D>();

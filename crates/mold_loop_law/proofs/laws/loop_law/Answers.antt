@@ -41,20 +41,21 @@ laws g c = record {
 pub returns-clause-messages : goal.returns-clause-messages
 returns-clause-messages g c =
     λ format reporting drops a b to turns limit first window journal input server start start_left rounds rounds_left
-    result old new opening unrefused serves longest least within anew blank in_format own ran.
+    result old new errors_old errors_new opening unrefused serves longest least within anew blank in_format own ran.
     let may = server_may (opening_laws g c) limit journal input server opening serves longest in
     loop_prints_messages (laws g c) reporting drops a b to turns limit journal input server start start_left rounds
-    rounds_left result old new opening (λ _. may) own ran first window least within anew format blank in_format unrefused
+    rounds_left result old new errors_old errors_new opening (λ _. may) own ran first window least within anew format
+    blank in_format unrefused
 
 pub returns-clause-same_bytes : goal.returns-clause-same_bytes
 returns-clause-same_bytes g c =
     λ reporting drops a b to turns limit window journal bytes server start start_left rounds rounds_left result old new
-    opening fits serves longest anew blank in_blocks own ran zero.
+    errors_old errors_new opening fits serves longest anew blank in_blocks own ran zero.
     let input = blocks_input bytes in
     let may = server_may (opening_laws g c) limit journal input server opening serves longest in
     let unrefused =
     no_refusal (laws g c) reporting drops a b to turns limit journal input server start start_left rounds rounds_left
-    result old new opening (λ _. may) own ran zero in
+    result old new errors_old errors_new opening (λ _. may) own ran zero in
     let bytes_laws : SameBytesLaws = record {
       messages = c.published_law.ensures.messages;
       before = c.published_law.ensures.before;
@@ -63,14 +64,14 @@ returns-clause-same_bytes g c =
     same_bytes bytes_laws limit journal opening bytes fits
     (prints_blocks (left_by journal input)
     (loop_prints_messages (laws g c) reporting drops a b to turns limit journal input server start start_left rounds
-    rounds_left result old new opening (λ _. may) own ran 1 window (omega arith) (omega arith) anew Blocks blank in_blocks
-    unrefused))
+    rounds_left result old new errors_old errors_new opening (λ _. may) own ran 1 window (omega arith) (omega arith) anew
+    Blocks blank in_blocks unrefused))
     zero
 
 pub returns-clause-printed : goal.returns-clause-printed
 returns-clause-printed g c =
     λ reporting drops a b to turns limit first window journal lines server start start_left rounds rounds_left result old
-    new opening unrefused serves longest least most anew blank plain own ran.
+    new errors_old errors_new opening unrefused serves longest least most anew blank plain own ran.
     let input = lines_input lines in
     let same : input_published journal input ≡ lines_published journal lines =
     c.lines_published_law.ensures.lines journal lines in
@@ -80,15 +81,15 @@ returns-clause-printed g c =
     let may = server_may (opening_laws g c) limit journal input server opening serves longest in
     prints_lines lines (left_by journal input) all
     (loop_prints_messages (laws g c) reporting drops a b to turns limit journal input server start start_left rounds
-    rounds_left result old new opening (λ _. may) own
+    rounds_left result old new errors_old errors_new opening (λ _. may) own
     (subst (λ (p : PublishedInput). LoopRun reporting drops a b to turns limit 0 p server start rounds result old new
-    start_left rounds_left) (sym same) ran)
+    errors_old errors_new start_left rounds_left) (sym same) ran)
     first window least (lines_within lines (left_by journal input) first all most) anew Lines blank plain whole)
 
 pub returns-clause-refused : goal.returns-clause-refused
 returns-clause-refused g c =
     λ reporting drops a b to turns limit first window journal lines why server start start_left rounds rounds_left result
-    old new opening refused least most anew blank plain own ran.
+    old new errors_old errors_new opening refused least most anew blank plain own ran.
     let input = lines_input lines in
     let same : input_published journal input ≡ lines_published journal lines =
     c.lines_published_law.ensures.lines journal lines in
@@ -98,7 +99,8 @@ returns-clause-refused g c =
     (subst (λ (p : PublishedInput). first ≤ length p.journal.messages + 1) (sym same) most) in
     subst (λ (p : PublishedInput). PrintsRefused lines (length p.journal.messages + 1) why first result old new) same
     (loop_prints_refused (laws g c) reporting drops a b to turns limit journal input server start start_left rounds
-    rounds_left result old new opening (λ unrefused. absurd (none-some why (sym unrefused ∙ stops))) own
+    rounds_left result old new errors_old errors_new opening
+    (λ unrefused. absurd (none-some why (sym unrefused ∙ stops))) own
     (subst (λ (p : PublishedInput). LoopRun reporting drops a b to turns limit 0 p server start rounds result old new
-    start_left rounds_left) (sym same) ran)
+    errors_old errors_new start_left rounds_left) (sym same) ran)
     first window least within anew Lines blank plain lines refl refl why stops)
