@@ -6,7 +6,8 @@ use Rattle.std.proofs.lemmas.Bool.{false_from_ne_true, false≢true}
 use Rattle.std.proofs.lemmas.List.{take-map}
 use Rattle.std.proofs.lemmas.Result.{IfOk-weaker}
 use Rattle.mold_devices.specs.Devices.{AppendsPrefix}
-use Rattle.mold_feed.specs.Received.{PrintsAmong, PrintsLines, PrintsMessages, PrintsMessagesAmong, PrintsOpen}
+use Rattle.mold_feed.specs.Received.{PrintsAmong, PrintsLines, PrintsMessages, PrintsMessagesAmong}
+use Rattle.mold_feed.specs.Received.{PrintsMessagesRefused, PrintsOpen, PrintsRefused}
 use Rattle.mold_feed.specs.Received.{closing_lines, closing_status, closing_text, lines_text}
 use Rattle.mold_feed.specs.Sent.{HasMessages, HasMessagesBefore, lines_input}
 use Rattle.mold_feed.proofs.LinesTextLemmas.{AreSpelled, entries_spelled, spelled_length, text_between}
@@ -14,7 +15,9 @@ use Rattle.mold_feed.proofs.PrintedLineLemmas.{between_front}
 use Rattle.mold_input.specs.Entries.{line_entry}
 use Rattle.mold_input.specs.declared.message_format.MessageFormat.TheVariants.{Lines}
 use Rattle.mold_listen.specs.Text.{handed_text}
+use Rattle.mold_publish.specs.Publishing.{refused_text}
 use Rattle.mold_publish.specs.declared.message_refusal.MessageRefusal.{MessageRefusal}
+use Rattle.mold_receiver.specs.Store.{Message}
 use Rattle.mold_session.specs.Answer.{between}
 use Rattle.mold_session.specs.Journal.{JournalState}
 
@@ -134,3 +137,27 @@ module _ {E : Type 0} {reporting : Bool} {first : ℕ} {result : Result ℕ E} {
             prints.text;
         front = subst (λ (t : List ℕ). AppendsPrefix old new t) same prints.front;
       }
+
+-- the messages before a refused line are printed as lines, and then the refusal
+pub prints_refused : {E : Type 0} {first : ℕ} {result : Result ℕ E} {old new : Option (List ℕ)}
+    (lines : List (List ℕ)) (messages : List Message) (why : MessageRefusal) (refused_at : ℕ) →
+    refused_at ≡ length messages + 1 → 1 ≤ first → AreSpelled (take (length messages) lines) messages →
+    PrintsMessagesRefused Lines messages why first result old new →
+    PrintsRefused lines refused_at why first result old new
+prints_refused {E} {first} {result} {old} {new} lines messages why refused_at many least spelled prints =
+    let count : ℕ = length messages in
+    let same : handed_text Lines first (between messages first prints.next) ++ refused_text (count + 1) why
+    ≡ lines_text first (between lines first prints.next) ++ refused_text refused_at why =
+    ap (λ (text : List ℕ). text ++ refused_text (count + 1) why)
+    (text_between (take count lines) messages first prints.next spelled
+    ∙ ap (lines_text first) (between_front lines count first prints.next least prints.from prints.to))
+    ∙ ap (λ (n : ℕ). lines_text first (between lines first prints.next) ++ refused_text n why) (sym many) in
+    record {
+      next = prints.next;
+      from = prints.from;
+      to = omega (arith, many, prints.to);
+      text =
+          IfOk-weaker result _ _
+          (λ answer written. (written.0, subst (λ (t : List ℕ). Appends old new t) same written.1)) prints.text;
+      front = subst (λ (t : List ℕ). AppendsPrefix old new t) same prints.front;
+    }

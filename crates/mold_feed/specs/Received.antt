@@ -311,6 +311,25 @@ pub record PrintsOpen {E : Type 0} (reporting : Bool) (lines : List (List ℕ)) 
   pub front : AppendsPrefix old new
       (lines_text first (between lines first next) ++ closing_lines reporting reports false next known failures)
 
+-- What a loop of publisher, server and listener has written to standard output, if its listener started at message
+-- `first` and the entry after these messages is refused. In this format its text is the messages from `first` to
+-- `next - 1`, and after lines also the line of the refusal. The status is 2. After a fault, a prefix of such a text is
+-- written.
+pub record PrintsMessagesRefused {E : Type 0} (format : MessageFormat) (messages : List Message)
+    (why : MessageRefusal) (first : ℕ) (result : Result ℕ E) (old new : Option (List ℕ)) : Type 0 where
+  -- the number of the next message to deliver
+  pub next : ℕ
+  pub from : first ≤ next
+  pub to : next ≤ length messages + 1
+  -- after a success, the whole text is written
+  pub text : IfOk result (λ status. (status ≡ 2) × Appends old new
+      (handed_text format first (between messages first next)
+      ++ note_text format (refused_text (length messages + 1) why)))
+  -- in any case, a prefix of the text is written
+  pub front : AppendsPrefix old new
+      (handed_text format first (between messages first next)
+      ++ note_text format (refused_text (length messages + 1) why))
+
 -- What a loop of publisher, server and listener has written, if its listener started at line `first` and line
 -- `refused_at` is refused. Its text is the published lines from `first` to `next - 1`, where `next` is at most
 -- `refused_at`, and then the line of the refusal. The status is 2. After a fault, a prefix of such a text is written.

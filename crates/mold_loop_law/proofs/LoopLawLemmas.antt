@@ -6,7 +6,7 @@ use Rattle.std.specs.Io.KnownBytes.{Appends}
 use Rattle.std.specs.List.{AllByRecursion}
 use Rattle.std.proofs.lemmas.Result.{IfOk-weaker}
 use Rattle.mold_devices.specs.Devices.{AppendsPrefix}
-use Rattle.mold_feed.specs.Received.{GivesOnly, PrintsMessages, PrintsRefused, PrintedLine, lines_text, printed_lines_text}
+use Rattle.mold_feed.specs.Received.{GivesOnly, PrintsMessages, PrintsMessagesRefused, PrintedLine, printed_lines_text}
 use Rattle.mold_listen.specs.Listening.{Asking, Progress, ListenerState, last_lines, listener_status, missed}
 use Rattle.mold_loop.specs.Looping.{Failed, LeftOut, LineState, LoopRun, Outcome, Pass, Sent, IsPortAfter}
 use Rattle.mold_loop.specs.Looping.{after_line_if, after_routes, lines_after, loop_end, loop_lines, loop_status, loop_text, offered_by}
@@ -15,23 +15,20 @@ use Rattle.mold_loop.specs.Looping.{routed_by, sent_by, with_progress}
 use Rattle.mold_turns.specs.Outgoing.{OutgoingState, note_text}
 use Rattle.mold_input.specs.Entries.{InputEntries}
 use Rattle.mold_input.specs.declared.message_format.MessageFormat.{MessageFormat}
-use Rattle.mold_input.specs.declared.message_format.MessageFormat.TheVariants.{Lines}
 use Rattle.mold_loop_law.specs.Own.{GivesSent, OwnPorts, WasSent}
 use Rattle.mold_loop.specs.Passing.{all_routed, routed, routed_end}
 use Rattle.mold_send.specs.PublishLoop.{after_data, all_datagrams, data_after}
 use Rattle.mold_loop.specs.Repairing.{RepairState, missed_more, repaired, repairing, requested, round, served}
 use Rattle.mold_turns.specs.Runs.{run}
-use Rattle.mold_feed.specs.Sent.{AllSent, HasMessagesBefore, IsOpening, lines_input}
+use Rattle.mold_feed.specs.Sent.{AllSent, IsOpening}
 use Rattle.mold_serve.specs.Serving.{ResponderState, Service, serve_turn, service_of, serving}
 use Rattle.mold_listen.specs.Text.{handed_text}
 use Rattle.mold_loop.specs.declared.loop_parts.Drops.{Drops}
 use Rattle.mold_loop.specs.declared.loop_parts.Routes.{Routes}
-use Rattle.mold_feed.proofs.PrintedLineLemmas.{between_front, text-handing}
+use Rattle.mold_feed.proofs.PrintedLineLemmas.{text-handing}
 use Rattle.mold_feed.proofs.TakingLemmas.{HasHeard, HearingLaws, IsSound, MayCome, last_number, nothing_received}
 use Rattle.mold_feed.proofs.TakingLemmas.{then_received}
 use Rattle.mold_feed.proofs.ReceivedTurnLemmas.{after_responses, ends_so, port_received, rest_gives}
-use Rattle.mold_feed.proofs.LinesPrintedLemmas.{lines_before}
-use Rattle.mold_feed.proofs.LinesTextLemmas.{text_between}
 use Rattle.mold_feed.proofs.MessagesPrintedLemmas.{HasCome, prints_messages}
 use Rattle.mold_feed.proofs.SameBytesLemmas.{none_if}
 use Rattle.mold_feed.proofs.SentLemmas.{each_append, each_begun, each_front, each_rest, sent_front, sent_offered, sent_one}
@@ -61,9 +58,6 @@ pub record LoopLaws (P : Type 0) : Type 0 where
   pub offered : (beats ends limit : ℕ) (journal : JournalState) (input : InputEntries) → IsOpening journal limit →
       AllByRecursion (IsTrueDatagram (left_by journal input))
       (all_datagrams limit beats ends (input_published journal input))
-  pub before : (limit : ℕ) (journal : JournalState) (input : InputEntries) (why : MessageRefusal) →
-      IsOpening journal limit → (input_published journal input).refused ≡ Some why →
-      HasMessagesBefore input why (input_published journal input).journal
   pub progress : HearingLaws
 
 -- ---- what the publisher's port sends
@@ -409,50 +403,37 @@ module _ {P : Type 0} (laws : LoopLaws P) (reporting : Bool) (drops : Drops) (a 
         (between left.messages start.progress.arbitration.view.next next)
         ∙ ap (λ (n : ℕ). handed_text format n (between left.messages n next)) begins
 
-    -- if a line is refused
+    -- if an entry is refused
 
-    module _ (lines : List (List ℕ)) (of_lines : input ≡ lines_input lines) (plain : format ≡ Lines)
-        (why : MessageRefusal) (refused : published.refused ≡ Some why) where
-      abbrev count : ℕ
-      count = length published.journal.messages
+    module _ (why : MessageRefusal) (refused : published.refused ≡ Some why) where
+      abbrev published_messages : List Message
+      published_messages = published.journal.messages
 
-      same : left.messages ≡ published.journal.messages
+      abbrev next : ℕ
+      next = end.arbitration.view.next
+
+      same : left.messages ≡ published_messages
       same = left_messages journal input
-
-      before : HasMessagesBefore (lines_input lines) why published.journal
-      before =
-          subst (λ (i : InputEntries). HasMessagesBefore i why published.journal) of_lines
-          (laws.before limit journal input why opening refused)
-
-      refused_is : end.outgoing.text ≡ lines_text first (between lines first end.arbitration.view.next)
-      refused_is =
-          let next : ℕ = end.arbitration.view.next in
-          text_is
-          ∙ ap (λ (f : MessageFormat). handed_text f first (between left.messages first next)) plain
-          ∙ ap (λ (messages : List Message). handed_text Lines first (between messages first next)) same
-          ∙ text_between (take count lines) published.journal.messages first next
-          (lines_before lines why published.journal before)
-          ∙ ap (lines_text first) (between_front lines count first next least from
-          (let most_of = ap (λ (messages : List Message). length messages) same in omega (arith, most_of, within)))
 
       -- the last lines and the status are those of the refusal
       all_is : loop_text reporting published end
-          ≡ lines_text first (between lines first end.arbitration.view.next) ++ refused_text (count + 1) why
+          ≡ handed_text format first (between published_messages first next)
+          ++ note_text format (refused_text (length published_messages + 1) why)
       all_is =
-          ap (λ (text : List ℕ). text ++ loop_lines reporting published.journal published.refused end) refused_is
-          ∙ ap (λ (r : Option MessageRefusal).
-          lines_text first (between lines first end.arbitration.view.next) ++ loop_lines reporting published.journal r end) refused
-          ∙ ap (λ (f : MessageFormat).
-          lines_text first (between lines first end.arbitration.view.next) ++ note_text f
-          (refused_text (count + 1) why))
-          (done.format ∙ in_format ∙ plain)
+          ap (λ (text : List ℕ). text ++ loop_lines reporting published.journal published.refused end) text_is
+          ∙ ap (λ (messages : List Message). handed_text format first (between messages first next)
+          ++ loop_lines reporting published.journal published.refused end) same
+          ∙ ap (λ (r : Option MessageRefusal). handed_text format first (between published_messages first next)
+          ++ loop_lines reporting published.journal r end) refused
+          ∙ ap (λ (f : MessageFormat). handed_text format first (between published_messages first next)
+          ++ note_text f (refused_text (length published_messages + 1) why)) (done.format ∙ in_format)
 
       two_is : loop_status published.refused end ≡ 2
       two_is = ap (λ (r : Option MessageRefusal). loop_status r end) refused
 
-      pub loop_prints_refused : PrintsRefused lines (count + 1) why first result old new
+      pub loop_prints_refused : PrintsMessagesRefused format published_messages why first result old new
       loop_prints_refused = record {
-        next = end.arbitration.view.next;
+        next = next;
         from = from;
         to = let most_of = ap (λ (messages : List Message). length messages) same in omega (arith, most_of, within);
         text =

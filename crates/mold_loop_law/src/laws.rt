@@ -4,7 +4,7 @@
 ghost use Rattle.std.specs.Prelude.{◌≡◌, ◌+◌, ◌≤◌, Bool, List, [], None, Ok, Option, Result, Some, length, ℕ};
 ghost use Rattle.std.specs.Io.KnownBytes.{Appends};
 ghost use Rattle.mold_devices.specs.declared.fault.CommandFault.{CommandFault};
-ghost use Rattle.mold_feed.specs.Received.{PrintsLines, PrintsMessages, PrintsRefused};
+ghost use Rattle.mold_feed.specs.Received.{PrintsLines, PrintsMessages, PrintsMessagesRefused, PrintsRefused};
 ghost use Rattle.mold_feed.specs.Sent.{IsOpening, blocks_input};
 ghost use Rattle.mold_input.specs.Entries.{InputEntries};
 ghost use Rattle.mold_input.specs.declared.message_format.MessageFormat.{MessageFormat};
@@ -39,10 +39,12 @@ use mold_wire::laws::reading_law;
 ///   printed all of them.
 /// - `same_bytes`: the input is blocks, and the listener prints blocks from message 1 on. With status 0 the loop has
 ///   written exactly the bytes of its input.
+/// - `stopped`: an entry is refused, so no request is made. The loop prints messages before the refused entry. Among
+///   lines, the refusal follows on standard output.
 /// - `printed`: as `messages`, for an input of lines and a listener that prints lines. The loop prints the published
 ///   lines, each after its number.
-/// - `refused`: a line is refused, so no request is made. The loop prints lines before the refused one, and then the
-///   refusal.
+/// - `refused`: as `stopped`, for such an input and listener. The loop prints lines before the refused one, and then
+///   the refusal.
 ///
 /// After a fault, the text written is a prefix of such a text. The reports of the two lines are printed only if
 /// `reporting` is set, and only before the last line.
@@ -70,6 +72,18 @@ pub fn loop_law<D: Datagrams>()
         OwnPorts start start_left rounds rounds_left →
         LoopRun reporting drops a b to turns limit 0 (input_published journal (blocks_input input)) server start rounds
         result old new errors_old errors_new start_left rounds_left → result ≡ Ok 0 → Appends old new input }
+    ensures stopped { (format : MessageFormat) (reporting : Bool) (drops : Drops) (a b to : D.Peer)
+        (turns limit first window : ℕ) (journal : JournalState) (input : InputEntries) (why : MessageRefusal)
+        (server : ServerState) (start start_left : LineState D.Peer) (rounds rounds_left : RepairState D.Peer)
+        (result : Result ℕ CommandFault) (old new errors_old errors_new : Option (List ℕ)) →
+        IsOpening journal limit → (input_published journal input).refused ≡ Some why →
+        1 ≤ first → first ≤ length (input_published journal input).journal.messages + 1 →
+        start.progress.arbitration.view ≡ fresh journal.session first window →
+        start.progress.outgoing.text ≡ [] → start.progress.outgoing.format ≡ format →
+        OwnPorts start start_left rounds rounds_left →
+        LoopRun reporting drops a b to turns limit 0 (input_published journal input) server start rounds result old new
+        errors_old errors_new start_left rounds_left →
+        PrintsMessagesRefused format (input_published journal input).journal.messages why first result old new }
     ensures printed { (reporting : Bool) (drops : Drops) (a b to : D.Peer) (turns limit first window : ℕ)
         (journal : JournalState) (lines : List (List ℕ)) (server : ServerState) (start start_left : LineState D.Peer)
         (rounds rounds_left : RepairState D.Peer) (result : Result ℕ CommandFault)

@@ -1,9 +1,8 @@
 use Rattle.std.proofs.Common.{◌≡◌, ◌∙◌, ◌+◌, ◌≤◌, ap, arith, length, None, refl, Some, subst, sym}
 use Rattle.std.proofs.lemmas.Option.{none-some}
-use Rattle.mold_feed.specs.Received.{PrintsRefused}
 use Rattle.mold_feed.specs.Sent.{blocks_input, lines_input}
 use Rattle.mold_feed.proofs.BlocksPrintedLemmas.{prints_blocks}
-use Rattle.mold_feed.proofs.LinesPrintedLemmas.{all_lines, lines_within, prints_lines}
+use Rattle.mold_feed.proofs.LinesPrintedLemmas.{all_lines, lines_before, lines_within, prints_lines, prints_refused}
 use Rattle.mold_feed.proofs.SameBytesLemmas.{SameBytesLaws, same_bytes}
 use Rattle.mold_feed.proofs.TakingLemmas.{HearingLaws}
 use Rattle.mold_input.specs.declared.message_format.MessageFormat.TheVariants.{Blocks, Lines}
@@ -34,7 +33,6 @@ laws g c = record {
   opening = opening_laws g c;
   served = c.served_law.ensures;
   offered = c.published_law.ensures.offered;
-  before = c.published_law.ensures.before;
   progress = progress g c;
 }
 
@@ -86,6 +84,16 @@ returns-clause-printed g c =
     errors_old errors_new start_left rounds_left) (sym same) ran)
     first window least (lines_within lines (left_by journal input) first all most) anew Lines blank plain whole)
 
+pub returns-clause-stopped : goal.returns-clause-stopped
+returns-clause-stopped g c =
+    λ format reporting drops a b to turns limit first window journal input why server start start_left rounds rounds_left
+    result old new errors_old errors_new opening refused least most anew blank in_format own ran.
+    let within = messages_within journal input first most in
+    loop_prints_refused (laws g c) reporting drops a b to turns limit journal input server start start_left rounds
+    rounds_left result old new errors_old errors_new opening
+    (λ unrefused. absurd (none-some why (sym unrefused ∙ refused))) own ran first window least within anew format blank
+    in_format why refused
+
 pub returns-clause-refused : goal.returns-clause-refused
 returns-clause-refused g c =
     λ reporting drops a b to turns limit first window journal lines why server start start_left rounds rounds_left result
@@ -97,10 +105,14 @@ returns-clause-refused g c =
     ap (λ (p : PublishedInput). p.refused) same ∙ refused in
     let within = messages_within journal input first
     (subst (λ (p : PublishedInput). first ≤ length p.journal.messages + 1) (sym same) most) in
-    subst (λ (p : PublishedInput). PrintsRefused lines (length p.journal.messages + 1) why first result old new) same
+    prints_refused lines (input_published journal input).journal.messages why
+    (length (lines_published journal lines).journal.messages + 1)
+    (ap (λ (p : PublishedInput). length p.journal.messages + 1) (sym same)) least
+    (lines_before lines why (input_published journal input).journal
+    (c.published_law.ensures.before limit journal input why opening stops))
     (loop_prints_refused (laws g c) reporting drops a b to turns limit journal input server start start_left rounds
     rounds_left result old new errors_old errors_new opening
     (λ unrefused. absurd (none-some why (sym unrefused ∙ stops))) own
     (subst (λ (p : PublishedInput). LoopRun reporting drops a b to turns limit 0 p server start rounds result old new
     errors_old errors_new start_left rounds_left) (sym same) ran)
-    first window least within anew Lines blank plain lines refl refl why stops)
+    first window least within anew Lines blank plain why stops)
