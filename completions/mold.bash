@@ -10,7 +10,7 @@ _mold_options() {
     publish) printf '%s ' --session --limit --a --b --journal --beats --ends --blocks --end-at-empty ;;
     serve) printf '%s ' --journal --limit --burst --bind --turns --live ;;
     listen) printf '%s ' --session --next --window --a --b --server --burst --turns --live --report --blocks ;;
-    loop) printf '%s ' --session --limit --server-limit --window --burst --drop-a --drop-b --turns --report ;;
+    loop) printf '%s ' --session --limit --server-limit --window --burst --drop-a --drop-b --turns --report --blocks ;;
     upgrade) printf '%s ' --journal --to --close ;;
     dump) printf '%s ' --journal --from --count --blocks --end-at-empty ;;
     esac

@@ -194,9 +194,9 @@ def some_blocks(chance, limit, most):
     return [(it,) for it in items]
 
 
-def in_some_form(chance, options, most):
+def in_some_form(chance, options, most, forms=("lines", "lines", "blocks", "blocks to empty")):
     """A case with lines, or with blocks and their options."""
-    form = chance.choice(["lines", "lines", "blocks", "blocks to empty"])
+    form = chance.choice(forms)
     if form == "lines":
         return case_of(chance, options, some_lines(chance, options["limit"], most))
     case = case_of(chance, options, some_blocks(chance, options["limit"], most), form=form)
@@ -227,8 +227,7 @@ def loop(chance):
     options |= {"window": chance.choice(WINDOWS), "burst": chance.choice(BURSTS)}
     options |= {name: chance.choice([0, 1, 2, 2, 3, 1000]) for name in ("drop-a", "drop-b")}
     options["turns"] = chance.choice([1, 2, 1000, 1000])
-    lines = some_lines(chance, options["limit"], chance.choice([3, 12, 40]))
-    return maybe_reporting(chance, case_of(chance, options, lines))
+    return maybe_reporting(chance, in_some_form(chance, options, chance.choice([3, 12, 40]), ("lines", "blocks")))
 
 
 def numbered(chance, value):
@@ -462,7 +461,7 @@ def words(chance):
     form = "lines"
     if command in ("pack", "publish", "dump"):
         form = chance.choice(sorted(FLAGS))
-    if command == "listen":
+    if command in ("loop", "listen"):
         form = chance.choice(["lines", "blocks"])
     drawn += FLAGS[form]
     return Case({"command": command, "values": values, "form": form}, [], drawn)

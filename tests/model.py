@@ -603,13 +603,33 @@ def is_sent(drop, number):
     return drop == 0 or number % drop != 0
 
 
-def loop(session, limits, window, burst, drops, turns, is_reported, some_bytes):
-    """Models ports that lose nothing. The limits are those of publisher and server, the drops those of A and B."""
+def apart(text):
+    """The text of a listener that prints blocks, which are on standard output, and its text on standard error. The
+    given text is that of a listener that prints lines."""
+    printed, notes = [], []
+    for line in text.splitlines():
+        number, _, digits = line.partition(b" ")
+        if number.isdigit():
+            printed.append(b"" if digits == b"-" else bytes.fromhex(digits.decode()))
+        else:
+            notes.append(line + b"\n")
+    return blocks(printed), b"".join(notes)
+
+
+def loop(session, limits, window, burst, drops, turns, is_reported, some_bytes, form="lines"):
+    """The text, the status, and the text on standard error."""
+    text, status = loop_text(session, limits, window, burst, drops, turns, is_reported, some_bytes, form)
+    printed, errors = (text, b"") if form == "lines" else apart(text)
+    return printed, status, errors
+
+
+def loop_text(session, limits, window, burst, drops, turns, is_reported, some_bytes, form):
+    """The text if messages are printed as lines, and the status. Models ports that lose nothing. The limits are those of
+    publisher and server, the drops those of A and B."""
     limit, server_limit = limits
-    messages, refusal = messages_of(limit, lines_of(some_bytes))
-    packets = packing(limit, session, 1, messages)
+    messages, packets, refusal = packets_of(session, limit, some_bytes, form)
     listener = Listener(fresh(session, 1, window))
-    for number, packet in enumerate(packets[:-1] if refusal else packets, 1):
+    for number, packet in enumerate(packets, 1):
         for way, drop in zip(listener.reports, drops):
             if is_sent(drop, number):
                 listener.take(way, encoding(packet))

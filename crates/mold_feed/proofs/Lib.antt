@@ -4,8 +4,10 @@ pub mod TakingLemmas
 pub mod ReceivedTurnLemmas
 pub mod LinesPrintedLemmas
 pub mod LinesTextLemmas
+pub mod MessagesPrintedLemmas
 pub mod OpeningLemmas
 pub mod PublishedLemmas
+pub mod SameBytesLemmas
 pub mod SentLemmas
 pub mod ServedLemmas
 pub mod SessionLawLemmas

@@ -1,136 +1,163 @@
--- What a listener has printed at its end: the published lines, and then the last line for its status.
-use Rattle.std.proofs.Common.{◌≡◌, ℕ, ◌+◌, ◌≤◌, Bool, true, List, [], ◌++◌, length, Option, Result, ap, subst, ◌∙◌}
-use Rattle.std.proofs.Common.{arith}
-use Rattle.std.specs.Prelude.{IfOk}
+-- What a listener prints of an input of lines, by what it prints of the messages of these lines.
+use Rattle.std.proofs.Common.{◌≡◌, ℕ, ◌+◌, ◌≤◌, Bool, false, List, ◌++◌, length, take, Option, Result, arith, ap}
+use Rattle.std.proofs.Common.{subst, sym, ◌∙◌}
 use Rattle.std.specs.Io.KnownBytes.{Appends}
-use Rattle.std.specs.List.{AllByRecursion}
+use Rattle.std.proofs.lemmas.Bool.{false_from_ne_true, false≢true}
+use Rattle.std.proofs.lemmas.List.{take-map}
 use Rattle.std.proofs.lemmas.Result.{IfOk-weaker}
 use Rattle.mold_devices.specs.Devices.{AppendsPrefix}
-use Rattle.mold_feed.specs.Received.{HasFinished, HasListened, PrintsAmong, PrintsLines, RefusesForeign, PrintedLine, lines_text}
-use Rattle.mold_feed.specs.Received.{closing_lines, closing_status, messages_text, printed_lines_text}
-use Rattle.mold_input.specs.declared.message_format.MessageFormat.{MessageFormat}
+use Rattle.mold_feed.specs.Received.{PrintsAmong, PrintsLines, PrintsMessages, PrintsMessagesAmong}
+use Rattle.mold_feed.specs.Received.{PrintsMessagesRefused, PrintsOpen, PrintsRefused}
+use Rattle.mold_feed.specs.Received.{closing_lines, closing_status, closing_text, lines_text}
+use Rattle.mold_feed.specs.Sent.{HasMessages, HasMessagesBefore, lines_input}
+use Rattle.mold_feed.proofs.LinesTextLemmas.{AreSpelled, entries_spelled, spelled_length, text_between}
+use Rattle.mold_feed.proofs.PrintedLineLemmas.{between_front}
+use Rattle.mold_input.specs.Entries.{line_entry}
 use Rattle.mold_input.specs.declared.message_format.MessageFormat.TheVariants.{Lines}
-use Rattle.mold_turns.specs.Outgoing.{note_text}
-use Rattle.mold_listen.specs.Listening.{Progress, ListenerState, is_finished, last_note, listened_lines, status}
-use Rattle.mold_feed.proofs.LinesTextLemmas.{AreSpelled, lines_said, spelled_length}
+use Rattle.mold_listen.specs.Text.{handed_text}
+use Rattle.mold_publish.specs.Publishing.{refused_text}
+use Rattle.mold_publish.specs.declared.message_refusal.MessageRefusal.{MessageRefusal}
+use Rattle.mold_receiver.specs.Store.{Message}
 use Rattle.mold_session.specs.Answer.{between}
 use Rattle.mold_session.specs.Journal.{JournalState}
-use Rattle.mold_wire.specs.declared.session.Session.{Session}
 
--- the last lines of a listener
-abbrev end_lines : Bool → Progress → List ℕ
-end_lines reporting e =
-    closing_lines reporting e.arbitration.reports (is_finished e) e.arbitration.view.next e.arbitration.view.known
-    e.outgoing.failures
+-- ---- the messages of lines
 
--- a listener that started at the line `first` has ended: its text and its last lines are written
-pub record HasCome {P E : Type 0} (reporting : Bool) (lines : List (List ℕ)) (first : ℕ) (end : ListenerState P)
-    (result : Result ℕ E) (old new : Option (List ℕ)) : Type 0 where
-  -- it printed lines
-  pub plain : end.progress.outgoing.format ≡ Lines
-  pub whole : IfOk result (λ answer.
-      Appends old new (end.progress.outgoing.text ++ listened_lines reporting end) × (answer ≡ status end))
-  pub front : AppendsPrefix old new (end.progress.outgoing.text ++ listened_lines reporting end)
-  pub from : first ≤ end.progress.arbitration.view.next
-  pub to : end.progress.arbitration.view.next ≤ length lines + 1
-  pub ahead : end.progress.arbitration.view.next ≤ end.progress.arbitration.view.known
-  pub received : end.progress.arbitration.view.known ≤ length lines + 1
-  pub all : is_finished end.progress ≡ true → end.progress.arbitration.view.next ≡ length lines + 1
+-- a closed journal has the messages of all lines
+pub all_lines : (lines : List (List ℕ)) (journal : JournalState) → HasMessages (lines_input lines).entries journal →
+    AreSpelled lines journal.messages
+all_lines lines journal has = entries_spelled lines journal.messages has.read
 
--- a listener has ended in this way if the messages of the session are those of the lines
-pub has_come : {P E : Type 0} {reporting : Bool} {lines : List (List ℕ)} {first : ℕ} {end : ListenerState P} {result : Result ℕ E}
-    {old new : Option (List ℕ)} (journal : JournalState) (Came : List ℕ → Type 0) → AreSpelled lines journal.messages →
-    HasListened Lines journal Came first [] end.progress → (is_finished end.progress ≡ true → HasFinished journal end.progress) →
-    IfOk result (λ answer.
-    Appends old new (end.progress.outgoing.text ++ listened_lines reporting end) × (answer ≡ status end)) →
-    AppendsPrefix old new (end.progress.outgoing.text ++ listened_lines reporting end) → HasCome reporting lines first end result old new
-has_come {P} {E} {reporting} {lines} {first} {end} {result} {old} {new} journal Came spelled listened finished whole front =
-    let many : length lines ≡ length journal.messages = spelled_length lines journal.messages spelled in
+-- a journal that refuses a line has the messages of the lines before it
+pub lines_before : (lines : List (List ℕ)) (why : MessageRefusal) (journal : JournalState) →
+    HasMessagesBefore (lines_input lines) why journal →
+    AreSpelled (take (length journal.messages) lines) journal.messages
+lines_before lines why journal has =
+    entries_spelled (take (length journal.messages) lines) journal.messages
+    (sym (take-map line_entry (length journal.messages) lines) ∙ has.read)
+
+-- a listener may start at a line exactly when it may start at that message
+pub lines_within : (lines : List (List ℕ)) (journal : JournalState) (first : ℕ) → AreSpelled lines journal.messages →
+    first ≤ length lines + 1 → first ≤ length journal.messages + 1
+lines_within lines journal first spelled most =
+    let many = spelled_length lines journal.messages spelled in
+    omega (arith, many, most)
+
+-- ---- what is printed
+
+module _ {E : Type 0} {reporting : Bool} {first : ℕ} {result : Result ℕ E} {old new : Option (List ℕ)}
+    (lines : List (List ℕ)) (journal : JournalState) where
+  -- the messages of all lines are printed as the lines
+  pub prints_lines : AreSpelled lines journal.messages →
+      PrintsMessages Lines reporting journal first result old new → PrintsLines reporting lines first result old new
+  prints_lines spelled prints =
+      let many : length lines ≡ length journal.messages = spelled_length lines journal.messages spelled in
+      let same : handed_text Lines first (between journal.messages first prints.next)
+      ++ closing_text Lines reporting prints.reports prints.finished prints.next prints.known prints.failures
+      ≡ lines_text first (between lines first prints.next)
+      ++ closing_lines reporting prints.reports prints.finished prints.next prints.known prints.failures =
+      ap (λ (text : List ℕ). text
+      ++ closing_lines reporting prints.reports prints.finished prints.next prints.known prints.failures)
+      (text_between lines journal.messages first prints.next spelled) in
+      record {
+        next = prints.next;
+        finished = prints.finished;
+        known = prints.known;
+        failures = prints.failures;
+        reports = prints.reports;
+        from = prints.from;
+        to = omega (arith, many, prints.to);
+        ahead = prints.ahead;
+        received = omega (arith, many, prints.received);
+        all = λ over. let is = prints.all over in omega (arith, many, is);
+        text =
+            IfOk-weaker result _ _
+            (λ answer written. (written.0, subst (λ (t : List ℕ). Appends old new t) same written.1)) prints.text;
+        front = subst (λ (t : List ℕ). AppendsPrefix old new t) same prints.front;
+      }
+
+  -- the same if foreign bytes are refused
+  pub prints_lines_among : (Came : List ℕ → Type 0) → AreSpelled lines journal.messages →
+      PrintsMessagesAmong Lines reporting Came journal first result old new →
+      PrintsAmong reporting journal.session Came lines first result old new
+  prints_lines_among Came spelled prints =
+      let many : length lines ≡ length journal.messages = spelled_length lines journal.messages spelled in
+      record {
+        next = prints.next;
+        finished = prints.finished;
+        known = prints.known;
+        failures = prints.failures;
+        reports = prints.reports;
+        printed_lines = prints.printed_lines;
+        refused = prints.refused;
+        messages = prints.messages ∙ text_between lines journal.messages first prints.next spelled;
+        from = prints.from;
+        to = omega (arith, many, prints.to);
+        ahead = prints.ahead;
+        received = omega (arith, many, prints.received);
+        all = λ over. let is = prints.all over in omega (arith, many, is);
+        text = prints.text;
+        front = prints.front;
+      }
+
+  -- the messages before a refused line are printed as lines, and the listener does not finish
+  pub prints_open : (refused_at : ℕ) → refused_at ≡ length journal.messages + 1 → 1 ≤ first →
+      AreSpelled (take (length journal.messages) lines) journal.messages → journal.closed ≡ false →
+      PrintsMessages Lines reporting journal first result old new →
+      PrintsOpen reporting lines refused_at first result old new
+  prints_open refused_at many least spelled unclosed prints =
+      let count : ℕ = length journal.messages in
+      let unfinished : prints.finished ≡ false =
+      false_from_ne_true prints.finished (λ over. false≢true (sym unclosed ∙ prints.closed over)) in
+      let same : handed_text Lines first (between journal.messages first prints.next)
+      ++ closing_text Lines reporting prints.reports prints.finished prints.next prints.known prints.failures
+      ≡ lines_text first (between lines first prints.next)
+      ++ closing_lines reporting prints.reports false prints.next prints.known prints.failures =
+      ap (λ (text : List ℕ). text
+      ++ closing_lines reporting prints.reports prints.finished prints.next prints.known prints.failures)
+      (text_between (take count lines) journal.messages first prints.next spelled
+      ∙ ap (lines_text first) (between_front lines count first prints.next least prints.from prints.to))
+      ∙ ap (λ (finished : Bool). lines_text first (between lines first prints.next)
+      ++ closing_lines reporting prints.reports finished prints.next prints.known prints.failures) unfinished in
+      record {
+        next = prints.next;
+        known = prints.known;
+        failures = prints.failures;
+        reports = prints.reports;
+        from = prints.from;
+        to = omega (arith, many, prints.to);
+        ahead = prints.ahead;
+        received = omega (arith, many, prints.received);
+        text =
+            IfOk-weaker result _ _
+            (λ answer written. (
+              written.0 ∙ ap closing_status unfinished,
+              subst (λ (t : List ℕ). Appends old new t) same written.1,
+            ))
+            prints.text;
+        front = subst (λ (t : List ℕ). AppendsPrefix old new t) same prints.front;
+      }
+
+-- the messages before a refused line are printed as lines, and then the refusal
+pub prints_refused : {E : Type 0} {first : ℕ} {result : Result ℕ E} {old new : Option (List ℕ)}
+    (lines : List (List ℕ)) (messages : List Message) (why : MessageRefusal) (refused_at : ℕ) →
+    refused_at ≡ length messages + 1 → 1 ≤ first → AreSpelled (take (length messages) lines) messages →
+    PrintsMessagesRefused Lines messages why first result old new →
+    PrintsRefused lines refused_at why first result old new
+prints_refused {E} {first} {result} {old} {new} lines messages why refused_at many least spelled prints =
+    let count : ℕ = length messages in
+    let same : handed_text Lines first (between messages first prints.next) ++ refused_text (count + 1) why
+    ≡ lines_text first (between lines first prints.next) ++ refused_text refused_at why =
+    ap (λ (text : List ℕ). text ++ refused_text (count + 1) why)
+    (text_between (take count lines) messages first prints.next spelled
+    ∙ ap (lines_text first) (between_front lines count first prints.next least prints.from prints.to))
+    ∙ ap (λ (n : ℕ). lines_text first (between lines first prints.next) ++ refused_text n why) (sym many) in
     record {
-      plain = listened.kept;
-      whole = whole;
-      front = front;
-      from = listened.from;
-      to = omega (arith, many, listened.to);
-      ahead = listened.honest.well_formed.ahead;
-      received = omega (arith, many, listened.honest.known);
-      all = λ over. let is = (finished over).all in omega (arith, many, is);
+      next = prints.next;
+      from = prints.from;
+      to = omega (arith, many, prints.to);
+      text =
+          IfOk-weaker result _ _
+          (λ answer written. (written.0, subst (λ (t : List ℕ). Appends old new t) same written.1)) prints.text;
+      front = subst (λ (t : List ℕ). AppendsPrefix old new t) same prints.front;
     }
-
--- the text of the lines that were printed
-abbrev printed : {P : Type 0} → List (List ℕ) → ℕ → ListenerState P → List ℕ
-printed lines first end = lines_text first (between lines first end.progress.arbitration.view.next)
-
--- the text and the last lines are written, and the result is the status; after a fault a prefix of them is written
-written_of : {P E : Type 0} {reporting : Bool} {lines : List (List ℕ)} {first : ℕ} {end : ListenerState P}
-    {result : Result ℕ E} {old new : Option (List ℕ)} → HasCome reporting lines first end result old new →
-    (text : List ℕ) → end.progress.outgoing.text ≡ text →
-    IfOk result (λ answer. (answer ≡ closing_status (is_finished end.progress))
-    × Appends old new (text ++ end_lines reporting end.progress))
-    × AppendsPrefix old new (text ++ end_lines reporting end.progress)
-written_of {P} {E} {reporting} {lines} {first} {end} {result} {old} {new} come text is =
-    let same : end.progress.outgoing.text ++ listened_lines reporting end ≡ text ++ end_lines reporting end.progress =
-    ap (λ (t : List ℕ). t ++ listened_lines reporting end) is
-    ∙ ap (λ (f : MessageFormat). text ++ note_text f (last_note reporting end.progress)) come.plain
-    in (
-      IfOk-weaker result _ _
-          (λ answer written. (written.1, subst (λ (t : List ℕ). Appends old new t) same written.0)) come.whole,
-      subst (λ (t : List ℕ). AppendsPrefix old new t) same come.front,
-    )
-
--- a listener whose text is the lines printed the lines
-pub prints_lines : {P E : Type 0} {reporting : Bool} {lines : List (List ℕ)} {first : ℕ} {end : ListenerState P} {result : Result ℕ E}
-    {old new : Option (List ℕ)} → HasCome reporting lines first end result old new →
-    end.progress.outgoing.text ≡ printed lines first end → PrintsLines reporting lines first result old new
-prints_lines {P} {E} {reporting} {lines} {first} {end} {result} {old} {new} come is =
-    let written = written_of come (printed lines first end) is in
-    record {
-      next = end.progress.arbitration.view.next;
-      finished = is_finished end.progress;
-      known = end.progress.arbitration.view.known;
-      failures = end.progress.outgoing.failures;
-      reports = end.progress.arbitration.reports;
-      from = come.from;
-      to = come.to;
-      ahead = come.ahead;
-      received = come.received;
-      all = come.all;
-      text = written.0;
-      front = written.1;
-    }
-
--- a listener whose printed lines deliver the lines printed the lines with refusals between them
-pub prints_among : {P E : Type 0} {reporting : Bool} {lines : List (List ℕ)} {first : ℕ} {end : ListenerState P} {result : Result ℕ E}
-    {old new : Option (List ℕ)} (session : Session) (Came : List ℕ → Type 0) (printed_lines : List PrintedLine) →
-    HasCome reporting lines first end result old new →
-    AllByRecursion (RefusesForeign Came session) printed_lines → messages_text Lines printed_lines ≡ printed lines first end →
-    end.progress.outgoing.text ≡ printed_lines_text Lines printed_lines → PrintsAmong reporting session Came lines first result old new
-prints_among {P} {E} {reporting} {lines} {first} {end} {result} {old} {new} session Came printed_lines come refused messages is =
-    let written = written_of come (printed_lines_text Lines printed_lines) is in
-    record {
-      next = end.progress.arbitration.view.next;
-      finished = is_finished end.progress;
-      known = end.progress.arbitration.view.known;
-      failures = end.progress.outgoing.failures;
-      reports = end.progress.arbitration.reports;
-      printed_lines = printed_lines;
-      refused = refused;
-      messages = messages;
-      from = come.from;
-      to = come.to;
-      ahead = come.ahead;
-      received = come.received;
-      all = come.all;
-      text = written.0;
-      front = written.1;
-    }
-
--- what a listener received of the session is lines with refusals between them
-pub listened_among : {P E : Type 0} {reporting : Bool} {lines : List (List ℕ)} {first : ℕ} {end : ListenerState P} {result : Result ℕ E}
-    {old new : Option (List ℕ)} (journal : JournalState) (Came : List ℕ → Type 0) → AreSpelled lines journal.messages →
-    HasListened Lines journal Came first [] end.progress → HasCome reporting lines first end result old new →
-    PrintsAmong reporting journal.session Came lines first result old new
-listened_among {P} {E} {reporting} {lines} {first} {end} journal Came spelled listened come =
-    prints_among journal.session Came listened.printed_lines come listened.refused
-    (lines_said lines journal.messages listened.printed_lines first end.progress.arbitration.view.next spelled listened.handed)
-    listened.text

@@ -11,6 +11,7 @@ use Rattle.hex.specs.Hex.{decode_of, decode_pairs, digit_or_error, encode_lower,
 use Rattle.hex.specs.Hex.{pair_value, value_at, ◌>>=◌}
 use Rattle.hex.specs.declared.error.FromHexError.{FromHexError}
 use Rattle.mold_feed.specs.Received.{PrintedLine, Handed, Refuses, handed_of, lines_text, lower_digit, messages_text, printed_lines_text, shown}
+use Rattle.mold_input.specs.Entries.{Entry, digits_entry, line_entry}
 use Rattle.mold_input.specs.declared.message_format.MessageFormat.{MessageFormat}
 use Rattle.mold_input.specs.declared.message_format.MessageFormat.TheVariants.{Lines}
 use Rattle.mold_listen.specs.Text.{handed_text, message_text}
@@ -111,6 +112,25 @@ digits_shown (digit ∷ line) (byte ∷ message) is =
 abbrev pub AreSpelled : List (List ℕ) → List Message → Type 0
 AreSpelled lines messages = map decode_of lines ≡ map Ok messages
 
+-- a line whose entry is a message encodes this message
+entry_spelled : (digits : Result (List ℕ) FromHexError) (message : List ℕ) → digits_entry digits ≡ Ok message →
+    digits ≡ Ok message
+entry_spelled (Ok found) message is = ap Ok (ap (λ (entry : Entry). result_unwrap_or entry []) is)
+entry_spelled (Err why) message is = let no : ⊥ = cc in absurd no
+
+-- lines whose entries are messages encode these messages
+pub entries_spelled : (lines : List (List ℕ)) (messages : List Message) → map line_entry lines ≡ map Ok messages →
+    AreSpelled lines messages
+entries_spelled [] [] is = refl
+entries_spelled [] (message ∷ messages) is = let no : ⊥ = cc in absurd no
+entries_spelled (line ∷ lines) [] is = let no : ⊥ = cc in absurd no
+entries_spelled (line ∷ lines) (message ∷ messages) is =
+    let first : line_entry line ≡ Ok message = cc in
+    let behind : map line_entry lines ≡ map Ok messages = cc in
+    ap (λ (digits : Result (List ℕ) FromHexError). digits ∷ map decode_of lines)
+    (entry_spelled (decode_of line) message first)
+    ∙ ap (λ (rest : List (Result (List ℕ) FromHexError)). Ok message ∷ rest) (entries_spelled lines messages behind)
+
 -- there are as many messages as lines
 pub spelled_length : (lines : List (List ℕ)) (messages : List Message) → AreSpelled lines messages →
     length lines ≡ length messages
@@ -189,11 +209,3 @@ all_messages format Q none (Handed number message ∷ printed_lines) each =
     ap (λ (text : List ℕ). message_text format number message ++ text)
     (all_messages format Q none printed_lines each.1)
 all_messages format Q none (Refuses bytes why ∷ printed_lines) each = absurd (none bytes why each.0)
-
--- the messages among a listener's printed lines are the lines
-pub lines_said : (lines : List (List ℕ)) (messages : List Message) (printed_lines : List PrintedLine) (first next : ℕ) →
-    AreSpelled lines messages → handed_of printed_lines ≡ numbered first (between messages first next) →
-    messages_text Lines printed_lines ≡ lines_text first (between lines first next)
-lines_said lines messages printed_lines first next spelled handed =
-    messages_said Lines printed_lines first (between messages first next) handed
-    ∙ text_between lines messages first next spelled

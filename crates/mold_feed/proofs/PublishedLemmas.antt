@@ -1,13 +1,11 @@
--- Everything that publishing lines sends is true of the journal that is left.
+-- Everything that publishing an input sends is true of the journal that is left.
 use Rattle.std.proofs.Common.{◌≡◌, ℕ, zero, suc, ◌+◌, ◌-◌, ◌≤◌, true, false, List, [], ◌∷◌, ◌++◌, length, take, map, replicate}
 use Rattle.std.proofs.Common.{Option, None, Some, Result, Ok, Err, refl, sym, ap, subst, ◌∙◌, append_assoc, append-nil}
 use Rattle.std.proofs.Common.{arith, length-append}
 use Rattle.std.specs.Prelude.{slice_get}
 use Rattle.std.specs.List.{AllByRecursion}
-use Rattle.std.proofs.lemmas.List.{length-take-le, map-append, take_all}
+use Rattle.std.proofs.lemmas.List.{length-map, length-take-le, map-append, take_all}
 use Rattle.std.proofs.lemmas.Option.{none-some, slice_get_within}
-use Rattle.hex.specs.Hex.{decode_of}
-use Rattle.hex.specs.declared.error.FromHexError.{FromHexError}
 use Rattle.mold_devices.specs.declared.fault.CommandFault.{CommandFault}
 use Rattle.mold_ports.specs.Ports.{Port}
 use Rattle.mold_wire.specs.Packer.{IsLimit}
@@ -20,19 +18,19 @@ use Rattle.mold_session.specs.Journal.{IsJournal, IsWithin, JournalState, append
 use Rattle.mold_session.specs.Publisher.{MayPublish, PublisherState}
 use Rattle.mold_session.specs.Truthful.{MayAnswer, IsTrueDatagram}
 use Rattle.mold_session.specs.declared.error.AppendError.{AppendError}
-use Rattle.mold_publish.specs.Publishing.{PublishedInput, line_outcome, lines_published, published_from, unless_refused}
+use Rattle.mold_publish.specs.Publishing.{PublishedInput, entries_published, entry_outcome, input_published, published_from}
+use Rattle.mold_publish.specs.Publishing.{unless_refused}
 use Rattle.mold_publish.specs.Sending.{all_but_last, end_packet, packets_after, packets_before}
 use Rattle.mold_publish.specs.declared.message_refusal.MessageRefusal.{MessageRefusal}
 use Rattle.mold_publish.specs.declared.refusal_reason.RefusalReason.TheVariants.{NotRead, NotTaken}
-use Rattle.mold_input.specs.declared.input_fault.InputFault.TheVariants.{NotHex}
+use Rattle.mold_input.specs.Entries.{Entry, InputEntries}
 use Rattle.mold_input.specs.declared.input_kind.InputKind.{InputKind}
 use Rattle.mold_input.specs.declared.input_kind.InputKind.TheVariants.{Lines, Blocks}
-use Rattle.mold_publish.proofs.DatagramLemmas.{grown_lines}
+use Rattle.mold_publish.proofs.DatagramLemmas.{grown}
 use Rattle.mold_turns.specs.Outgoing.{nothing_out}
 use Rattle.mold_send.specs.PublishLoop.{PublicationState, PublishRun, Sends, all_datagrams, beat_packet, both}
 use Rattle.mold_send.specs.PublishLoop.{close_datagrams, closed_unless, left_journal, offer, publication_of}
-use Rattle.mold_feed.specs.Sent.{AllSent, HasLines, HasLinesBefore, IsOpening}
-use Rattle.mold_feed.proofs.LinesTextLemmas.{spelled_length}
+use Rattle.mold_feed.specs.Sent.{AllSent, HasMessages, HasMessagesBefore, IsOpening}
 use Rattle.mold_feed.proofs.SentLemmas.{each_append, sent_front, sent_offered}
 
 -- the laws of the session that are used here
@@ -44,38 +42,41 @@ pub record PublishedLaws : Type 0 where
       plan.session ≡ journal.session → slice_get (planned journal.messages limit plan) index ≡ Some packet →
       IsTrueDatagram journal (spelling_of packet)
 
--- ---- the lines
+-- ---- the entries
 
--- what lines of digits decode to, if they decode to these messages
-abbrev as_spelled : List (List ℕ) → List (Result (List ℕ) FromHexError)
-as_spelled messages = map Ok messages
+-- the entries of these messages
+abbrev as_entries : List (List ℕ) → List Entry
+as_entries messages = map Ok messages
 
--- lines were published up to this one: all of them, or those before one that is refused
-record StopsAt (lines : List (List ℕ)) (count : ℕ) (why : MessageRefusal) (journal : JournalState) : Type 0 where
-  pub line : List ℕ
-  pub found : slice_get lines count ≡ Some line
-  pub refused : line_outcome journal (decode_of line) ≡ Err why
+-- entries were published up to this one, which is refused
+record StopsAt (kind : InputKind) (entries : List Entry) (count : ℕ) (why : MessageRefusal) (journal : JournalState) :
+    Type 0 where
+  pub entry : Entry
+  pub found : slice_get entries count ≡ Some entry
+  pub refused : entry_outcome kind journal entry ≡ Err why
 
-abbrev EndsAt : List (List ℕ) → ℕ → JournalState → Option MessageRefusal → Type 0
-EndsAt lines count journal None = count ≡ length lines
-EndsAt lines count journal (Some why) = StopsAt lines count why journal
+-- entries were published up to this one: all of them, or those before one that is refused
+abbrev EndsAt : InputKind → List Entry → ℕ → JournalState → Option MessageRefusal → Type 0
+EndsAt kind entries count journal None = count ≡ length entries
+EndsAt kind entries count journal (Some why) = StopsAt kind entries count why journal
 
--- the same with one more line before them
-ends_behind : (line : List ℕ) (lines : List (List ℕ)) (count : ℕ) (journal : JournalState)
-    (refused : Option MessageRefusal) → EndsAt lines count journal refused →
-    EndsAt (line ∷ lines) (suc count) journal refused
-ends_behind line lines count journal None ends = ap suc ends
-ends_behind line lines count journal (Some why) ends =
-    record { line = ends.line; found = ends.found; refused = ends.refused }
+-- the same with one more entry before them
+ends_behind : (kind : InputKind) (entry : Entry) (entries : List Entry) (count : ℕ) (journal : JournalState)
+    (refused : Option MessageRefusal) → EndsAt kind entries count journal refused →
+    EndsAt kind (entry ∷ entries) (suc count) journal refused
+ends_behind kind entry entries count journal None ends = ap suc ends
+ends_behind kind entry entries count journal (Some why) ends =
+    record { entry = ends.entry; found = ends.found; refused = ends.refused }
 
--- lines were published: the journal is still a journal with the same longest message; the messages of the first lines
--- follow those that it had
-record HasTaken (journal : JournalState) (lines : List (List ℕ)) (after : PublishedInput) : Type 0 where
+-- entries were published: the journal is still a journal with the same longest message; the messages of the first
+-- entries follow those that it had
+record HasTaken (kind : InputKind) (journal : JournalState) (entries : List Entry) (after : PublishedInput) :
+    Type 0 where
   pub is : IsJournal after.journal
   pub longest : after.journal.max_message ≡ journal.max_message
   pub count : ℕ
-  pub spelled : as_spelled journal.messages ++ map decode_of (take count lines) ≡ as_spelled after.journal.messages
-  pub ends : EndsAt lines count after.journal after.refused
+  pub read : as_entries journal.messages ++ take count entries ≡ as_entries after.journal.messages
+  pub ends : EndsAt kind entries count after.journal after.refused
   pub closed : after.journal.closed ≡ journal.closed
 
 module _ (laws : PublishedLaws) where
@@ -91,71 +92,69 @@ module _ (laws : PublishedLaws) where
             each_append (IsWithin journal.max_message) journal.messages (message ∷ []) is.each (may.short, tt);
       }
 
-  -- a line that is refused
-  line_refused : (journal : JournalState) (line : List ℕ) (lines : List (List ℕ)) (why : MessageRefusal) →
-      IsJournal journal → line_outcome journal (decode_of line) ≡ Err why →
-      HasTaken journal (line ∷ lines) (record { journal = journal; refused = Some why })
-  line_refused journal line lines why is refused = record {
+  -- an entry that is refused
+  entry_refused : (kind : InputKind) (journal : JournalState) (entry : Entry) (entries : List Entry)
+      (why : MessageRefusal) → IsJournal journal → entry_outcome kind journal entry ≡ Err why →
+      HasTaken kind journal (entry ∷ entries) (record { journal = journal; refused = Some why })
+  entry_refused kind journal entry entries why is refused = record {
     is = is;
     longest = refl;
     count = 0;
-    spelled = append-nil (as_spelled journal.messages);
-    ends = record { line = line; found = refl; refused = refused };
+    read = append-nil (as_entries journal.messages);
+    ends = record { entry = entry; found = refl; refused = refused };
     closed = refl;
   }
 
-  -- one more line, whose message is appended or refused
-  message_taken : (journal : JournalState) (line : List ℕ) (lines : List (List ℕ)) (message : List ℕ)
+  -- one more message, which is appended or refused
+  message_taken : (kind : InputKind) (journal : JournalState) (entries : List Entry) (message : List ℕ)
       (refusal : Option AppendError) (behind : JournalState → PublishedInput) → IsJournal journal →
-      decode_of line ≡ Ok message → append_refusal journal message ≡ refusal →
-      ((next : JournalState) → IsJournal next → HasTaken next lines (behind next)) →
-      HasTaken journal (line ∷ lines) (published_from journal (unless_refused Lines message refusal) behind)
-  message_taken journal line lines message None behind is digits none each =
+      append_refusal journal message ≡ refusal →
+      ((next : JournalState) → IsJournal next → HasTaken kind next entries (behind next)) →
+      HasTaken kind journal (Ok message ∷ entries) (published_from journal (unless_refused kind message refusal) behind)
+  message_taken kind journal entries message None behind is none each =
       let next : JournalState = appended journal message in
       let rest = each next (journal_stays journal message is none) in
-      let front : List (List ℕ) = take rest.count lines in
+      let front : List Entry = take rest.count entries in
       record {
         is = rest.is;
         longest = rest.longest;
         count = suc rest.count;
-        spelled =
-            ap (λ (one : Result (List ℕ) FromHexError). as_spelled journal.messages ++ one ∷ map decode_of front) digits
-            ∙ sym (append_assoc (as_spelled journal.messages) (Ok message ∷ []) (map decode_of front))
-            ∙ ap (λ (spelled : List (Result (List ℕ) FromHexError)). spelled ++ map decode_of front)
-            (sym (map-append Ok journal.messages (message ∷ [])))
-            ∙ rest.spelled;
-        ends = ends_behind line lines rest.count (behind next).journal (behind next).refused rest.ends;
+        read =
+            sym (append_assoc (as_entries journal.messages) (Ok message ∷ []) front)
+            ∙ ap (λ (read : List Entry). read ++ front) (sym (map-append Ok journal.messages (message ∷ [])))
+            ∙ rest.read;
+        ends = ends_behind kind (Ok message) entries rest.count (behind next).journal (behind next).refused rest.ends;
         closed = rest.closed;
       }
-  message_taken journal line lines message (Some why) behind is digits refused each =
-      line_refused journal line lines (record { kind = Lines; why = NotTaken why }) is
-      (ap (line_outcome journal) digits ∙ ap (unless_refused Lines message) refused)
+  message_taken kind journal entries message (Some why) behind is refused each =
+      entry_refused kind journal (Ok message) entries (record { kind = kind; why = NotTaken why }) is
+      (ap (unless_refused kind message) refused)
 
-  -- one more line, whose digits encode a message or do not
-  line_taken : (journal : JournalState) (line : List ℕ) (lines : List (List ℕ))
-      (digits : Result (List ℕ) FromHexError) (behind : JournalState → PublishedInput) →
-      IsJournal journal → decode_of line ≡ digits →
-      ((next : JournalState) → IsJournal next → HasTaken next lines (behind next)) →
-      HasTaken journal (line ∷ lines) (published_from journal (line_outcome journal digits) behind)
-  line_taken journal line lines (Ok message) behind is digits each =
-      message_taken journal line lines message (append_refusal journal message) behind is digits refl each
-  line_taken journal line lines (Err _) behind is digits each =
-      line_refused journal line lines (record { kind = Lines; why = NotRead NotHex }) is (ap (line_outcome journal) digits)
+  -- one more entry, which is a message or not
+  entry_taken : (kind : InputKind) (journal : JournalState) (entry : Entry) (entries : List Entry)
+      (behind : JournalState → PublishedInput) → IsJournal journal →
+      ((next : JournalState) → IsJournal next → HasTaken kind next entries (behind next)) →
+      HasTaken kind journal (entry ∷ entries) (published_from journal (entry_outcome kind journal entry) behind)
+  entry_taken kind journal (Ok message) entries behind is each =
+      message_taken kind journal entries message (append_refusal journal message) behind is refl each
+  entry_taken kind journal (Err why) entries behind is each =
+      entry_refused kind journal (Err why) entries (record { kind = kind; why = NotRead why }) is refl
 
-  -- all lines
-  lines_taken : (lines : List (List ℕ)) (journal : JournalState) → IsJournal journal →
-      HasTaken journal lines (lines_published journal lines)
-  unfolding lines_published
-  lines_taken [] journal is = record {
+  -- all entries
+  entries_taken : (kind : InputKind) (entries : List Entry) (journal : JournalState) → IsJournal journal →
+      HasTaken kind journal entries (entries_published kind journal entries)
+  unfolding entries_published
+  entries_taken kind [] journal is = record {
     is = is;
     longest = refl;
     count = 0;
-    spelled = append-nil (as_spelled journal.messages);
+    read = append-nil (as_entries journal.messages);
     ends = refl;
     closed = refl;
   }
-  lines_taken (line ∷ lines) journal is =
-      line_taken journal line lines (decode_of line) (λ next. lines_published next lines) is refl (lines_taken lines)
+  entries_taken kind (entry ∷ entries) journal is =
+      entry_taken kind journal entry entries (λ next. entries_published kind next entries) is
+      (entries_taken kind entries)
 
 -- a new session has a journal
 opening_is : (journal : JournalState) (limit : ℕ) → IsOpening journal limit → IsJournal journal
@@ -167,62 +166,61 @@ opening_is journal limit is =
           (sym is.empty) tt;
     }
 
--- if the journal had no messages, the first lines encode the messages that it has now
-opening_spelled : (journal : JournalState) (lines : List (List ℕ)) (after : PublishedInput) (count : ℕ) →
+-- if the journal had no messages, the first entries are the messages that it has now
+opening_read : (journal : JournalState) (entries : List Entry) (after : PublishedInput) (count : ℕ) →
     journal.messages ≡ [] →
-    as_spelled journal.messages ++ map decode_of (take count lines) ≡ as_spelled after.journal.messages →
-    map decode_of (take count lines) ≡ as_spelled after.journal.messages
-opening_spelled journal lines after count empty spelled =
-    ap (λ (messages : List (List ℕ)). as_spelled messages ++ map decode_of (take count lines)) (sym empty) ∙ spelled
+    as_entries journal.messages ++ take count entries ≡ as_entries after.journal.messages →
+    take count entries ≡ as_entries after.journal.messages
+opening_read journal entries after count empty read =
+    ap (λ (messages : List (List ℕ)). as_entries messages ++ take count entries) (sym empty) ∙ read
 
--- if no line is refused, these are all lines
-all_spelled : (lines : List (List ℕ)) (count : ℕ) (journal : JournalState) (refused : Option MessageRefusal) →
-    map decode_of (take count lines) ≡ as_spelled journal.messages → EndsAt lines count journal refused →
-    refused ≡ None → HasLines lines (closed_unless refused journal)
-all_spelled lines count journal None spelled ends whole = record {
+-- if no entry is refused, these are all entries
+all_read : (kind : InputKind) (entries : List Entry) (count : ℕ) (journal : JournalState)
+    (refused : Option MessageRefusal) → take count entries ≡ as_entries journal.messages →
+    EndsAt kind entries count journal refused → refused ≡ None → HasMessages entries (closed_unless refused journal)
+all_read kind entries count journal None read ends whole = record {
   closed = refl;
-  spelled =
-      ap (λ (ls : List (List ℕ)). map decode_of ls)
-      (sym (take_all count lines (omega (arith, ends))))
-      ∙ spelled;
+  read = sym (take_all count entries (omega (arith, ends))) ∙ read;
 }
-all_spelled lines count journal (Some why) spelled ends whole = absurd (none-some why (sym whole))
+all_read kind entries count journal (Some why) read ends whole = absurd (none-some why (sym whole))
 
-pub lines_spelled : (laws : PublishedLaws) (limit : ℕ) (journal : JournalState) (lines : List (List ℕ)) →
-    IsOpening journal limit → (lines_published journal lines).refused ≡ None →
-    HasLines lines (left_journal (lines_published journal lines))
-lines_spelled laws limit journal lines is whole =
-    let after = lines_published journal lines in
-    let taken = lines_taken laws lines journal (opening_is journal limit is) in
-    all_spelled lines taken.count after.journal after.refused
-    (opening_spelled journal lines after taken.count is.empty taken.spelled) taken.ends whole
+pub entries_read : (laws : PublishedLaws) (limit : ℕ) (journal : JournalState) (input : InputEntries) →
+    IsOpening journal limit → (input_published journal input).refused ≡ None →
+    HasMessages input.entries (left_journal (input_published journal input))
+entries_read laws limit journal input is whole =
+    let after = input_published journal input in
+    let taken = entries_taken laws input.kind input.entries journal (opening_is journal limit is) in
+    all_read input.kind input.entries taken.count after.journal after.refused
+    (opening_read journal input.entries after taken.count is.empty taken.read) taken.ends whole
 
--- if a line is refused, these are the lines before it
-some_spelled : (lines : List (List ℕ)) (count : ℕ) (journal : JournalState) (why : MessageRefusal) →
-    map decode_of (take count lines) ≡ as_spelled journal.messages → StopsAt lines count why journal →
-    journal.closed ≡ false → HasLinesBefore lines why journal
-some_spelled lines count journal why spelled stops unclosed =
-    let within = slice_get_within lines count stops.line stops.found in
-    let as_many = spelled_length (take count lines) journal.messages spelled in
-    let long : length (take count lines) ≡ count = length-take-le count lines (omega (arith, within)) in
+-- if an entry is refused, these are the entries before it
+some_read : (input : InputEntries) (count : ℕ) (journal : JournalState) (why : MessageRefusal) →
+    take count input.entries ≡ as_entries journal.messages → StopsAt input.kind input.entries count why journal →
+    journal.closed ≡ false → HasMessagesBefore input why journal
+some_read input count journal why read stops unclosed =
+    let within = slice_get_within input.entries count stops.entry stops.found in
+    let as_many : length (take count input.entries) ≡ length journal.messages =
+    ap (λ (entries : List Entry). length entries) read ∙ length-map journal.messages Ok in
+    let long : length (take count input.entries) ≡ count = length-take-le count input.entries (omega (arith, within)) in
     let many : count ≡ length journal.messages = omega (arith, as_many, long) in
     record {
-      line = stops.line;
-      found = ap (slice_get lines) (sym many) ∙ stops.found;
+      entry = stops.entry;
+      found = ap (slice_get input.entries) (sym many) ∙ stops.found;
       refused = stops.refused;
-      spelled = ap (λ (n : ℕ). map decode_of (take n lines)) (sym many) ∙ spelled;
+      read = ap (λ (n : ℕ). take n input.entries) (sym many) ∙ read;
       unclosed = unclosed;
     }
 
-pub lines_spelled_before : (laws : PublishedLaws) (limit : ℕ) (journal : JournalState) (lines : List (List ℕ))
-    (why : MessageRefusal) → IsOpening journal limit → (lines_published journal lines).refused ≡ Some why →
-    HasLinesBefore lines why (lines_published journal lines).journal
-lines_spelled_before laws limit journal lines why is stopped =
-    let after = lines_published journal lines in
-    let taken = lines_taken laws lines journal (opening_is journal limit is) in
-    some_spelled lines taken.count after.journal why
-    (opening_spelled journal lines after taken.count is.empty taken.spelled)
-    (subst (λ (refused : Option MessageRefusal). EndsAt lines taken.count after.journal refused) stopped taken.ends)
+pub entries_read_before : (laws : PublishedLaws) (limit : ℕ) (journal : JournalState) (input : InputEntries)
+    (why : MessageRefusal) → IsOpening journal limit → (input_published journal input).refused ≡ Some why →
+    HasMessagesBefore input why (input_published journal input).journal
+entries_read_before laws limit journal input why is stopped =
+    let after = input_published journal input in
+    let taken = entries_taken laws input.kind input.entries journal (opening_is journal limit is) in
+    some_read input taken.count after.journal why
+    (opening_read journal input.entries after taken.count is.empty taken.read)
+    (subst (λ (refused : Option MessageRefusal). EndsAt input.kind input.entries taken.count after.journal refused)
+    stopped taken.ends)
     (taken.closed ∙ is.unclosed)
 
 -- ---- a server may answer from it
@@ -238,24 +236,24 @@ left_may None journal limit may = record {
 }
 left_may (Some why) journal limit may = may
 
-taken_may : (laws : PublishedLaws) (limit other : ℕ) (journal : JournalState) (lines : List (List ℕ)) →
+taken_may : (laws : PublishedLaws) (limit other : ℕ) (journal : JournalState) (input : InputEntries) →
     IsOpening journal limit → IsLimit other → journal.max_message + 22 ≤ other →
-    MayAnswer (lines_published journal lines).journal other
-taken_may laws limit other journal lines is limited room =
-    let taken = lines_taken laws lines journal (opening_is journal limit is) in
+    MayAnswer (input_published journal input).journal other
+taken_may laws limit other journal input is limited room =
+    let taken = entries_taken laws input.kind input.entries journal (opening_is journal limit is) in
     record {
       journaled = taken.is;
-      named = subst (λ (session : Session). length session.0 ≡ 10) (sym (grown_lines lines journal).session) is.named;
+      named = subst (λ (session : Session). length session.0 ≡ 10) (sym (grown input journal).session) is.named;
       limited = limited;
       room = omega (arith, taken.longest, room);
     }
 
-pub published_may : (laws : PublishedLaws) (limit other : ℕ) (journal : JournalState) (lines : List (List ℕ)) →
+pub published_may : (laws : PublishedLaws) (limit other : ℕ) (journal : JournalState) (input : InputEntries) →
     IsOpening journal limit → IsLimit other → journal.max_message + 22 ≤ other →
-    MayAnswer (left_journal (lines_published journal lines)) other
-published_may laws limit other journal lines is limited room =
-    let after = lines_published journal lines in
-    left_may after.refused after.journal other (taken_may laws limit other journal lines is limited room)
+    MayAnswer (left_journal (input_published journal input)) other
+published_may laws limit other journal input is limited room =
+    let after = input_published journal input in
+    left_may after.refused after.journal other (taken_may laws limit other journal input is limited room)
 
 -- ---- its datagrams are true
 
@@ -359,13 +357,13 @@ all_true laws limit beats ends (Some refusal) journal may =
     (data_true laws limit journal may)) tt
 
 -- all datagrams that are offered
-pub offered_true : (laws : PublishedLaws) (beats ends limit : ℕ) (journal : JournalState) (lines : List (List ℕ)) →
-    IsOpening journal limit → AllByRecursion (IsTrueDatagram (left_journal (lines_published journal lines)))
-    (all_datagrams limit beats ends (lines_published journal lines))
-offered_true laws beats ends limit journal lines is =
-    let published = lines_published journal lines in
+pub offered_true : (laws : PublishedLaws) (beats ends limit : ℕ) (journal : JournalState) (input : InputEntries) →
+    IsOpening journal limit → AllByRecursion (IsTrueDatagram (left_journal (input_published journal input)))
+    (all_datagrams limit beats ends (input_published journal input))
+offered_true laws beats ends limit journal input is =
+    let published = input_published journal input in
     all_true laws limit beats ends published.refused published.journal
-    (taken_may laws limit limit journal lines is is.limited is.longest)
+    (taken_may laws limit limit journal input is is.limited is.longest)
 
 -- ---- what was sent of them
 
@@ -384,16 +382,16 @@ sends_true Good (letter ∷ letters) old new sends had each =
     (sent_offered Good sends.0 letter.0 letter.1 old.port had each.0) each.1
 
 pub published_true : {P : Type 0} (laws : PublishedLaws) (a b : P) (beats ends limit : ℕ) (journal : JournalState)
-    (lines : List (List ℕ)) (result : Result ℕ CommandFault) (before after : Port P)
+    (input : InputEntries) (result : Result ℕ CommandFault) (before after : Port P)
     (text_old text_new file_old file_new : Option (List ℕ)) → IsOpening journal limit →
-    PublishRun a b beats ends limit (lines_published journal lines) result before after text_old text_new file_old
+    PublishRun a b beats ends limit (input_published journal input) result before after text_old text_new file_old
     file_new →
-    AllSent (IsTrueDatagram (left_journal (lines_published journal lines))) before.sent →
-    AllSent (IsTrueDatagram (left_journal (lines_published journal lines))) after.sent
-published_true laws a b beats ends limit journal lines result before after text_old text_new file_old file_new is run had =
-    let published = lines_published journal lines in
+    AllSent (IsTrueDatagram (left_journal (input_published journal input))) before.sent →
+    AllSent (IsTrueDatagram (left_journal (input_published journal input))) after.sent
+published_true laws a b beats ends limit journal input result before after text_old text_new file_old file_new is run had =
+    let published = input_published journal input in
     let Good : List ℕ → Type 0 = IsTrueDatagram (left_journal published) in
     let datagrams = all_datagrams limit beats ends published in
     sent_front Good after.sent run.end.port.sent run.sent_front
     (sends_true Good (both a b datagrams) (publication_of before nothing_out) run.end run.sends had
-    (each_both Good a b datagrams (offered_true laws beats ends limit journal lines is)))
+    (each_both Good a b datagrams (offered_true laws beats ends limit journal input is)))

@@ -4,6 +4,7 @@ use Rattle.std.specs.Prelude.{List, [], ◌∷◌, ◌++◌, codes, decimal, len
 use Rattle.std.specs.Io.KnownBytes.{Appends}
 use Rattle.std.specs.List.{AllByRecursion, Contains, flat_map}
 use Rattle.mold_devices.specs.Devices.{AppendsPrefix}
+use Rattle.mold_input.specs.Entries.{InputEntries}
 use Rattle.mold_input.specs.declared.message_format.MessageFormat.{MessageFormat}
 use Rattle.mold_input.specs.declared.message_format.MessageFormat.TheVariants.{Lines}
 use Rattle.mold_ports.specs.Ports.{Port, Receipt, Datagram, Quiet, Failure}
@@ -28,7 +29,7 @@ use Rattle.mold_wire.specs.declared.packet.Packet.{Packet}
 use Rattle.mold_wire.specs.declared.session.Session.{Session}
 use Rattle.mold_listen.specs.Listening.{Progress, ListenerState}
 use Rattle.mold_feed.specs.Sent.{IsSent}
-use Rattle.mold_listen.specs.Text.{finished_line, message_text, open_line, reports_text}
+use Rattle.mold_listen.specs.Text.{finished_line, handed_text, message_text, open_line, reports_text}
 use Rattle.mold_turns.specs.Outgoing.{note_text}
 use Rattle.mold_wire.specs.declared.limits.TheConstants.{MAX_LIMIT}
 
@@ -40,10 +41,10 @@ IsForeign session bytes = IsBytes bytes × AreForeign session bytes
 abbrev pub IsHarmless : JournalState → List ℕ → Type 0
 IsHarmless journal bytes = IsTrueDatagram journal bytes ⊎ IsForeign journal.session bytes
 
--- The bytes were sent by the publisher of these lines or by one of its servers, or do not encode a packet of the
+-- The bytes were sent by the publisher of this input or by one of its servers, or do not encode a packet of the
 -- session.
-abbrev pub IsFed : (P : Type 0) → JournalState → ℕ → List (List ℕ) → List ℕ → Type 0
-IsFed P journal limit lines bytes = IsSent P journal limit lines bytes ⊎ IsForeign journal.session bytes
+abbrev pub IsFed : (P : Type 0) → JournalState → ℕ → InputEntries → List ℕ → Type 0
+IsFed P journal limit input bytes = IsSent P journal limit input bytes ⊎ IsForeign journal.session bytes
 
 -- If the receive gives a datagram, then the first 65,507 bytes of that datagram satisfy `Good`.
 abbrev pub Gives : {P : Type 0} → (List ℕ → Type 0) → Receipt P → Type 0
@@ -161,6 +162,87 @@ abbrev pub closing_lines : Bool → LineReports → Bool → ℕ → ℕ → ℕ
 closing_lines reporting reports finished next known failures =
     reports_text reporting reports known ++ closing_line finished next known failures
 
+-- The last lines of a listener on standard output. There are none if it prints blocks.
+abbrev pub closing_text : MessageFormat → Bool → LineReports → Bool → ℕ → ℕ → ℕ → List ℕ
+closing_text format reporting reports finished next known failures =
+    note_text format (closing_lines reporting reports finished next known failures)
+
+-- The text of those printed lines that deliver a message.
+abbrev pub messages_text : MessageFormat → List PrintedLine → List ℕ
+messages_text format [] = []
+messages_text format (Handed number message ∷ printed_lines) =
+    message_text format number message ++ messages_text format printed_lines
+messages_text format (Refuses bytes why ∷ printed_lines) = messages_text format printed_lines
+
+-- What a listener that started at message `first` has written to standard output: the journal's messages from there to
+-- `next - 1` in this format, and its last lines. With status 0 the session is closed and all of its messages are
+-- printed. After a fault, a prefix of such a text is written.
+pub record PrintsMessages {E : Type 0} (format : MessageFormat) (reporting : Bool) (journal : JournalState)
+    (first : ℕ) (result : Result ℕ E) (old new : Option (List ℕ)) : Type 0 where
+  -- the number of the next message to deliver
+  pub next : ℕ
+  pub finished : Bool
+  -- the greatest top that the listener knows
+  pub known : ℕ
+  -- the count of failed sends and receives
+  pub failures : ℕ
+  -- what was received on lines A and B
+  pub reports : LineReports
+  pub from : first ≤ next
+  pub to : next ≤ length journal.messages + 1
+  -- the listener does not deliver more than it knows of
+  pub ahead : next ≤ known
+  -- the listener knows only of published messages
+  pub received : known ≤ length journal.messages + 1
+  -- a listener finishes only if the session is closed
+  pub closed : finished ≡ true → journal.closed ≡ true
+  -- a listener that has finished printed every message
+  pub all : finished ≡ true → next ≡ length journal.messages + 1
+  -- after a success, the whole text is written
+  pub text : IfOk result (λ status. (status ≡ closing_status finished) × Appends old new
+      (handed_text format first (between journal.messages first next)
+      ++ closing_text format reporting reports finished next known failures))
+  -- in any case, a prefix of the text is written
+  pub front : AppendsPrefix old new
+      (handed_text format first (between journal.messages first next)
+      ++ closing_text format reporting reports finished next known failures)
+
+-- What a listener that started at message `first` has written to standard output, if its ports may also give foreign
+-- bytes. Such bytes do not encode a packet of the session. The text is as for `PrintsMessages`, but among lines of
+-- messages there may be lines that refuse such bytes.
+pub record PrintsMessagesAmong {E : Type 0} (format : MessageFormat) (reporting : Bool) (Came : List ℕ → Type 0)
+    (journal : JournalState) (first : ℕ) (result : Result ℕ E) (old new : Option (List ℕ)) : Type 0 where
+  -- the number of the next message to deliver
+  pub next : ℕ
+  pub finished : Bool
+  -- the greatest top that the listener knows
+  pub known : ℕ
+  -- the count of failed sends and receives
+  pub failures : ℕ
+  -- what was received on lines A and B
+  pub reports : LineReports
+  -- what was printed before the last lines
+  pub printed_lines : List PrintedLine
+  -- each refusal is of received bytes that do not encode a packet of the session
+  pub refused : AllByRecursion (RefusesForeign Came journal.session) printed_lines
+  -- without the refusals, the text is that of the published messages
+  pub messages : messages_text format printed_lines ≡ handed_text format first (between journal.messages first next)
+  pub from : first ≤ next
+  pub to : next ≤ length journal.messages + 1
+  pub ahead : next ≤ known
+  pub received : known ≤ length journal.messages + 1
+  -- a listener finishes only if the session is closed
+  pub closed : finished ≡ true → journal.closed ≡ true
+  -- a listener that has finished printed every message
+  pub all : finished ≡ true → next ≡ length journal.messages + 1
+  -- after a success, the whole text is written
+  pub text : IfOk result (λ status. (status ≡ closing_status finished) × Appends old new
+      (printed_lines_text format printed_lines
+      ++ closing_text format reporting reports finished next known failures))
+  -- in any case, a prefix of the text is written
+  pub front : AppendsPrefix old new
+      (printed_lines_text format printed_lines ++ closing_text format reporting reports finished next known failures)
+
 -- What a listener that started at line `first` has written: the published lines from there to `next - 1`, each after
 -- its number, the requested reports, and its last line. With status 0 it has printed all lines. After a fault, a prefix
 -- of such a text is written.
@@ -191,19 +273,19 @@ pub record PrintsLines {E : Type 0} (reporting : Bool) (lines : List (List ℕ))
       (lines_text first (between lines first next) ++ closing_lines reporting reports finished next known failures)
 
 -- What a listener that prints blocks and started at message `first` has written to standard output: the blocks of the
--- published messages from there to `next - 1`. With status 0 it has printed all messages. After a fault, a prefix of
--- such blocks is written.
-pub record PrintsBlocks {E : Type 0} (messages : List Message) (first : ℕ) (result : Result ℕ E)
+-- journal's messages from there to `next - 1`. With status 0 the session is closed and all of its messages are printed.
+-- After a fault, a prefix of such blocks is written.
+pub record PrintsBlocks {E : Type 0} (journal : JournalState) (first : ℕ) (result : Result ℕ E)
     (old new : Option (List ℕ)) : Type 0 where
   -- the number of the next message to deliver
   pub next : ℕ
   pub from : first ≤ next
-  pub to : next ≤ length messages + 1
+  pub to : next ≤ length journal.messages + 1
   -- after a success, the blocks are written, and with status 0 no message is missing
-  pub text : IfOk result (λ status. Appends old new (blocks (between messages first next))
-      × (status ≡ 0 → next ≡ length messages + 1))
+  pub text : IfOk result (λ status. Appends old new (blocks (between journal.messages first next))
+      × (status ≡ 0 → (journal.closed ≡ true) × (next ≡ length journal.messages + 1)))
   -- in any case, a prefix of the blocks is written
-  pub front : AppendsPrefix old new (blocks (between messages first next))
+  pub front : AppendsPrefix old new (blocks (between journal.messages first next))
 
 -- What a listener that started at line `first` has written, if line `refused_at` is refused. Its text is as for
 -- `PrintsLines`. Both `next` and `known` are at most `refused_at`. The status is 1, since the session has no end. After
@@ -229,6 +311,25 @@ pub record PrintsOpen {E : Type 0} (reporting : Bool) (lines : List (List ℕ)) 
   pub front : AppendsPrefix old new
       (lines_text first (between lines first next) ++ closing_lines reporting reports false next known failures)
 
+-- What a loop of publisher, server and listener has written to standard output, if its listener started at message
+-- `first` and the entry after these messages is refused. In this format its text is the messages from `first` to
+-- `next - 1`, and after lines also the line of the refusal. The status is 2. After a fault, a prefix of such a text is
+-- written.
+pub record PrintsMessagesRefused {E : Type 0} (format : MessageFormat) (messages : List Message)
+    (why : MessageRefusal) (first : ℕ) (result : Result ℕ E) (old new : Option (List ℕ)) : Type 0 where
+  -- the number of the next message to deliver
+  pub next : ℕ
+  pub from : first ≤ next
+  pub to : next ≤ length messages + 1
+  -- after a success, the whole text is written
+  pub text : IfOk result (λ status. (status ≡ 2) × Appends old new
+      (handed_text format first (between messages first next)
+      ++ note_text format (refused_text (length messages + 1) why)))
+  -- in any case, a prefix of the text is written
+  pub front : AppendsPrefix old new
+      (handed_text format first (between messages first next)
+      ++ note_text format (refused_text (length messages + 1) why))
+
 -- What a loop of publisher, server and listener has written, if its listener started at line `first` and line
 -- `refused_at` is refused. Its text is the published lines from `first` to `next - 1`, where `next` is at most
 -- `refused_at`, and then the line of the refusal. The status is 2. After a fault, a prefix of such a text is written.
@@ -243,13 +344,6 @@ pub record PrintsRefused {E : Type 0} (lines : List (List ℕ)) (refused_at : �
       (lines_text first (between lines first next) ++ refused_text refused_at why))
   -- in any case, a prefix of the text is written
   pub front : AppendsPrefix old new (lines_text first (between lines first next) ++ refused_text refused_at why)
-
--- The text of those printed lines that deliver a message.
-abbrev pub messages_text : MessageFormat → List PrintedLine → List ℕ
-messages_text format [] = []
-messages_text format (Handed number message ∷ printed_lines) =
-    message_text format number message ++ messages_text format printed_lines
-messages_text format (Refuses bytes why ∷ printed_lines) = messages_text format printed_lines
 
 -- What a listener that started at line `first` has written at its end, if its ports may also give foreign bytes. Such
 -- bytes do not encode a packet of the session. The text is as for `PrintsLines`, but lines that refuse such bytes may

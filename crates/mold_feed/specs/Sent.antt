@@ -1,12 +1,14 @@
--- Which datagrams a publisher of some lines and the servers of its journal send.
+-- Which datagrams a publisher of an input and the servers of its journal send.
 use Rattle.mold_wire.specs.declared.limits.TheConstants.{MESSAGE_OVERHEAD}
 use Rattle.std.specs.Prelude.{◌≡◌, ◌⊎◌, ℕ, ◌+◌, ◌≤◌, Bool, true, false, List, [], length, map, take, slice_get}
 use Rattle.std.specs.Prelude.{Option, Some, Result, Ok, Err}
 use Rattle.std.specs.List.{AllByRecursion, Contains}
-use Rattle.hex.specs.Hex.{decode_of}
 use Rattle.mold_devices.specs.declared.fault.CommandFault.{CommandFault}
+use Rattle.mold_input.specs.Blocks.{block_entries}
+use Rattle.mold_input.specs.Entries.{Entry, InputEntries, line_entry}
+use Rattle.mold_input.specs.declared.input_kind.InputKind.TheVariants.{Lines, Blocks}
 use Rattle.mold_ports.specs.Ports.{Port}
-use Rattle.mold_publish.specs.Publishing.{line_outcome, lines_published}
+use Rattle.mold_publish.specs.Publishing.{entry_outcome, input_published}
 use Rattle.mold_publish.specs.declared.message_refusal.MessageRefusal.{MessageRefusal}
 use Rattle.mold_session.specs.Journal.{JournalState}
 use Rattle.mold_session.specs.Truthful.{MayAnswer}
@@ -25,22 +27,30 @@ pub record IsOpening (journal : JournalState) (limit : ℕ) : Type 0 where
   pub empty : journal.messages ≡ []
   pub unclosed : journal.closed ≡ false
 
--- The journal is closed, and its messages are those that the lines encode, in order.
-pub record HasLines (lines : List (List ℕ)) (journal : JournalState) : Type 0 where
-  pub closed : journal.closed ≡ true
-  -- each line decodes to the message with the same index
-  pub spelled : map decode_of lines ≡ map Ok journal.messages
+-- The input that has these lines.
+abbrev pub lines_input : List (List ℕ) → InputEntries
+lines_input lines = record { kind = Lines; entries = map line_entry lines }
 
--- The journal is open and has the messages of the first lines, in order. It refuses the line after them for the reason
--- `why`.
-pub record HasLinesBefore (lines : List (List ℕ)) (why : MessageRefusal) (journal : JournalState) : Type 0 where
-  -- the refused line
-  pub line : List ℕ
-  -- it is the first line that has no message in the journal
-  pub found : slice_get lines (length journal.messages) ≡ Some line
-  pub refused : line_outcome journal (decode_of line) ≡ Err why
-  -- each line before it decodes to the message with the same index
-  pub spelled : map decode_of (take (length journal.messages) lines) ≡ map Ok journal.messages
+-- The input of message blocks that has these bytes.
+abbrev pub blocks_input : List ℕ → InputEntries
+blocks_input bytes = record { kind = Blocks; entries = block_entries bytes }
+
+-- The journal is closed, and its messages are the entries, in order.
+pub record HasMessages (entries : List Entry) (journal : JournalState) : Type 0 where
+  pub closed : journal.closed ≡ true
+  -- each entry is the message with the same index
+  pub read : entries ≡ map Ok journal.messages
+
+-- The journal is open and has the messages of the first entries, in order. It refuses the entry after them for the
+-- reason `why`.
+pub record HasMessagesBefore (input : InputEntries) (why : MessageRefusal) (journal : JournalState) : Type 0 where
+  -- the refused entry
+  pub entry : Entry
+  -- it is the first entry that has no message in the journal
+  pub found : slice_get input.entries (length journal.messages) ≡ Some entry
+  pub refused : entry_outcome input.kind journal entry ≡ Err why
+  -- each entry before it is the message with the same index
+  pub read : take (length journal.messages) input.entries ≡ map Ok journal.messages
   pub unclosed : journal.closed ≡ false
 
 -- The bytes of every datagram that was sent satisfy `Good`.
@@ -53,9 +63,9 @@ pub record IsCopy (journal copy : JournalState) : Type 0 where
   pub messages : copy.messages ≡ journal.messages
   pub closed : copy.closed ≡ journal.closed
 
--- A publisher of these lines sent the datagram, on a port that had sent nothing before. The publisher may have ended
+-- A publisher of this input sent the datagram, on a port that had sent nothing before. The publisher may have ended
 -- in any way.
-pub record IsPublished (P : Type 0) (journal : JournalState) (limit : ℕ) (lines : List (List ℕ)) (bytes : List ℕ) :
+pub record IsPublished (P : Type 0) (journal : JournalState) (limit : ℕ) (input : InputEntries) (bytes : List ℕ) :
     Type 0 where
   -- the addresses of lines A and B
   pub a : P
@@ -71,7 +81,7 @@ pub record IsPublished (P : Type 0) (journal : JournalState) (limit : ℕ) (line
   pub file_old : Option (List ℕ)
   pub file_new : Option (List ℕ)
   -- the publisher made this run
-  pub publishing : PublishRun a b beats ends limit (lines_published journal lines) result before after
+  pub publishing : PublishRun a b beats ends limit (input_published journal input) result before after
       text_old text_new file_old file_new
   -- the port had sent nothing before the run
   pub nothing : before.sent ≡ []
@@ -92,7 +102,7 @@ pub record IsServed (P : Type 0) (journal : JournalState) (bytes : List ℕ) : T
   pub to : P
   pub sent : Contains (run (serving service) choices start).port.sent (to, bytes)
 
--- The datagram was sent by a publisher of these lines, or by a server of the journal that the publisher left.
-abbrev pub IsSent : (P : Type 0) → JournalState → ℕ → List (List ℕ) → List ℕ → Type 0
-IsSent P journal limit lines bytes =
-    IsPublished P journal limit lines bytes ⊎ IsServed P (left_journal (lines_published journal lines)) bytes
+-- The datagram was sent by a publisher of this input, or by a server of the journal that the publisher left.
+abbrev pub IsSent : (P : Type 0) → JournalState → ℕ → InputEntries → List ℕ → Type 0
+IsSent P journal limit input bytes =
+    IsPublished P journal limit input bytes ⊎ IsServed P (left_journal (input_published journal input)) bytes

@@ -1,4 +1,4 @@
-//! Laws of a whole feed: from the lines that are published to the lines that a listener prints.
+//! Laws of a whole feed: from the messages that are published to what a listener prints.
 #![tactic(auto)]
 
 pub mod laws;

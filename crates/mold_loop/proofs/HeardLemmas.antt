@@ -1,6 +1,6 @@
 -- Lemmas about the datagrams that a loop's publisher passes, and what the listener receives.
 use Rattle.std.proofs.Common.{arith, ◌≡◌, ◌∙◌, ℕ, ◌+◌, Bool, true, false, List, [], ◌∷◌, ◌++◌, length, map}
-use Rattle.std.proofs.Common.{Option, None, Some, Result, Ok, ap, refl, sym, subst, append_assoc}
+use Rattle.std.proofs.Common.{Option, None, Some, Result, Ok, ap, refl, sym, subst}
 use Rattle.std.proofs.lemmas.List.{map-append}
 use Rattle.std.proofs.lemmas.Result.{on_ok_weaker}
 use Rattle.std.proofs.KnownBytes.{Appends-nil, Appends-trans}
@@ -8,23 +8,23 @@ use Rattle.std.specs.Prelude.{IsErr, OnOk, if◌then◌else◌}
 use Rattle.std.specs.Io.KnownBytes.{Appends}
 use Rattle.mold_devices.specs.Devices.{AppendsPrefix}
 use Rattle.mold_ports.specs.Ports.{Port}
-use Rattle.mold_receiver.specs.Arbiter.{Arbitration}
 use Rattle.mold_receiver.specs.declared.line.Line.{Line}
 use Rattle.mold_receiver.specs.declared.line.Line.TheVariants.{A, B}
 use Rattle.mold_session.specs.Publisher.{Lends}
 use Rattle.mold_wire.specs.declared.packet.Packet.{Packet}
 use Rattle.mold_send.proofs.SendingLemmas.{lent_none}
-use Rattle.mold_turns.proofs.RunLemmas.{IsLoop, begins_behind, begins_more, begins_trans, begins_whole, grows_in, none_ok, on_ok}
-use Rattle.mold_listen.proofs.TurnLemmas.{hear_both, hear_prints, hearing_both}
-use Rattle.mold_turns.specs.Outgoing.{OutgoingState, with_front}
-use Rattle.mold_turns.proofs.OutgoingLemmas.{front_twice, written_front}
+use Rattle.mold_turns.proofs.RunLemmas.{begins_behind, begins_more, begins_none, begins_trans, begins_whole, grows_in}
+use Rattle.mold_turns.proofs.RunLemmas.{none_ok, on_ok}
+use Rattle.mold_listen.proofs.TurnLemmas.{hear_both, hear_prints, hear_says, hearing_both}
+use Rattle.mold_turns.specs.Outgoing.{OutgoingState, with_fronts}
+use Rattle.mold_turns.proofs.OutgoingLemmas.{fronts_twice}
 use Rattle.mold_listen.specs.Listening.{Progress}
 use Rattle.mold_loop.specs.Looping.{ComesOfBoth, HasPassed, LineState, Outcome, LeftOut, Failed, PassRests, Sent}
 use Rattle.mold_loop.specs.Looping.{Pass, goes_out, after_line_if, after_routes, is_sent, line_state, offered_by, passed, passing, port_after}
-use Rattle.mold_loop.specs.Looping.{received_if, outgoing_after, routed_by, sent_by, text_front}
+use Rattle.mold_loop.specs.Looping.{received_if, outgoing_after, routed_by, sent_by, texts_front}
+use Rattle.mold_loop.specs.Writing.{WritesPart}
 use Rattle.mold_loop.specs.Passing.{routed, routes_of}
 use Rattle.mold_send.specs.PublishLoop.{spelled_some}
-use Rattle.mold_devices.specs.Writing.{Moves}
 use Rattle.mold_turns.specs.Runs.{Begins, Loop, run}
 use Rattle.mold_loop.specs.declared.loop_parts.Drops.{Drops}
 use Rattle.mold_loop.specs.declared.loop_parts.Routes.{Routes}
@@ -83,41 +83,49 @@ passed_not drops number a b packet result s lends =
     (ap (routed drops number) (sym (lent_none packet lends)))
     (passed_none a b result s)
 
--- ---- passing is a loop
+-- ---- text that precedes the text of a state
 
-outgoing_before : (front : List ℕ) (o : Outcome) (r : OutgoingState) →
-    outgoing_after o (with_front front r) ≡ with_front front (outgoing_after o r)
-outgoing_before front LeftOut r = refl
-outgoing_before front Failed r = refl
-outgoing_before front Sent r = refl
+outgoing_before : (front said : List ℕ) (o : Outcome) (r : OutgoingState) →
+    outgoing_after o (with_fronts front said r) ≡ with_fronts front said (outgoing_after o r)
+outgoing_before front said LeftOut r = refl
+outgoing_before front said Failed r = refl
+outgoing_before front said Sent r = refl
 
-offered_before : {P : Type 0} (front : List ℕ) (a b : P) (pass : Pass) (s : LineState P) →
-    offered_by a b pass (text_front front s) ≡ text_front front (offered_by a b pass s)
-offered_before {P} front a b pass s =
+offered_before : {P : Type 0} (front said : List ℕ) (a b : P) (pass : Pass) (s : LineState P) →
+    offered_by a b pass (texts_front front said s) ≡ texts_front front said (offered_by a b pass s)
+offered_before {P} front said a b pass s =
     let of : OutgoingState → LineState P =
     λ r. line_state (offered_by a b pass s).publisher s.a s.b s.progress.arbitration r in
-    ap (λ (r : OutgoingState). of (outgoing_after pass.b r)) (outgoing_before front pass.a s.progress.outgoing)
-    ∙ ap of (outgoing_before front pass.b (outgoing_after pass.a s.progress.outgoing))
+    ap (λ (r : OutgoingState). of (outgoing_after pass.b r)) (outgoing_before front said pass.a s.progress.outgoing)
+    ∙ ap of (outgoing_before front said pass.b (outgoing_after pass.a s.progress.outgoing))
 
-received_if_before : {P : Type 0} (front : List ℕ) (on : Bool) (line : Line) (port : Port P) (e : Progress) →
-    after_line_if on line port (hearing_both front [] e) ≡ hearing_both front [] (after_line_if on line port e)
-received_if_before front false line port e = refl
-received_if_before front true line port e = hear_both front [] (Some line) port e
+received_if_before : {P : Type 0} (front said : List ℕ) (on : Bool) (line : Line) (port : Port P) (e : Progress) →
+    after_line_if on line port (hearing_both front said e) ≡ hearing_both front said (after_line_if on line port e)
+received_if_before front said false line port e = refl
+received_if_before front said true line port e = hear_both front said (Some line) port e
 
-received_on_before : {P : Type 0} (front : List ℕ) (lines : Routes) (s : LineState P) →
-    after_routes lines (text_front front s) ≡ text_front front (after_routes lines s)
-received_on_before {P} front lines s =
+received_on_before : {P : Type 0} (front said : List ℕ) (lines : Routes) (s : LineState P) →
+    after_routes lines (texts_front front said s) ≡ texts_front front said (after_routes lines s)
+received_on_before {P} front said lines s =
     let of : Progress → LineState P =
     λ e. record { publisher = s.publisher; a = received_if lines.a s.a; b = received_if lines.b s.b; progress = e } in
-    ap (λ (e : Progress). of (after_line_if lines.b B s.b e)) (received_if_before front lines.a A s.a s.progress)
-    ∙ ap of (received_if_before front lines.b B s.b (after_line_if lines.a A s.a s.progress))
+    ap (λ (e : Progress). of (after_line_if lines.b B s.b e)) (received_if_before front said lines.a A s.a s.progress)
+    ∙ ap of (received_if_before front said lines.b B s.b (after_line_if lines.a A s.a s.progress))
 
-passed_before : {P : Type 0} (a b : P) (front : List ℕ) (pass : Pass) (s : LineState P) →
-    passed a b pass (text_front front s) ≡ text_front front (passed a b pass s)
+passed_before : {P : Type 0} (a b : P) (front said : List ℕ) (pass : Pass) (s : LineState P) →
+    passed a b pass (texts_front front said s) ≡ texts_front front said (passed a b pass s)
 unfolding passed
-passed_before a b front pass s =
-    ap (after_routes (sent_by pass)) (offered_before front a b pass s)
-    ∙ received_on_before front (sent_by pass) (offered_by a b pass s)
+passed_before a b front said pass s =
+    ap (after_routes (sent_by pass)) (offered_before front said a b pass s)
+    ∙ received_on_before front said (sent_by pass) (offered_by a b pass s)
+
+texts_twice : {P : Type 0} (front said back more : List ℕ) (s : LineState P) →
+    texts_front front said (texts_front back more s) ≡ texts_front (front ++ back) (said ++ more) s
+texts_twice {P} front said back more s =
+    ap {B = LineState P} (line_state s.publisher s.a s.b s.progress.arbitration)
+    (fronts_twice front said back more s.progress.outgoing)
+
+-- ---- passing only appends to what is printed and sent
 
 outgoing_prints : (o : Outcome) (r : OutgoingState) → (outgoing_after o r).text ≡ r.text
 outgoing_prints LeftOut r = refl
@@ -129,7 +137,7 @@ received_if_prints : {P : Type 0} (on : Bool) (line : Line) (port : Port P) (e :
 received_if_prints false line port e = begins_whole e.outgoing.text
 received_if_prints true line port e = hear_prints (Some line) port e
 
-passed_prints : {P : Type 0} (a b : P) (pass : Pass) (s : LineState P) →
+pub passed_prints : {P : Type 0} (a b : P) (pass : Pass) (s : LineState P) →
     Begins s.progress.outgoing.text (passed a b pass s).progress.outgoing.text
 unfolding passed
 passed_prints {P} a b pass s =
@@ -140,32 +148,26 @@ passed_prints {P} a b pass s =
     (begins_trans (received_if_prints (is_sent pass.a) A mid.a mid.progress)
     (received_if_prints (is_sent pass.b) B mid.b with_receipt))
 
-port_sends : {P : Type 0} (o : Outcome) (to : P) (datagram : List ℕ) (port : Port P) →
-    Begins port.sent (port_after o to datagram port).sent
-port_sends LeftOut to datagram port = begins_whole port.sent
-port_sends Failed to datagram port = begins_whole port.sent
-port_sends Sent to datagram port = begins_more port.sent ((to, datagram) ∷ [])
+outgoing_says : (o : Outcome) (r : OutgoingState) → (outgoing_after o r).side ≡ r.side
+outgoing_says LeftOut r = refl
+outgoing_says Failed r = refl
+outgoing_says Sent r = refl
 
-passed_sends : {P : Type 0} (a b : P) (pass : Pass) (s : LineState P) →
-    Begins s.publisher.sent (passed a b pass s).publisher.sent
+received_if_says : {P : Type 0} (on : Bool) (line : Line) (port : Port P) (e : Progress) →
+    Begins e.outgoing.side (after_line_if on line port e).outgoing.side
+received_if_says false line port e = begins_whole e.outgoing.side
+received_if_says true line port e = hear_says (Some line) port e
+
+pub passed_says : {P : Type 0} (a b : P) (pass : Pass) (s : LineState P) →
+    Begins s.progress.outgoing.side (passed a b pass s).progress.outgoing.side
 unfolding passed
-passed_sends a b pass s =
-    begins_trans (port_sends pass.a a pass.datagram s.publisher)
-    (port_sends pass.b b pass.datagram (port_after pass.a a pass.datagram s.publisher))
-
-pub passes_are : {P : Type 0} (a b : P) → IsLoop (passing a b) text_front
-passes_are {P} a b = record {
-  none = λ s. refl;
-  twice = λ front back s.
-      ap {B = LineState P} (line_state s.publisher s.a s.b s.progress.arbitration)
-      (front_twice front back s.progress.outgoing);
-  turn = passed_before a b;
-  over = λ front s. refl;
-  text = λ front s. refl;
-  sent = λ front s. refl;
-  prints = passed_prints a b;
-  sends = passed_sends a b;
-}
+passed_says {P} a b pass s =
+    let mid : LineState P = offered_by a b pass s in
+    let with_receipt : Progress = after_line_if (is_sent pass.a) A mid.a mid.progress in
+    subst (λ (t : List ℕ). Begins t (after_routes (sent_by pass) mid).progress.outgoing.side)
+    (outgoing_says pass.b (outgoing_after pass.a s.progress.outgoing) ∙ outgoing_says pass.a s.progress.outgoing)
+    (begins_trans (received_if_says (is_sent pass.a) A mid.a mid.progress)
+    (received_if_says (is_sent pass.b) B mid.b with_receipt))
 
 -- ---- runs
 
@@ -173,17 +175,24 @@ if_behind : {S : Type 0} (f : S → S) (c : Bool) (x y : S) → (if c then f x e
 if_behind f true x y = refl
 if_behind f false x y = refl
 
--- a run keeps the text that precedes the text of its state
-pub run_behind : {C S M : Type 0} (loop : Loop C S M) (behind : List ℕ → S → S) → IsLoop loop behind →
-    (choices : List C) (front : List ℕ) (s : S) → run loop choices (behind front s) ≡ behind front (run loop choices s)
+-- a run keeps what is put before the texts of its state
+pub run_behind : {C S M : Type 0} (loop : Loop C S M) (put : S → S) →
+    ((choice : C) (s : S) → loop.turn choice (put s) ≡ put (loop.turn choice s)) →
+    ((s : S) → loop.over (put s) ≡ loop.over s) → (choices : List C) (s : S) →
+    run loop choices (put s) ≡ put (run loop choices s)
 unfolding run
-run_behind loop behind is [] front s = refl
-run_behind {C} {S} {M} loop behind is (choice ∷ more) front s =
+run_behind loop put turns overs [] s = refl
+run_behind {C} {S} {M} loop put turns overs (choice ∷ more) s =
     let after : S = loop.turn choice s in
-    ap (λ (t : S). if loop.over t then t else run loop more t) (is.turn front choice s)
-    ∙ ap (λ (b : Bool). if b then behind front after else run loop more (behind front after)) (is.over front after)
-    ∙ ap (λ (t : S). if loop.over after then behind front after else t) (run_behind loop behind is more front after)
-    ∙ if_behind (behind front) (loop.over after) after (run loop more after)
+    ap (λ (t : S). if loop.over t then t else run loop more t) (turns choice s)
+    ∙ ap (λ (b : Bool). if b then put after else run loop more (put after)) (overs after)
+    ∙ ap (λ (t : S). if loop.over after then put after else t) (run_behind loop put turns overs more after)
+    ∙ if_behind put (loop.over after) after (run loop more after)
+
+passes_behind : {P : Type 0} (a b : P) (front said : List ℕ) (passes : List Pass) (s : LineState P) →
+    run (passing a b) passes (texts_front front said s) ≡ texts_front front said (run (passing a b) passes s)
+passes_behind a b front said passes s =
+    run_behind (passing a b) (texts_front front said) (passed_before a b front said) (λ s. refl) passes s
 
 -- runs over datagrams compose
 pub passes_more : {P : Type 0} (a b : P) (xs ys : List Pass) (s : LineState P) →
@@ -209,29 +218,42 @@ routed_more drops number (x ∷ xs) ys =
     (routed_more drops (number + 1) xs ys
     ∙ ap (λ (n : ℕ). routed drops (number + 1) xs ++ routed drops n ys) (omega arith))
 
--- the datagrams are passed: some text is written, and the rest remains
+-- the datagrams are passed: a prefix of each text is written, and the rest remains
 pub record Heard {P : Type 0} (a b : P) (datagrams : List (Routes × List ℕ)) (before after : LineState P)
-    (old new : Option (List ℕ)) : Type 0 where
+    (old new errors_old errors_new : Option (List ℕ)) : Type 0 where
   pub passes : List Pass
   pub are : map routed_by passes ≡ datagrams
   pub written : List ℕ
   pub appended : Appends old new written
-  pub whole : run (passing a b) passes before ≡ text_front written after
+  pub said : List ℕ
+  pub told : Appends errors_old errors_new said
+  pub whole : run (passing a b) passes before ≡ texts_front written said after
 
 -- the datagrams are passed, and then a fault occurs
 pub record HeardFront {P : Type 0} (a b : P) (datagrams : List (Routes × List ℕ)) (before after : LineState P)
-    (old new : Option (List ℕ)) : Type 0 where
+    (old new errors_old errors_new : Option (List ℕ)) : Type 0 where
   pub passes : List Pass
   pub are : map routed_by passes ≡ datagrams
   pub written : List ℕ
   pub appended : Appends old new written
+  pub said : List ℕ
+  pub told : Appends errors_old errors_new said
   pub text : Begins written (run (passing a b) passes before).progress.outgoing.text
+  pub side : Begins said (run (passing a b) passes before).progress.outgoing.side
   pub offered : after.publisher ≡ (run (passing a b) passes before).publisher
 
-pub received_none : {P : Type 0} (a b : P) (s : LineState P) (held : Option (List ℕ)) → Heard a b [] s s held held
+pub received_none : {P : Type 0} (a b : P) (s : LineState P) (held errors : Option (List ℕ)) →
+    Heard a b [] s s held held errors errors
 unfolding run
-received_none a b s held =
-    record { passes = []; are = refl; written = []; appended = Appends-nil held; whole = refl }
+received_none a b s held errors = record {
+  passes = [];
+  are = refl;
+  written = [];
+  appended = Appends-nil held;
+  said = [];
+  told = Appends-nil errors;
+  whole = refl;
+}
 
 both_are : (xs ys : List Pass) (ds es : List (Routes × List ℕ)) → map routed_by xs ≡ ds → map routed_by ys ≡ es →
     map routed_by (xs ++ ys) ≡ ds ++ es
@@ -240,125 +262,130 @@ both_are xs ys ds es first second =
     ∙ ap (λ (l : List (Routes × List ℕ)). l ++ map routed_by ys) first
     ∙ ap (λ (l : List (Routes × List ℕ)). ds ++ l) second
 
-more_run : {P : Type 0} (a b : P) (xs ys : List Pass) (written : List ℕ) (before now : LineState P) →
-    run (passing a b) xs before ≡ text_front written now →
-    run (passing a b) (xs ++ ys) before ≡ text_front written (run (passing a b) ys now)
-more_run a b xs ys written before now whole =
-    passes_more a b xs ys before ∙ ap (run (passing a b) ys) whole
-    ∙ run_behind (passing a b) text_front (passes_are a b) ys written now
+more_run : {P : Type 0} (a b : P) (xs ys : List Pass) (written said : List ℕ) (before now : LineState P) →
+    run (passing a b) xs before ≡ texts_front written said now →
+    run (passing a b) (xs ++ ys) before ≡ texts_front written said (run (passing a b) ys now)
+more_run a b xs ys written said before now whole =
+    passes_more a b xs ys before ∙ ap (run (passing a b) ys) whole ∙ passes_behind a b written said ys now
 
--- ---- datagrams and the write after them
+-- ---- datagrams and the writes after them
 
--- they are passed, and some text is written
-pub rests_moved : {P T E U F : Type 0} (a b : P) {ds : List (Routes × List ℕ)} (value : U) (result : Result T E)
-    {before made : LineState P} {old new : Option (List ℕ)} {left : List ℕ} (after : LineState P) →
+-- they are passed, and then a prefix of each text is written
+pub rests_written : {P T E U F : Type 0} (a b : P) {ds : List (Routes × List ℕ)} (value : U) (result : Result T E)
+    (before made : LineState P) {old new errors_old errors_new : Option (List ℕ)} (left : OutgoingState) →
     HasPassed {T = U} {E = F} a b ds (Ok value) before made →
-    (moves : Moves old new made.progress.outgoing.text left) → made ≡ text_front moves.front after →
-    PassRests a b ds result before after old new
-rests_moved {P} a b value result {before} {made} {old} {new} {left} after has moves same = record {
+    WritesPart result made.progress.outgoing left old new errors_old errors_new →
+    PassRests a b ds result before (line_state made.publisher made.a made.b made.progress.arbitration left) old new
+    errors_old errors_new
+rests_written {P} a b value result before made left has writes = record {
   passes = has.passes;
   are = has.are;
-  written = moves.front;
-  appended = moves.appended;
-  whole = on_ok result (sym has.whole ∙ same);
-  text =
-      subst (λ (s : LineState P). Begins moves.front s.progress.outgoing.text) has.whole
-      (record { rest = left; parts = moves.parts });
-  offered = sym (ap (λ (s : LineState P). s.publisher) same) ∙ ap (λ (s : LineState P). s.publisher) has.whole;
-}
-
--- they are passed, and the write fails
-pub rests_unwritten : {P T E U F : Type 0} (a b : P) {ds : List (Routes × List ℕ)} (value : U) (result : Result T E)
-    {before made : LineState P} {old new : Option (List ℕ)} (after : LineState P) →
-    HasPassed {T = U} {E = F} a b ds (Ok value) before made → after.publisher ≡ made.publisher →
-    AppendsPrefix old new made.progress.outgoing.text → IsErr result → PassRests a b ds result before after old new
-rests_unwritten {P} a b value result after has same cut failed = record {
-  passes = has.passes;
-  are = has.are;
-  written = cut.front;
-  appended = cut.appended;
-  whole = none_ok result _ failed;
-  text =
-      subst (λ (s : LineState P). Begins cut.front s.progress.outgoing.text) has.whole
-      (record { rest = cut.rest; parts = cut.parts });
-  offered = same ∙ ap (λ (s : LineState P). s.publisher) has.whole;
+  written = writes.written;
+  appended = writes.appended;
+  said = writes.said;
+  told = writes.told;
+  whole =
+      on_ok_weaker result
+      (λ is. sym has.whole ∙ ap (line_state made.publisher made.a made.b made.progress.arbitration) is) writes.whole;
+  text = subst (λ (s : LineState P). Begins writes.written s.progress.outgoing.text) has.whole writes.text;
+  side = subst (λ (s : LineState P). Begins writes.said s.progress.outgoing.side) has.whole writes.side;
+  offered = ap (λ (s : LineState P). s.publisher) has.whole;
 }
 
 -- memory runs out while they are passed, and a prefix of the former text is written
 pub rests_failed : {P T E U F : Type 0} (a b : P) {ds : List (Routes × List ℕ)} (step : Result U F) (result : Result T E)
-    {before made : LineState P} {old new : Option (List ℕ)} (after : LineState P) → HasPassed a b ds step before made →
-    after.publisher ≡ made.publisher → AppendsPrefix old new before.progress.outgoing.text → IsErr result →
-    PassRests a b ds result before after old new
-rests_failed a b step result {before} after has same cut failed = record {
+    {before made : LineState P} {old new : Option (List ℕ)} (errors : Option (List ℕ)) (after : LineState P) →
+    HasPassed a b ds step before made → after.publisher ≡ made.publisher →
+    AppendsPrefix old new before.progress.outgoing.text → IsErr result →
+    PassRests a b ds result before after old new errors errors
+rests_failed a b step result {before} errors after has same cut failed = record {
   passes = has.passes;
   are = has.are;
   written = cut.front;
   appended = cut.appended;
+  said = [];
+  told = Appends-nil errors;
   whole = none_ok result _ failed;
   text =
       begins_trans (record { rest = cut.rest; parts = cut.parts })
-      (grows_in (passing a b) (passing a b).text (passes_are a b).prints has.passes before);
+      (grows_in (passing a b) (passing a b).text (passed_prints a b) has.passes before);
+  side = begins_none _;
   offered = same ∙ has.offered;
 }
 
--- more datagrams are passed, and some text is written
+-- more datagrams are passed, and a prefix of each text is written
 pub received_more : {P T E : Type 0} (a b : P) {xs ys : List (Routes × List ℕ)} {before now after : LineState P}
-    {old mid new : Option (List ℕ)} (value : T) → Heard a b xs before now old mid →
-    PassRests {T = T} {E = E} a b ys (Ok value) now after mid new → Heard a b (xs ++ ys) before after old new
-received_more {P} a b {xs} {ys} {before} {now} {after} {old} {mid} {new} value with_receipt has = record {
-  passes = with_receipt.passes ++ has.passes;
-  are = both_are with_receipt.passes has.passes xs ys with_receipt.are has.are;
-  written = with_receipt.written ++ has.written;
-  appended = Appends-trans old mid new with_receipt.written has.written with_receipt.appended has.appended;
-  whole =
-      more_run a b with_receipt.passes has.passes with_receipt.written before now with_receipt.whole
-      ∙ ap (text_front with_receipt.written) has.whole
-      ∙ (passes_are a b).twice with_receipt.written has.written after;
-}
+    {old mid new errors_old errors_mid errors_new : Option (List ℕ)} (value : T) →
+    Heard a b xs before now old mid errors_old errors_mid →
+    PassRests {T = T} {E = E} a b ys (Ok value) now after mid new errors_mid errors_new →
+    Heard a b (xs ++ ys) before after old new errors_old errors_new
+received_more {P} a b {xs} {ys} {before} {now} {after} {old} {mid} {new} {errors_old} {errors_mid} {errors_new} value
+    with_receipt has = record {
+      passes = with_receipt.passes ++ has.passes;
+      are = both_are with_receipt.passes has.passes xs ys with_receipt.are has.are;
+      written = with_receipt.written ++ has.written;
+      appended = Appends-trans old mid new with_receipt.written has.written with_receipt.appended has.appended;
+      said = with_receipt.said ++ has.said;
+      told =
+          Appends-trans errors_old errors_mid errors_new with_receipt.said has.said with_receipt.told has.told;
+      whole =
+          more_run a b with_receipt.passes has.passes with_receipt.written with_receipt.said before now
+          with_receipt.whole
+          ∙ ap (texts_front with_receipt.written with_receipt.said) has.whole
+          ∙ texts_twice with_receipt.written with_receipt.said has.written has.said after;
+    }
 
--- a fault occurs while the datagrams are passed, or in the write after them
+-- a fault occurs while the datagrams are passed, or in the writes after them
 pub received_failed : {P T E : Type 0} (a b : P) {xs ys : List (Routes × List ℕ)} {before now after : LineState P}
-    {old mid new : Option (List ℕ)} (result : Result T E) → Heard a b xs before now old mid →
-    PassRests a b ys result now after mid new → HeardFront a b (xs ++ ys) before after old new
-received_failed {P} a b {xs} {ys} {before} {now} {after} {old} {mid} {new} result with_receipt has =
+    {old mid new errors_old errors_mid errors_new : Option (List ℕ)} (result : Result T E) →
+    Heard a b xs before now old mid errors_old errors_mid →
+    PassRests a b ys result now after mid new errors_mid errors_new →
+    HeardFront a b (xs ++ ys) before after old new errors_old errors_new
+received_failed {P} a b {xs} {ys} {before} {now} {after} {old} {mid} {new} {errors_old} {errors_mid} {errors_new} result
+    with_receipt has =
     let end : run (passing a b) (with_receipt.passes ++ has.passes) before
-    ≡ text_front with_receipt.written (run (passing a b) has.passes now) =
-    more_run a b with_receipt.passes has.passes with_receipt.written before now with_receipt.whole in
+    ≡ texts_front with_receipt.written with_receipt.said (run (passing a b) has.passes now) =
+    more_run a b with_receipt.passes has.passes with_receipt.written with_receipt.said before now with_receipt.whole in
     record {
       passes = with_receipt.passes ++ has.passes;
       are = both_are with_receipt.passes has.passes xs ys with_receipt.are has.are;
       written = with_receipt.written ++ has.written;
       appended = Appends-trans old mid new with_receipt.written has.written with_receipt.appended has.appended;
+      said = with_receipt.said ++ has.said;
+      told =
+          Appends-trans errors_old errors_mid errors_new with_receipt.said has.said with_receipt.told has.told;
       text =
           subst (λ (s : LineState P). Begins (with_receipt.written ++ has.written) s.progress.outgoing.text) (sym end)
           (begins_behind with_receipt.written has.text);
+      side =
+          subst (λ (s : LineState P). Begins (with_receipt.said ++ has.said) s.progress.outgoing.side) (sym end)
+          (begins_behind with_receipt.said has.side);
       offered = has.offered ∙ ap (λ (s : LineState P). s.publisher) (sym end);
     }
 
--- a write fails after the datagrams are passed
+-- after the datagrams are passed, a fault occurs, and a prefix of the text is written
 pub received_cut : {P : Type 0} (a b : P) {xs : List (Routes × List ℕ)} {before now : LineState P}
-    {old mid new : Option (List ℕ)} (after : LineState P) → after.publisher ≡ now.publisher →
-    Heard a b xs before now old mid → AppendsPrefix mid new now.progress.outgoing.text →
-    HeardFront a b xs before after old new
+    {old mid new errors_old errors_new : Option (List ℕ)} (after : LineState P) → after.publisher ≡ now.publisher →
+    Heard a b xs before now old mid errors_old errors_new → AppendsPrefix mid new now.progress.outgoing.text →
+    HeardFront a b xs before after old new errors_old errors_new
 received_cut {P} a b {xs} {before} {now} {old} {mid} {new} after same with_receipt cut = record {
   passes = with_receipt.passes;
   are = with_receipt.are;
   written = with_receipt.written ++ cut.front;
   appended = Appends-trans old mid new with_receipt.written cut.front with_receipt.appended cut.appended;
+  said = with_receipt.said;
+  told = with_receipt.told;
   text =
       subst (λ (s : LineState P). Begins (with_receipt.written ++ cut.front) s.progress.outgoing.text) (sym with_receipt.whole)
       (begins_behind with_receipt.written (record { rest = cut.rest; parts = cut.parts }));
+  side =
+      subst (λ (s : LineState P). Begins with_receipt.said s.progress.outgoing.side) (sym with_receipt.whole)
+      (begins_more with_receipt.said now.progress.outgoing.side);
   offered = same ∙ ap (λ (s : LineState P). s.publisher) (sym with_receipt.whole);
 }
 
 pub received_still : {P : Type 0} (a b : P) {xs : List (Routes × List ℕ)} {before now : LineState P}
-    {old new : Option (List ℕ)} → Heard a b xs before now old new → HeardFront a b xs before now old new
+    {old new errors_old errors_new : Option (List ℕ)} → Heard a b xs before now old new errors_old errors_new →
+    HeardFront a b xs before now old new errors_old errors_new
 received_still a b {xs} {before} {now} {old} {new} with_receipt =
     received_cut a b now refl with_receipt (record { front = []; rest = _; parts = refl; appended = Appends-nil new })
-
--- the text written is a prefix of the text of the state
-pub lines_moved : {P : Type 0} (publisher a b : Port P) (arbitration : Arbitration) (old new : OutgoingState) (front : List ℕ) →
-    old.text ≡ front ++ new.text → new.failures ≡ old.failures → new.side ≡ old.side → new.format ≡ old.format →
-    line_state publisher a b arbitration old ≡ text_front front (line_state publisher a b arbitration new)
-lines_moved publisher a b arbitration old new front parts failures side format =
-    ap (line_state publisher a b arbitration) (written_front old new front parts failures side format)

@@ -5,3 +5,4 @@ pub mod LoopEndLemmas
 pub mod LoopLemmas
 pub mod PassingLemmas
 pub mod RepairLemmas
+pub mod WritingLemmas

@@ -13,8 +13,8 @@ use Rattle.mold_loop.specs.Looping.{LineState, LoopRun, PassRests, line_state, l
 use Rattle.mold_turns.specs.Outgoing.{OutgoingState}
 use Rattle.mold_loop.specs.Passing.{routed}
 use Rattle.mold_loop.specs.Repairing.{RepairState, answers_sent, repair_state, repairing, rounds_at}
-use Rattle.mold_loop.specs.Repairing.{text_before}
-use Rattle.mold_turns.specs.Runs.{RestsOfTwo, TurnRestsOfTwo}
+use Rattle.mold_loop.specs.Repairing.{rounds_side, side_before, text_before}
+use Rattle.mold_turns.specs.Sides.{RestsOfTwo, TurnRestsOfTwo}
 use Rattle.mold_serve.specs.Serving.{Service}
 use Rattle.mold_loop.specs.declared.local_feed.LocalFeed.{LocalFeed}
 use Rattle.mold_loop.specs.declared.loop_parts.Drops.{Drops}
@@ -66,52 +66,67 @@ repairs_twice first second = record {
 -- ---- what was passed, with the options of the first state
 
 pub passed_from : {D P T E : Type 0} (port : D → Port P) (datagrams : List (Routes × List ℕ)) (result : Result T E)
-    {first old : LocalFeed D P} (new : LocalFeed D P) {held now : Option (List ℕ)} → IsSame first old →
-    PassesAndWrites port datagrams result old new held now →
-    PassRests first.options.now.peers.a first.options.now.peers.b datagrams result (lines port old) (lines port new) held now
-passed_from {D} {P} port datagrams result {first} {old} new {held} {now} same passes =
+    {first old : LocalFeed D P} (new : LocalFeed D P) {held now errors_held errors_now : Option (List ℕ)} → IsSame
+    first old →
+    PassesAndWrites port datagrams result old new held now errors_held errors_now →
+    PassRests first.options.now.peers.a first.options.now.peers.b datagrams result (lines port old) (lines port new)
+    held now errors_held errors_now
+passed_from {D} {P} port datagrams result {first} {old} new {held} {now} {errors_held} {errors_now} same passes =
     subst
     (λ (o : Bor (LoopOptions P)). PassRests o.now.peers.a o.now.peers.b datagrams result (lines port old) (lines port new)
-    held now)
+    held now errors_held errors_now)
     same.options passes
 
 pub next_passed : {D P T E : Type 0} (port : D → Port P) (number : ℕ) (datagrams : List (List ℕ)) (result : Result T E)
-    {first old : LocalFeed D P} (new : LocalFeed D P) {held now : Option (List ℕ)} → IsSame first old →
-    PassesAndWrites port (routed old.options.now.drops number datagrams) result old new held now →
+    {first old : LocalFeed D P} (new : LocalFeed D P) {held now errors_held errors_now : Option (List ℕ)} → IsSame
+    first old →
+    PassesAndWrites port (routed old.options.now.drops number datagrams) result old new held now errors_held errors_now
+    →
     PassRests first.options.now.peers.a first.options.now.peers.b (routed first.options.now.drops number datagrams) result
-    (lines port old) (lines port new) held now
-next_passed {D} {P} port number datagrams result {first} {old} new {held} {now} same passes =
+    (lines port old) (lines port new) held now errors_held errors_now
+next_passed {D} {P} port number datagrams result {first} {old} new {held} {now} {errors_held} {errors_now} same passes =
     subst
     (λ (o : Bor (LoopOptions P)). PassRests o.now.peers.a o.now.peers.b (routed o.now.drops number datagrams) result
-    (lines port old) (lines port new) held now)
+    (lines port old) (lines port new) held now errors_held errors_now)
     same.options passes
 
 -- one round of requests, with the options of the first state and an equal service
 pub round_from : {D P T E : Type 0} {one other : Service} {before : RepairState P} {result : Result T E}
-    {held now : Option (List ℕ)} {after : RepairState P} {first old : LocalFeed D P} → one ≡ other → IsSame first old →
-    TurnRestsOfTwo (repairing old.options.now.peers.server one) answers_sent text_before before result held now after →
-    TurnRestsOfTwo (repairing first.options.now.peers.server other) answers_sent text_before before result held now after
-round_from {D} {P} {T} {E} {one} {other} {before} {result} {held} {now} {after} {first} {old} is same made =
+    {held now errors_held errors_now : Option (List ℕ)} {after : RepairState P} {first old : LocalFeed D P} → one ≡
+    other → IsSame first old →
+    TurnRestsOfTwo (repairing old.options.now.peers.server one) answers_sent text_before side_before rounds_side before
+    result held now errors_held errors_now after →
+    TurnRestsOfTwo (repairing first.options.now.peers.server other) answers_sent text_before side_before rounds_side
+    before result held now errors_held errors_now after
+round_from {D} {P} {T} {E} {one} {other} {before} {result} {held} {now} {errors_held} {errors_now} {after} {first}
+    {old} is same made =
     subst
-    (λ (s : Service). TurnRestsOfTwo (repairing first.options.now.peers.server s) answers_sent text_before before result
-    held now after)
+    (λ (s : Service). TurnRestsOfTwo (repairing first.options.now.peers.server s) answers_sent text_before side_before
+    rounds_side before result
+    held now errors_held errors_now after)
     is
     (subst
-    (λ (o : Bor (LoopOptions P)). TurnRestsOfTwo (repairing o.now.peers.server one) answers_sent text_before before result
-    held now after)
+    (λ (o : Bor (LoopOptions P)). TurnRestsOfTwo (repairing o.now.peers.server one) answers_sent text_before
+    side_before rounds_side before result
+    held now errors_held errors_now after)
     same.options made)
 
 -- the rounds of requests, with the options of the first state
 pub rounds_from : {D P T E : Type 0} (service : Service) {before : RepairState P} {result : Result T E}
-    {held now : Option (List ℕ)} {after : RepairState P} {first old : LocalFeed D P} → IsSame first old →
-    RestsOfTwo (repairing old.options.now.peers.server service) answers_sent text_before old.options.now.turns before
-    result held now after →
-    RestsOfTwo (repairing first.options.now.peers.server service) answers_sent text_before first.options.now.turns before
-    result held now after
-rounds_from {D} {P} {T} {E} service {before} {result} {held} {now} {after} {first} {old} same rests =
+    {held now errors_held errors_now : Option (List ℕ)} {after : RepairState P} {first old : LocalFeed D P} → IsSame
+    first old →
+    RestsOfTwo (repairing old.options.now.peers.server service) answers_sent text_before side_before rounds_side
+    old.options.now.turns before
+    result held now errors_held errors_now after →
+    RestsOfTwo (repairing first.options.now.peers.server service) answers_sent text_before side_before rounds_side
+    first.options.now.turns before
+    result held now errors_held errors_now after
+rounds_from {D} {P} {T} {E} service {before} {result} {held} {now} {errors_held} {errors_now} {after} {first} {old}
+    same rests =
     subst
-    (λ (o : Bor (LoopOptions P)). RestsOfTwo (repairing o.now.peers.server service) answers_sent text_before o.now.turns
-    before result held now after)
+    (λ (o : Bor (LoopOptions P)). RestsOfTwo (repairing o.now.peers.server service) answers_sent text_before
+    side_before rounds_side o.now.turns
+    before result held now errors_held errors_now after)
     same.options rests
 
 -- ---- the caller's borrowed values end as the loop left them
@@ -169,15 +184,18 @@ rounds_so {D} {A} {P} port ports last listener server requests arbitration outgo
 -- so `LoopRun` of the left states is `LoopRun` of the final ones
 pub loop_so : {P E : Type 0} (reporting : Bool) (drops : Drops) (a b to : P) (turns : ℕ) (start : PublisherState) (server : ServerState)
     (from : LineState P) (begun : RepairState P) (known : Option InputEntries) (result : Result ℕ E)
-    (old new : Option (List ℕ)) (lines_left lines_end : LineState P) (rounds_left rounds_end : RepairState P) →
+    (old new errors_old errors_new : Option (List ℕ)) (lines_left lines_end : LineState P)
+    (rounds_left rounds_end : RepairState P) →
     lines_end ≡ lines_left → rounds_end ≡ rounds_left →
     IfSome known (λ input. LoopRun reporting drops a b to turns start.limit start.sent
-    (input_published start.journal input) server from begun result old new lines_left rounds_left) →
+    (input_published start.journal input) server from begun result old new errors_old errors_new lines_left
+    rounds_left) →
     IfSome known (λ input. LoopRun reporting drops a b to turns start.limit start.sent
-    (input_published start.journal input) server from begun result old new lines_end rounds_end)
-loop_so {P} reporting drops a b to turns start server from begun known result old new lines_left lines_end rounds_left rounds_end is_lines is_rounds ran =
+    (input_published start.journal input) server from begun result old new errors_old errors_new lines_end rounds_end)
+loop_so {P} reporting drops a b to turns start server from begun known result old new errors_old errors_new lines_left
+    lines_end rounds_left rounds_end is_lines is_rounds ran =
     let leaves : LineState P → RepairState P → Type 0 =
     λ l r. IfSome known (λ input. LoopRun reporting drops a b to turns start.limit start.sent
-    (input_published start.journal input) server from begun result old new l r) in
+    (input_published start.journal input) server from begun result old new errors_old errors_new l r) in
     subst (λ (l : LineState P). leaves l rounds_end) (sym is_lines)
     (subst (λ (r : RepairState P). leaves lines_left r) (sym is_rounds) ran)

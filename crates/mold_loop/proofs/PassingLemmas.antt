@@ -68,10 +68,12 @@ first_sends a b {front} {passes} all begins are = record {
 }
 
 module _ {P E : Type 0} {reporting : Bool} (drops : Drops) (a b to : P) (turns limit sent : ℕ) (published : PublishedInput)
-    (server : ServerState) (lines : LineState P) (rounds : RepairState P) (old new : Option (List ℕ))
+    (server : ServerState) (lines : LineState P) (rounds : RepairState P)
+    (old new errors_old errors_new : Option (List ℕ))
     (lines_left : LineState P) (rounds_left : RepairState P) where
   run_sends : (result : Result ℕ E) →
-      LoopRun reporting drops a b to turns limit sent published server lines rounds result old new lines_left rounds_left →
+      LoopRun reporting drops a b to turns limit sent published server lines rounds result old new errors_old
+      errors_new lines_left rounds_left →
       LoopSends drops a b limit sent published result lines.publisher lines_left.publisher
   run_sends (Ok status) ran = record {
     front = all_sends a b (map routed_by ran.passes);
@@ -93,12 +95,15 @@ module _ {P E : Type 0} {reporting : Bool} (drops : Drops) (a b to : P) (turns l
 -- the publisher's port after the loop's run determines which datagrams were sent
 pub loop_sends : {P E : Type 0} (reporting : Bool) (drops : Drops) (a b to : P) (turns : ℕ) (start : PublisherState) (server : ServerState)
     (lines : LineState P) (rounds : RepairState P) (known : Option InputEntries) (result : Result ℕ E)
-    (old new : Option (List ℕ)) (lines_left : LineState P) (rounds_left : RepairState P) →
+    (old new errors_old errors_new : Option (List ℕ)) (lines_left : LineState P) (rounds_left : RepairState P) →
     IfSome known (λ input. LoopRun reporting drops a b to turns start.limit start.sent
-    (input_published start.journal input) server lines rounds result old new lines_left rounds_left) →
+    (input_published start.journal input) server lines rounds result old new errors_old errors_new lines_left
+    rounds_left) →
     IfSome known (λ input. LoopSends drops a b start.limit start.sent
     (input_published start.journal input) result lines.publisher lines_left.publisher)
-loop_sends reporting drops a b to turns start server lines rounds None result old new lines_left rounds_left ran = tt
-loop_sends reporting drops a b to turns start server lines rounds (Some input) result old new lines_left rounds_left ran =
+loop_sends reporting drops a b to turns start server lines rounds None result old new errors_old errors_new lines_left
+    rounds_left ran = tt
+loop_sends reporting drops a b to turns start server lines rounds (Some input) result old new errors_old errors_new
+    lines_left rounds_left ran =
     run_sends drops a b to turns start.limit start.sent (input_published start.journal input) server lines rounds
-    old new lines_left rounds_left result ran
+    old new errors_old errors_new lines_left rounds_left result ran

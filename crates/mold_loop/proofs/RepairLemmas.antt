@@ -4,44 +4,59 @@ use Rattle.std.proofs.Common.{Option, None, Some, Result, Ok, ap, refl, sym, sub
 use Rattle.std.proofs.Math.ListN.{length-replicate}
 use Rattle.std.proofs.lemmas.Result.{on_ok_weaker}
 use Rattle.std.specs.Prelude.{IsErr, OnOk, ◌≤◌}
+use Rattle.std.proofs.KnownBytes.{Appends-nil}
+use Rattle.mold_devices.specs.Devices.{AppendsPrefix}
 use Rattle.mold_ports.specs.Ports.{Port, offered}
 use Rattle.mold_receiver.specs.Wanted.{wanted}
-use Rattle.mold_receiver.specs.Arbiter.{Arbitration}
 use Rattle.mold_wire.specs.Request.{request_spelling}
 use Rattle.mold_wire.specs.declared.request.Request.{Request}
 use Rattle.mold_listen.specs.Listening.{Asking, Progress, receive_responses, progress, missed}
-use Rattle.mold_turns.specs.Outgoing.{OutgoingState}
+use Rattle.mold_turns.specs.Outgoing.{OutgoingState, with_fronts}
 use Rattle.mold_loop.specs.Repairing.{HasRepaired, RepairState, after_responses, after_answers, missed_more, repaired}
-use Rattle.mold_loop.specs.Repairing.{answers_sent, repairing, requested, round, served, text_before}
-use Rattle.mold_turns.specs.Runs.{Begins, RestsOfTwo, run}
+use Rattle.mold_loop.specs.Repairing.{answers_sent, repairing, requested, round, rounds_side, served, side_before}
+use Rattle.mold_loop.specs.Repairing.{text_before}
+use Rattle.mold_loop.specs.Writing.{WritesPart}
+use Rattle.mold_turns.specs.Runs.{Begins, run}
+use Rattle.mold_turns.specs.Sides.{RestsOfTwo, TurnRestsOfTwo}
 use Rattle.mold_serve.specs.Serving.{ResponderState, Service, responder_of, serve_turn}
 use Rattle.mold_serve.specs.Answering.{Reaches}
 use Rattle.mold_serve.specs.Tally.{no_tally}
 use Rattle.mold_serve.specs.declared.tally.Tally.{Tally}
 use Rattle.mold_session.specs.Server.{ServerState}
 use Rattle.mold_listen.proofs.ListenLemmas.{hearing_sends, stepped}
-use Rattle.mold_turns.proofs.OutgoingLemmas.{front_twice, written_front}
-use Rattle.mold_turns.proofs.RunLemmas.{Going, IsLoop, begins_more, begins_whole, none_ok, two_all}
+use Rattle.mold_turns.proofs.OutgoingLemmas.{front_twice, fronts_twice}
+use Rattle.mold_turns.proofs.RunLemmas.{GoingBeside, IsBeside, IsLoop, begins_more, begins_none, begins_trans}
+use Rattle.mold_turns.proofs.RunLemmas.{begins_whole, none_ok, two_all}
 use Rattle.mold_serve.proofs.ServingLemmas.{serving_is}
-use Rattle.mold_listen.proofs.TurnLemmas.{answers_both, answers_print}
+use Rattle.mold_listen.proofs.TurnLemmas.{answers_both, answers_print, answers_say}
 
 -- ---- rounds are a loop
 
-repaired_before : {P : Type 0} (service : Service) (front : List ℕ) (fails : List Bool) (s : RepairState P) →
-    repaired service fails (text_before front s) ≡ text_before front (repaired service fails s)
-repaired_before {P} service front fails s =
+-- the state with texts put before both of its texts
+abbrev pub both_before : {P : Type 0} → List ℕ → List ℕ → RepairState P → RepairState P
+both_before front said s = record {
+  server = s.server;
+  requests = s.requests;
+  answered = s.answered;
+  progress = progress s.progress.arbitration (with_fronts front said s.progress.outgoing);
+}
+
+repaired_before : {P : Type 0} (service : Service) (front said : List ℕ) (fails : List Bool) (s : RepairState P) →
+    repaired service fails (both_before front said s) ≡ both_before front said (repaired service fails s)
+repaired_before {P} service front said fails s =
     let responder : ResponderState P = served service fails s in
     ap (after_answers responder)
-    (answers_both front [] responder.tally.answered
+    (answers_both front said responder.tally.answered
     (record { port = s.requests; progress = missed_more responder.tally.outgoing.failures s.progress }))
 
-requested_before : {P : Type 0} (wish : Option Request) (to : P) (service : Service) (front : List ℕ)
+requested_before : {P : Type 0} (wish : Option Request) (to : P) (service : Service) (front said : List ℕ)
     (choice : Bool × List Bool) (s : RepairState P) →
-    requested wish to service choice (text_before front s) ≡ text_before front (requested wish to service choice s)
-requested_before None to service front choice s = refl
-requested_before (Some request) to service front (true, fails) s = refl
-requested_before (Some request) to service front (false, fails) s =
-    repaired_before service front fails
+    requested wish to service choice (both_before front said s) ≡ both_before front said
+    (requested wish to service choice s)
+requested_before None to service front said choice s = refl
+requested_before (Some request) to service front said (true, fails) s = refl
+requested_before (Some request) to service front said (false, fails) s =
+    repaired_before service front said fails
     (record {
       server = s.server;
       requests = offered false to (request_spelling request) s.requests;
@@ -49,16 +64,25 @@ requested_before (Some request) to service front (false, fails) s =
       progress = s.progress;
     })
 
-round_before : {P : Type 0} (to : P) (service : Service) (front : List ℕ) (choice : Bool × List Bool) (s : RepairState P) →
-    round to service choice (text_before front s) ≡ text_before front (round to service choice s)
+pub round_before : {P : Type 0} (to : P) (service : Service) (front said : List ℕ) (choice : Bool × List Bool)
+    (s : RepairState P) →
+    round to service choice (both_before front said s) ≡ both_before front said (round to service choice s)
 unfolding round
-round_before to service front choice s = requested_before (wanted s.progress.arbitration.view) to service front choice s
+round_before to service front said choice s =
+    requested_before (wanted s.progress.arbitration.view) to service front said choice s
 
 repaired_prints : {P : Type 0} (service : Service) (fails : List Bool) (s : RepairState P) →
     Begins s.progress.outgoing.text (repaired service fails s).progress.outgoing.text
 repaired_prints {P} service fails s =
     let responder : ResponderState P = served service fails s in
     answers_print responder.tally.answered
+    (record { port = s.requests; progress = missed_more responder.tally.outgoing.failures s.progress })
+
+repaired_says : {P : Type 0} (service : Service) (fails : List Bool) (s : RepairState P) →
+    Begins s.progress.outgoing.side (repaired service fails s).progress.outgoing.side
+repaired_says {P} service fails s =
+    let responder : ResponderState P = served service fails s in
+    answers_say responder.tally.answered
     (record { port = s.requests; progress = missed_more responder.tally.outgoing.failures s.progress })
 
 repaired_requests : {P : Type 0} (service : Service) (fails : List Bool) (s : RepairState P) →
@@ -79,6 +103,19 @@ requested_prints None to service choice s = begins_whole s.progress.outgoing.tex
 requested_prints (Some request) to service (true, fails) s = begins_whole s.progress.outgoing.text
 requested_prints (Some request) to service (false, fails) s =
     repaired_prints service fails
+    (record {
+      server = s.server;
+      requests = offered false to (request_spelling request) s.requests;
+      answered = s.answered;
+      progress = s.progress;
+    })
+
+requested_says : {P : Type 0} (wish : Option Request) (to : P) (service : Service) (choice : Bool × List Bool)
+    (s : RepairState P) → Begins s.progress.outgoing.side (requested wish to service choice s).progress.outgoing.side
+requested_says None to service choice s = begins_whole s.progress.outgoing.side
+requested_says (Some request) to service (true, fails) s = begins_whole s.progress.outgoing.side
+requested_says (Some request) to service (false, fails) s =
+    repaired_says service fails
     (record {
       server = s.server;
       requests = offered false to (request_spelling request) s.requests;
@@ -119,6 +156,11 @@ round_prints : {P : Type 0} (to : P) (service : Service) (choice : Bool × List 
 unfolding round
 round_prints to service choice s = requested_prints (wanted s.progress.arbitration.view) to service choice s
 
+pub round_says : {P : Type 0} (to : P) (service : Service) (choice : Bool × List Bool) (s : RepairState P) →
+    Begins s.progress.outgoing.side (round to service choice s).progress.outgoing.side
+unfolding round
+round_says to service choice s = requested_says (wanted s.progress.arbitration.view) to service choice s
+
 round_sends : {P : Type 0} (to : P) (service : Service) (choice : Bool × List Bool) (s : RepairState P) →
     Begins s.requests.sent (round to service choice s).requests.sent
 unfolding round
@@ -139,12 +181,33 @@ rounds_are {P} to service = record {
         answered = s.answered;
         progress = progress s.progress.arbitration outgoing;
       }) (front_twice front back s.progress.outgoing);
-  turn = round_before to service;
+  turn = λ front. round_before to service front [];
   over = λ front s. refl;
   text = λ front s. refl;
   sent = λ front s. refl;
   prints = round_prints to service;
   sends = round_sends to service;
+}
+
+pub rounds_apart : {P : Type 0} (to : P) (service : Service) →
+    IsBeside (repairing to service) text_before side_before rounds_side
+rounds_apart {P} to service = record {
+  nothing = λ s. refl;
+  twice = λ one two s.
+      ap {B = RepairState P} (λ (outgoing : OutgoingState). record {
+        server = s.server;
+        requests = s.requests;
+        answered = s.answered;
+        progress = progress s.progress.arbitration outgoing;
+      }) (fronts_twice [] one [] two s.progress.outgoing);
+  turn = round_before to service [];
+  over = λ said s. refl;
+  text = λ said s. refl;
+  sent = λ said s. refl;
+  swaps = λ said front s. refl;
+  adds = λ said s. refl;
+  same = λ front s. refl;
+  says = round_says to service;
 }
 
 -- ---- responses
@@ -282,45 +345,106 @@ stays {P} to service (choice ∷ more) s none =
     ∙ stays to service more s none
 
 -- the remaining rounds change nothing
-pub rests_still : {P T E : Type 0} (to : P) (service : Service) (result : Result T E) (start now : RepairState P)
-    (old new : Option (List ℕ)) (count turns : ℕ) → Going (repairing to service) text_before start old new count now →
+pub rests_still : {P T E : Type 0} (to : P) (service : Service) {value : T} (start now : RepairState P)
+    (old new errors_old errors_new : Option (List ℕ)) (count turns : ℕ) →
+    GoingBeside (repairing to service) text_before side_before start old new errors_old errors_new count now →
     count ≤ turns → wanted now.progress.arbitration.view ≡ None →
-    RestsOfTwo (repairing to service) answers_sent text_before turns start result old new now
-rests_still {P} to service result start now old new count turns going few none =
+    RestsOfTwo {T = T} {E = E} (repairing to service) answers_sent text_before side_before rounds_side turns start
+    (Ok value) old new errors_old errors_new now
+rests_still {P} {T} {E} to service start now old new errors_old errors_new count turns beside few none =
+    let going = beside.going in
     let choice : Bool × List Bool = (false, []) in
     let left : List (Bool × List Bool) = replicate (turns - count) choice in
     let all = going.choices ++ left in
-    two_all (rounds_are to service) answers_sent (λ front s. refl) (round_answers to service) result turns
+    two_all (rounds_are to service) (rounds_apart to service) answers_sent (λ front s. refl) (λ said s. refl)
+    (round_answers to service) {T = T} {E = E} turns
     (let same : length all ≡ turns =
     omega (arith, few, going.counted, length-append going.choices left, length-replicate (turns - count) choice) in same)
     (record {
-      choices = all;
-      counted = refl;
-      written = going.written;
-      appended = going.appended;
-      goes_on = λ more.
-          ap (λ (l : List (Bool × List Bool)). run (repairing to service) l start) (append_assoc going.choices left more)
-          ∙ going.goes_on (left ++ more)
-          ∙ stays to service (left ++ more) (text_before going.written now) none
-          ∙ sym (stays to service more (text_before going.written now) none);
+      said = beside.said;
+      appended = beside.appended;
+      going = record {
+        choices = all;
+        counted = refl;
+        written = going.written;
+        appended = going.appended;
+        goes_on = λ more.
+            ap (λ (l : List (Bool × List Bool)). run (repairing to service) l start)
+            (append_assoc going.choices left more)
+            ∙ going.goes_on (left ++ more)
+            ∙ stays to service (left ++ more) (both_before going.written beside.said now) none
+            ∙ sym (stays to service more (both_before going.written beside.said now) none);
+      };
     })
 
 -- ---- between the rounds
 
--- some text was written
-pub text_moved : {P : Type 0} (server requests : Port P) (answered : ℕ) (arbitration : Arbitration) (old new : OutgoingState)
-    (front : List ℕ) → old.text ≡ front ++ new.text → new.failures ≡ old.failures → new.side ≡ old.side →
-    new.format ≡ old.format →
-    record { server = server; requests = requests; answered = answered; progress = progress arbitration old }
-    ≡ text_before front
-    (record { server = server; requests = requests; answered = answered; progress = progress arbitration new })
-text_moved {P} server requests answered arbitration old new front parts failures side format =
-    let of : OutgoingState → RepairState P =
-    λ r. record { server = server; requests = requests; answered = answered; progress = progress arbitration r } in
-    ap of (written_front old new front parts failures side format)
-
 pub sent_alike : {A : Type 0} {xs ys : List A} → xs ≡ ys → Begins xs ys
 sent_alike {A} {xs} {ys} same = subst (λ (l : List A). Begins xs l) same (begins_whole xs)
+
+-- a round was made, and then a prefix of each text was written
+pub round_written : {P T U E F : Type 0} (to : P) (service : Service) (choice : Bool × List Bool) (value : U)
+    (result : Result T E) (before made : RepairState P) {old new errors_old errors_new : Option (List ℕ)}
+    (left : OutgoingState) → HasRepaired {T = U} {E = F} (Ok value) made (round to service choice before) →
+    WritesPart result made.progress.outgoing left old new errors_old errors_new →
+    TurnRestsOfTwo (repairing to service) answers_sent text_before side_before rounds_side before result old new
+    errors_old errors_new
+    (record {
+      server = made.server;
+      requests = made.requests;
+      answered = made.answered;
+      progress = progress made.progress.arbitration left;
+    })
+round_written {P} to service choice value result before made left has writes =
+    let of : OutgoingState → RepairState P = λ o. record {
+      server = made.server;
+      requests = made.requests;
+      answered = made.answered;
+      progress = progress made.progress.arbitration o;
+    } in
+    record {
+      turn = record {
+        said = writes.said;
+        appended = writes.told;
+        turn = record {
+          choice = choice;
+          written = writes.written;
+          appended = writes.appended;
+          whole = on_ok_weaker result (λ is. sym has.whole ∙ ap of is) writes.whole;
+          front =
+              subst (λ (s : RepairState P). Begins writes.written s.progress.outgoing.text) has.whole writes.text;
+          sent = sent_alike has.requests;
+        };
+        front = subst (λ (s : RepairState P). Begins writes.said s.progress.outgoing.side) has.whole writes.side;
+      };
+      others = has.answers;
+    }
+
+-- memory ran out in a round, and a prefix of the former text was written
+pub round_failed : {P T U E F : Type 0} (to : P) (service : Service) (choice : Bool × List Bool) (step : Result U F)
+    (result : Result T E) (before made after : RepairState P) {old new : Option (List ℕ)} (errors : Option (List ℕ)) →
+    HasRepaired step made (round to service choice before) → after.requests ≡ made.requests →
+    after.server ≡ made.server → AppendsPrefix old new before.progress.outgoing.text → IsErr result →
+    TurnRestsOfTwo (repairing to service) answers_sent text_before side_before rounds_side before result old new errors
+    errors after
+round_failed {P} to service choice step result before made after errors has requests server cut failed = record {
+  turn = record {
+    said = [];
+    appended = Appends-nil errors;
+    turn = record {
+      choice = choice;
+      written = cut.front;
+      appended = cut.appended;
+      whole = none_ok result _ failed;
+      front =
+          begins_trans (record { rest = cut.rest; parts = cut.parts }) (round_prints to service choice before);
+      sent = sent_alike (ap (λ (p : Port P). p.sent) requests ∙ has.requests);
+    };
+    front = begins_none _;
+  };
+  others =
+      subst (λ (p : Port P). Begins p.sent (round to service choice before).server.sent) (sym server) has.answers;
+}
 
 -- the state after a repair, with the server that the loop left
 pub repaired_so : {P T E : Type 0} (result : Result T E) (port requests : Port P) (answered last : ℕ) (e : Progress)

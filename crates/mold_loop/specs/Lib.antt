@@ -3,3 +3,4 @@ pub mod Looping
 pub mod Ordered
 pub mod Passing
 pub mod Repairing
+pub mod Writing

@@ -3,6 +3,7 @@ use Rattle.std.specs.Prelude.{◌≡◌, ℕ, Bool, true, List, Option, Result, 
 use Rattle.mold_ports.specs.Ports.{Port}
 use Rattle.mold_session.specs.Server.{ServerState}
 use Rattle.mold_listen.specs.Listening.{Asking, asking}
+use Rattle.mold_turns.specs.Outgoing.{OutgoingState}
 use Rattle.mold_loop.specs.Looping.{HasPassed, LineState, PassRests, lines_at}
 use Rattle.mold_loop.specs.Repairing.{RepairState, rounds_at}
 use Rattle.mold_loop.specs.declared.local_feed.LocalFeed.{LocalFeed}
@@ -22,7 +23,11 @@ abbrev pub asking_state : {D A P : Type 0} → (D → Port P) → LocalFeed D A 
 asking_state port feed =
     asking (port feed.ports.now.requests) feed.listener.now.arbiter feed.listener.now.printer.outgoing
 
--- The text that the loop still has to write.
+-- What the loop still has to write.
+abbrev pub outgoing : {D A : Type 0} → LocalFeed D A → OutgoingState
+outgoing feed = feed.listener.now.printer.outgoing
+
+-- The text for standard output that the loop still has to write.
 abbrev pub unwritten : {D A : Type 0} → LocalFeed D A → List ℕ
 unwritten feed = feed.listener.now.printer.outgoing.text
 
@@ -61,7 +66,7 @@ Passes port datagrams result old new =
 
 -- The loop passed these datagrams and then wrote some text, in the sense of `PassRests`.
 abbrev pub PassesAndWrites : {D P T E : Type 0} → (D → Port P) → List (Routes × List ℕ) → Result T E →
-    LocalFeed D P → LocalFeed D P → Option (List ℕ) → Option (List ℕ) → Type 0
-PassesAndWrites port datagrams result old new held_old held_new =
+    LocalFeed D P → LocalFeed D P → Option (List ℕ) → Option (List ℕ) → Option (List ℕ) → Option (List ℕ) → Type 0
+PassesAndWrites port datagrams result old new held_old held_new errors_old errors_new =
     PassRests old.options.now.peers.a old.options.now.peers.b datagrams result (lines port old) (lines port new)
-    held_old held_new
+    held_old held_new errors_old errors_new

@@ -1,6 +1,6 @@
 -- Defines the loop in one process: the passing of the publisher's datagrams, then the rounds of requests. The
 -- datagrams are a run of `passing`, the rounds are a run of `repairing`.
-use Rattle.std.specs.Prelude.{◌≡◌, ℕ, ◌+◌, Bool, true, false, List, [], ◌++◌, length, map}
+use Rattle.std.specs.Prelude.{◌≡◌, ℕ, ◌+◌, Bool, true, false, List, ◌++◌, length, map}
 use Rattle.std.specs.Prelude.{Option, None, Some, Result, IfOk, IfSome, OnOk}
 use Rattle.std.specs.Io.KnownBytes.{Appends}
 use Rattle.mold_devices.specs.Devices.{AppendsPrefix}
@@ -14,13 +14,14 @@ use Rattle.mold_receiver.specs.declared.line.Line.TheVariants.{A, B}
 use Rattle.mold_session.specs.Journal.{JournalState}
 use Rattle.mold_session.specs.Publisher.{PublisherState}
 use Rattle.mold_session.specs.Server.{ServerState}
-use Rattle.mold_listen.specs.Listening.{Progress, with_next_receipt, progress, last_lines, listener_status}
-use Rattle.mold_turns.specs.Outgoing.{OutgoingState, failed_once, with_front}
+use Rattle.mold_listen.specs.Listening.{Progress, with_next_receipt, progress, last_note, listener_status}
+use Rattle.mold_turns.specs.Outgoing.{OutgoingState, failed_once, note_side, note_text, with_fronts}
 use Rattle.mold_loop.specs.Passing.{all_routed, routed}
 use Rattle.mold_send.specs.PublishLoop.{data_after, left_journal}
 use Rattle.mold_loop.specs.Repairing.{RepairState, repairing}
 use Rattle.mold_turns.specs.Runs.{Begins, Loop, run}
 use Rattle.mold_serve.specs.Serving.{Service, service_of}
+use Rattle.mold_loop.specs.Writing.{HasWritten}
 use Rattle.mold_loop.specs.declared.loop_parts.Drops.{Drops}
 use Rattle.mold_loop.specs.declared.loop_parts.Listener.{Listener}
 use Rattle.mold_loop.specs.declared.loop_parts.LoopPorts.{LoopPorts}
@@ -144,10 +145,10 @@ passing a b = record {
   sent = λ s. s.publisher.sent;
 }
 
--- The state with the text `front` before the text that is to be printed.
-abbrev pub text_front : {P : Type 0} → List ℕ → LineState P → LineState P
-text_front front s = line_state s.publisher s.a s.b s.progress.arbitration
-    (with_front front s.progress.outgoing)
+-- The state with `front` put before its text for standard output, and `said` before that for standard error.
+abbrev pub texts_front : {P : Type 0} → List ℕ → List ℕ → LineState P → LineState P
+texts_front front said s = line_state s.publisher s.a s.b s.progress.arbitration
+    (with_fronts front said s.progress.outgoing)
 
 -- The datagrams were passed, with some outcomes. After a fault, only the publisher's port is known: it is as after all
 -- of them.
@@ -158,17 +159,22 @@ pub record HasPassed {P T E : Type 0} (a b : P) (datagrams : List (Routes × Lis
   pub whole : OnOk result (after ≡ run (passing a b) passes before)
   pub offered : after.publisher ≡ (run (passing a b) passes before).publisher
 
--- What passing these datagrams leaves, together with the write after it. They were passed with some outcomes. The text
--- written is a prefix of the text after them. After a fault, only that and the publisher's port are known.
+-- What passing these datagrams leaves, together with the writes after it. They were passed with some outcomes. The
+-- texts
+-- written are prefixes of the texts after them. After a fault, only that and the publisher's port are known.
 pub record PassRests {P T E : Type 0} (a b : P) (datagrams : List (Routes × List ℕ)) (result : Result T E)
-    (before after : LineState P) (old new : Option (List ℕ)) : Type 0 where
+    (before after : LineState P) (old new errors_old errors_new : Option (List ℕ)) : Type 0 where
   pub passes : List Pass
   pub are : map routed_by passes ≡ datagrams
-  -- The text that was written.
+  -- The text that was written to standard output.
   pub written : List ℕ
   pub appended : Appends old new written
-  pub whole : OnOk result (run (passing a b) passes before ≡ text_front written after)
+  -- The text that was written to standard error.
+  pub said : List ℕ
+  pub told : Appends errors_old errors_new said
+  pub whole : OnOk result (run (passing a b) passes before ≡ texts_front written said after)
   pub text : Begins written (run (passing a b) passes before).progress.outgoing.text
+  pub side : Begins said (run (passing a b) passes before).progress.outgoing.side
   pub offered : after.publisher ≡ (run (passing a b) passes before).publisher
 
 -- The datagrams `front` are a prefix of the data datagrams for `input`. The publisher starts as `start`.
@@ -183,21 +189,26 @@ IsData start front journal refused input =
     (data_after start.limit start.sent (input_published start.journal input) ≡ front)
     × (input_published start.journal input ≡ record { journal = journal; refused = refused })
 
--- The loop passed data datagrams for its input. On success it passed all of them. Its text was written up to some
--- point, and the rest is still to be printed. After a fault, the datagrams passed and the text written are prefixes.
+-- The loop passed data datagrams for its input. On success it passed all of them. Each of its texts was written up to
+-- some point, and the rest is still to be printed. After a fault, the datagrams passed and the texts written are
+-- prefixes.
 pub record ReceivesMessages {P E : Type 0} (drops : Drops) (a b : P) (start now : PublisherState)
     (known : Option InputEntries) (result : Result (Option MessageRefusal) E) (before after : LineState P)
-    (old new : Option (List ℕ)) : Type 0 where
+    (old new errors_old errors_new : Option (List ℕ)) : Type 0 where
   -- The datagrams that were offered.
   pub front : List (List ℕ)
   -- The same datagrams with their outcomes.
   pub passes : List Pass
   pub are : map routed_by passes ≡ routed drops 1 front
-  -- The text that the sink received.
+  -- The text that was written to standard output.
   pub written : List ℕ
   pub appended : Appends old new written
-  pub whole : OnOk result (run (passing a b) passes before ≡ text_front written after)
+  -- The text that was written to standard error.
+  pub said : List ℕ
+  pub told : Appends errors_old errors_new said
+  pub whole : OnOk result (run (passing a b) passes before ≡ texts_front written said after)
   pub text : Begins written (run (passing a b) passes before).progress.outgoing.text
+  pub side : Begins said (run (passing a b) passes before).progress.outgoing.side
   pub offered : after.publisher ≡ (run (passing a b) passes before).publisher
   pub begins : IfSome known (BeginsData start front)
   pub all : IfOk result (λ refused. IfSome known (IsData start front now.journal refused))
@@ -212,24 +223,33 @@ abbrev pub rounds_made : {P : Type 0} → Option MessageRefusal → P → Servic
 rounds_made None to service choices s = run (repairing to service) choices s
 rounds_made (Some why) to service choices s = s
 
--- The last lines of a loop: those of a listener or, if a line is refused, the line that reports the refusal.
+-- What a loop prints at its end: the last lines of a listener or, if an entry is refused, the line that reports the
+-- refusal.
+abbrev pub loop_note : Bool → JournalState → Option MessageRefusal → Progress → List ℕ
+loop_note reporting journal None e = last_note reporting e
+loop_note reporting journal (Some why) e = refused_text (length journal.messages + 1) why
+
+-- The last lines of a loop on standard output. There are none after blocks.
 abbrev pub loop_lines : Bool → JournalState → Option MessageRefusal → Progress → List ℕ
-loop_lines reporting journal None e = last_lines reporting e
-loop_lines reporting journal (Some why) e = refused_text (length journal.messages + 1) why
+loop_lines reporting journal refused e = note_text e.outgoing.format (loop_note reporting journal refused e)
+
+-- The last lines of a loop on standard error. There are none if messages are printed as lines.
+abbrev pub loop_side : Bool → JournalState → Option MessageRefusal → Progress → List ℕ
+loop_side reporting journal refused e = note_side e.outgoing.format (loop_note reporting journal refused e)
 
 -- The status of a loop: that of a listener, or 2 if a line is refused.
 abbrev pub loop_status : Option MessageRefusal → Progress → ℕ
 loop_status None e = listener_status e
 loop_status (Some why) e = 2
 
--- All text that a loop prints: the listener's text and the last lines.
+-- All text that a loop prints on standard output: the listener's text and the last lines.
 abbrev pub loop_text : Bool → PublishedInput → Progress → List ℕ
 loop_text reporting published e = e.outgoing.text ++ loop_lines reporting published.journal published.refused e
 
--- All text for standard output was written between these states, and the count of failures is the same.
-pub record HasWritten (old new : OutgoingState) : Type 0 where
-  pub text : new.text ≡ []
-  pub failures : new.failures ≡ old.failures
+-- All text that a loop prints on standard error.
+abbrev pub loop_side_text : Bool → PublishedInput → Progress → List ℕ
+loop_side_text reporting published e =
+    e.outgoing.side ++ loop_side reporting published.journal published.refused e
 
 -- The ports, the arbiter and the count of failures are those of `line_end` and `round_end`. All text is written.
 pub record LoopAgrees {P : Type 0} (lines line_end : LineState P) (rounds round_end : RepairState P) : Type 0 where
@@ -265,14 +285,14 @@ pub record IsPortAfter {P : Type 0} (a b : P) (passes : List Pass) (lines : Line
   pub begins : Begins front passes
   pub port : left ≡ (lines_after a b front lines).publisher
 
--- The outcome of a loop in one process that published these lines. It agrees with a run of the loop for some choice of
+-- The outcome of a loop in one process that published this input. It agrees with a run of the loop for some choice of
 -- which sends fail. After a success, all text of that run is written, its status is returned, and the loop is in its
--- last state. After a fault, the text written and the requests and responses sent are prefixes of the run's. A prefix
+-- last state. After a fault, the texts written and the requests and responses sent are prefixes of the run's. A prefix
 -- of the run's datagrams was offered to the publisher's port.
 pub record LoopRun {P E : Type 0} (reporting : Bool) (drops : Drops) (a b to : P) (turns limit sent : ℕ)
     (published : PublishedInput) (server : ServerState) (lines : LineState P) (rounds : RepairState P)
-    (result : Result ℕ E) (old new : Option (List ℕ)) (lines_left : LineState P) (rounds_left : RepairState P) :
-    Type 0 where
+    (result : Result ℕ E) (old new errors_old errors_new : Option (List ℕ)) (lines_left : LineState P)
+    (rounds_left : RepairState P) : Type 0 where
   -- The publisher's datagrams with their outcomes.
   pub passes : List Pass
   pub are : map routed_by passes ≡ all_routed drops limit sent published
@@ -288,6 +308,10 @@ pub record LoopRun {P E : Type 0} (reporting : Bool) (drops : Drops) (a b to : P
       (loop_end a b to published server passes choices lines rounds))
   pub front : AppendsPrefix old new
       (loop_text reporting published (loop_end a b to published server passes choices lines rounds).progress)
+  pub said : OnOk result (Appends errors_old errors_new
+      (loop_side_text reporting published (loop_end a b to published server passes choices lines rounds).progress))
+  pub said_front : AppendsPrefix errors_old errors_new
+      (loop_side_text reporting published (loop_end a b to published server passes choices lines rounds).progress)
   pub offers : IsPortAfter a b passes lines lines_left.publisher
   pub requests : Begins rounds_left.requests.sent
       (loop_end a b to published server passes choices lines rounds).requests.sent

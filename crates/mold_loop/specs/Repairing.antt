@@ -1,5 +1,5 @@
 -- Defines a round of requests in a loop. All rounds together are a run of `repairing`.
-use Rattle.std.specs.Prelude.{◌≡◌, ℕ, Bool, true, false, List}
+use Rattle.std.specs.Prelude.{◌≡◌, ℕ, Bool, true, false, List, []}
 use Rattle.std.specs.Prelude.{Option, None, Some, Result, OnOk}
 use Rattle.mold_ports.specs.Ports.{Port, offered}
 use Rattle.mold_receiver.specs.Arbiter.{Arbitration}
@@ -8,7 +8,7 @@ use Rattle.mold_session.specs.Server.{ServerState}
 use Rattle.mold_wire.specs.Request.{request_spelling}
 use Rattle.mold_wire.specs.declared.request.Request.{Request}
 use Rattle.mold_listen.specs.Listening.{Asking, Progress, receive_responses, progress, missed}
-use Rattle.mold_turns.specs.Outgoing.{OutgoingState, failed_often, with_front}
+use Rattle.mold_turns.specs.Outgoing.{OutgoingState, failed_often, with_front, with_fronts}
 use Rattle.mold_turns.specs.Runs.{Begins, Loop}
 use Rattle.mold_serve.specs.Serving.{ResponderState, Service, serve_turn}
 use Rattle.mold_serve.specs.Tally.{no_tally}
@@ -104,7 +104,7 @@ repairing to service = record {
 abbrev pub answers_sent : {P : Type 0} → RepairState P → List (P × List ℕ)
 answers_sent s = s.server.sent
 
--- The state with the text `front` before the text that is to be printed.
+-- The state with `front` put before its text for standard output.
 abbrev pub text_before : {P : Type 0} → List ℕ → RepairState P → RepairState P
 text_before front s = record {
   server = s.server;
@@ -112,6 +112,19 @@ text_before front s = record {
   answered = s.answered;
   progress = progress s.progress.arbitration (with_front front s.progress.outgoing);
 }
+
+-- The state with `said` put before its text for standard error.
+abbrev pub side_before : {P : Type 0} → List ℕ → RepairState P → RepairState P
+side_before said s = record {
+  server = s.server;
+  requests = s.requests;
+  answered = s.answered;
+  progress = progress s.progress.arbitration (with_fronts [] said s.progress.outgoing);
+}
+
+-- All text for standard error.
+abbrev pub rounds_side : {P : Type 0} → RepairState P → List ℕ
+rounds_side s = s.progress.outgoing.side
 
 -- The state `wanted` was reached. After a fault, the same requests were sent, and the responses sent are a prefix.
 pub record HasRepaired {P T E : Type 0} (result : Result T E) (after wanted : RepairState P) : Type 0 where

@@ -8,6 +8,7 @@ mod ordered;
 mod passing;
 mod receiving;
 mod running;
+mod writing;
 
 pub use loop_parts::{Drops, Listener, LoopOptions, LoopParts, LoopPeers, LoopPorts};
 pub use looping::session_loop;

@@ -2,19 +2,22 @@
 
 ghost use Rattle.std.specs.Prelude.{◌≡◌, ◌+◌, ◌≤◌, [], ◌∷◌, true, None, Some, Bool, List, length, IfErr, IfOk};
 ghost use Rattle.std.specs.Prelude.{IfSome, OnOk};
-ghost use Rattle.mold_devices.specs.Faults.{CountsCommand, CountsSink};
+ghost use Rattle.mold_devices.specs.Faults.{CountsCommand};
 ghost use Rattle.mold_input.specs.Entries.{known_input};
 ghost use Rattle.mold_listen.specs.Listening.{receive_responses};
 ghost use Rattle.std.specs.Io.KnownBytes.{Appends};
 ghost use Rattle.mold_loop.specs.LocalFeed.{HasBuffer, IsSame, OnlyPasses, OnlyRepairs, Passes, PassesAndWrites};
-ghost use Rattle.mold_loop.specs.LocalFeed.{asking_state, lines, rounds, unwritten};
+ghost use Rattle.mold_loop.specs.LocalFeed.{asking_state, lines, outgoing, rounds, unwritten};
 ghost use Rattle.mold_loop.specs.Looping.{ReceivesMessages, LoopRun, after_routes};
 ghost use Rattle.mold_loop.specs.Passing.{routed, routed_end};
 ghost use Rattle.mold_send.specs.PublishLoop.{left_journal, spelled_some};
-ghost use Rattle.mold_loop.specs.Repairing.{HasRepaired, answers_sent, repaired, repairing, requested, text_before};
-ghost use Rattle.mold_turns.specs.Outgoing.{IsBounded};
+ghost use Rattle.mold_loop.specs.Repairing.{HasRepaired, answers_sent, repaired, repairing, requested, rounds_side};
+ghost use Rattle.mold_loop.specs.Repairing.{side_before, text_before};
+ghost use Rattle.mold_loop.specs.Writing.{CountsLoop, IsPlain, IsQuiet};
+ghost use Rattle.mold_turns.specs.Outgoing.{IsBounded, KeepsSide};
 ghost use Rattle.mold_receiver.specs.Wanted.{wanted};
-ghost use Rattle.mold_turns.specs.Runs.{Begins, RestsOfTwo, TurnRestsOfTwo};
+ghost use Rattle.mold_turns.specs.Runs.{Begins};
+ghost use Rattle.mold_turns.specs.Sides.{CountsSinks, RestsOfTwo, TurnRestsOfTwo};
 ghost use Rattle.mold_serve.specs.Serving.{service_of};
 ghost use Rattle.mold_publish.specs.Publishing.{HasRoom, input_published};
 ghost use Rattle.mold_session.specs.Publisher.{after_datagram, closed, next_datagram};
@@ -23,6 +26,7 @@ use crate::loop_parts::{Listener, LoopOptions, LoopPorts, Routes};
 use crate::looping::{print_last, print_refused};
 use crate::passing::{routes_of, send_on};
 use crate::receiving::receive_once;
+use crate::writing::write_large;
 use mold_devices::{CommandFault, Sink, Source};
 use mold_input::{InputKind, MessageReader};
 use mold_ports::Datagrams;
@@ -56,6 +60,7 @@ impl<'a, 'p, D: Datagrams + Drop> LocalFeed<'a, 'p, D> {
         ensures publisher { self.new.ports.now.publisher ≡ self.old.ports.now.publisher }
         ensures only { OnlyPasses D.modeled D.port self.old self.new }
         ensures prints { Begins (unwritten self.old) (unwritten self.new) }
+        ensures keeps { KeepsSide (outgoing self.old) (outgoing self.new) }
     {
         if routes.a {
             let a = &mut self.ports.a;
@@ -74,6 +79,7 @@ impl<'a, 'p, D: Datagrams + Drop> LocalFeed<'a, 'p, D> {
         ensures passed { D.modeled ≡ true → Passes D.port ((routes, datagram.now) ∷ []) result self.old self.new }
         ensures only { OnlyPasses D.modeled D.port self.old self.new }
         ensures prints { Begins (unwritten self.old) (unwritten self.new) }
+        ensures keeps { KeepsSide (outgoing self.old) (outgoing self.new) }
     {
         let port = &mut self.ports.publisher;
         let options = self.options;
@@ -92,6 +98,7 @@ impl<'a, 'p, D: Datagrams + Drop> LocalFeed<'a, 'p, D> {
             result self.old self.new }
         ensures only { OnlyPasses D.modeled D.port self.old self.new }
         ensures prints { Begins (unwritten self.old) (unwritten self.new) }
+        ensures keeps { KeepsSide (outgoing self.old) (outgoing self.new) }
     {
         publisher_holds(publisher);
         let Some(datagram) = publisher.datagram() else {
@@ -102,13 +109,15 @@ impl<'a, 'p, D: Datagrams + Drop> LocalFeed<'a, 'p, D> {
         self.pass(routes, datagram)
     }
 
-    // Makes one step of `pass_next`. Then writes the text if it has at least 65,536 bytes or the sink is live. If
-    // memory runs out in the step, writes the text before it.
-    fn write_next<K: Sink>(
+    // Makes one step of `pass_next`. Then writes the text for standard error, and the text for standard output if it
+    // has at least 65,536 bytes or the sink is live. If memory runs out in the step, writes the text for standard
+    // output before it.
+    fn write_next<K: Sink, E: Sink>(
         &mut self,
         publisher: &mut Publisher,
         number: &mut u64,
         sink: &mut K,
+        errors: &mut E,
     ) -> Result<(), CommandFault>
         requires buffer { HasBuffer self.old }
         requires few { number.old ≤ publisher.old.sent }
@@ -116,32 +125,36 @@ impl<'a, 'p, D: Datagrams + Drop> LocalFeed<'a, 'p, D> {
         ensures sent { publisher.new ≡ after_datagram publisher.old }
         ensures passed { D.modeled ≡ true → PassesAndWrites D.port
             (routed self.old.options.now.drops (number.old + 1) (spelled_some (next_datagram publisher.old)))
-            result self.old self.new (K.held sink.old) (K.held sink.new) }
+            result self.old self.new (K.held sink.old) (K.held sink.new) (E.held errors.old) (E.held errors.new) }
         ensures bounded { OnOk result (IsBounded (K.live sink.old) (unwritten self.new)) }
         ensures kept { IfErr result (λ fault. fault ≡ CommandFault.Memory →
             Appends (K.held sink.old) (K.held sink.new) (unwritten self.old)) }
         ensures live { K.live sink.new ≡ K.live sink.old }
         ensures only { OnlyPasses D.modeled D.port self.old self.new }
-        ensures sink { CountsSink (K.failed sink.old) (K.failed sink.new) result }
+        ensures sinks { CountsSinks (K.failed sink.old) (K.failed sink.new) (E.failed errors.old) (E.failed errors.new)
+            result }
+        ensures plain { OnOk result (IsPlain (outgoing self.old) → IsPlain (outgoing self.new)) }
+        ensures quiet { IsPlain (outgoing self.old) →
+            IsQuiet (K.failed sink.old) (K.failed sink.new) errors.old errors.new result }
     {
         let told = self.listener.printer.outgoing.unwritten();
         let Ok(()) = self.pass_next(publisher, number) else {
             let outgoing = &mut self.listener.printer.outgoing;
             return Err(outgoing.end_with(told, CommandFault::Memory, sink));
         };
-        self.listener.printer.outgoing.send_large(sink)?;
-        Ok(())
+        write_large(&mut self.listener.printer.outgoing, sink, errors)
     }
 
     // Publishes the messages of the source. Passes a datagram each time the publisher is full, and the rest after the
-    // last message. After each datagram, writes the text if it has at least 65,536 bytes or the sink is live. Returns
-    // the refusal if an entry is refused. The rest is then passed unless the input is of lines. If reading fails or
-    // memory runs out, writes the text of the datagrams before that.
-    fn pass_messages<M: MessageReader, S: Source, K: Sink>(
+    // last message. After each datagram, writes text as `write_next` does. Returns the refusal if an entry is refused.
+    // The rest is then passed unless the input is of lines. If reading fails or memory runs out, writes the text for
+    // standard output of the datagrams before that.
+    fn pass_messages<M: MessageReader, S: Source, K: Sink, E: Sink>(
         &mut self,
         publisher: &mut Publisher,
         source: &mut S,
         sink: &mut K,
+        errors: &mut E,
     ) -> Result<Option<MessageRefusal>, CommandFault>
         requires room { HasRoom publisher.old }
         requires buffer { HasBuffer self.old }
@@ -149,7 +162,7 @@ impl<'a, 'p, D: Datagrams + Drop> LocalFeed<'a, 'p, D> {
             self.old.options.now.peers.a self.old.options.now.peers.b
             publisher.old publisher.new (known_input M.input_kind M.entries (S.left source.old)) result
             (lines D.port self.old) (lines D.port self.new)
-            (K.held sink.old) (K.held sink.new) }
+            (K.held sink.old) (K.held sink.new) (E.held errors.old) (E.held errors.new) }
         ensures only { OnlyPasses D.modeled D.port self.old self.new }
         ensures all { IfOk result (λ refused. refused ≡ None →
             publisher.new.sent ≡ length publisher.new.journal.messages) }
@@ -157,8 +170,11 @@ impl<'a, 'p, D: Datagrams + Drop> LocalFeed<'a, 'p, D> {
         ensures bounded { OnOk result
             (IsBounded (K.live sink.old) (unwritten self.old) → IsBounded (K.live sink.old) (unwritten self.new)) }
         ensures live { K.live sink.new ≡ K.live sink.old }
-        ensures failures { CountsCommand (S.failed source.old) (S.failed source.new)
-            (K.failed sink.old) (K.failed sink.new) result }
+        ensures plain { OnOk result (IsPlain (outgoing self.old) → IsPlain (outgoing self.new)) }
+        ensures quiet { IsPlain (outgoing self.old) → (errors.new ≡ errors.old)
+            × CountsCommand (S.failed source.old) (S.failed source.new) (K.failed sink.old) (K.failed sink.new) result }
+        ensures failures { CountsLoop (S.failed source.old) (S.failed source.new)
+            (K.failed sink.old) (K.failed sink.new) (E.failed errors.old) (E.failed errors.new) result }
     {
         front_law();
         packing_law();
@@ -166,15 +182,15 @@ impl<'a, 'p, D: Datagrams + Drop> LocalFeed<'a, 'p, D> {
         let mut number = 0;
         'passing: loop {
             match fill(publisher, &mut messages, source) {
-                Ok(Filled::Full) => self.write_next(publisher, &mut number, sink)?,
+                Ok(Filled::Full) => self.write_next(publisher, &mut number, sink, errors)?,
                 Ok(Filled::End) => {
-                    self.write_next(publisher, &mut number, sink)?;
+                    self.write_next(publisher, &mut number, sink, errors)?;
                     return Ok(None);
                 }
                 Ok(Filled::Refused { refusal }) => match refusal.kind {
                     InputKind::Lines => return Ok(Some(refusal)),
                     InputKind::Blocks => {
-                        self.write_next(publisher, &mut number, sink)?;
+                        self.write_next(publisher, &mut number, sink, errors)?;
                         return Ok(Some(refusal));
                     }
                 },
@@ -198,6 +214,7 @@ impl<'a, 'p, D: Datagrams + Drop> LocalFeed<'a, 'p, D> {
             Passes D.port (routed_end publisher.old.journal None) result self.old self.new }
         ensures only { OnlyPasses D.modeled D.port self.old self.new }
         ensures prints { Begins (unwritten self.old) (unwritten self.new) }
+        ensures keeps { KeepsSide (outgoing self.old) (outgoing self.new) }
     {
         let _ = publisher.close();
         match publisher.end() {
@@ -209,25 +226,30 @@ impl<'a, 'p, D: Datagrams + Drop> LocalFeed<'a, 'p, D> {
         }
     }
 
-    // Makes the step of `pass_end`. Then writes the text if it has at least 65,536 bytes or the sink is live. If memory
-    // runs out in the step, writes the text before it.
-    fn write_end<K: Sink>(
+    // Makes the step of `pass_end`. Then writes text as `write_next` does. If memory runs out in the step, writes the
+    // text for standard output before it.
+    fn write_end<K: Sink, E: Sink>(
         &mut self,
         publisher: &mut Publisher,
         sink: &mut K,
+        errors: &mut E,
     ) -> Result<(), CommandFault>
         requires buffer { HasBuffer self.old }
         requires sent { publisher.old.sent ≡ length publisher.old.journal.messages }
         ensures limit { publisher.new.limit ≡ publisher.old.limit }
         ensures closed { publisher.new ≡ closed publisher.old }
         ensures passed { D.modeled ≡ true → PassesAndWrites D.port (routed_end publisher.old.journal None)
-            result self.old self.new (K.held sink.old) (K.held sink.new) }
+            result self.old self.new (K.held sink.old) (K.held sink.new) (E.held errors.old) (E.held errors.new) }
         ensures bounded { OnOk result (IsBounded (K.live sink.old) (unwritten self.new)) }
         ensures kept { IfErr result (λ fault. fault ≡ CommandFault.Memory →
             Appends (K.held sink.old) (K.held sink.new) (unwritten self.old)) }
         ensures live { K.live sink.new ≡ K.live sink.old }
         ensures only { OnlyPasses D.modeled D.port self.old self.new }
-        ensures sink { CountsSink (K.failed sink.old) (K.failed sink.new) result }
+        ensures sinks { CountsSinks (K.failed sink.old) (K.failed sink.new) (E.failed errors.old) (E.failed errors.new)
+            result }
+        ensures plain { OnOk result (IsPlain (outgoing self.old) → IsPlain (outgoing self.new)) }
+        ensures quiet { IsPlain (outgoing self.old) →
+            IsQuiet (K.failed sink.old) (K.failed sink.new) errors.old errors.new result }
     {
         let told = self.listener.printer.outgoing.unwritten();
         let Ok(()) = self.pass_end(publisher) else {
@@ -235,8 +257,7 @@ impl<'a, 'p, D: Datagrams + Drop> LocalFeed<'a, 'p, D> {
             return Err(outgoing.end_with(told, CommandFault::Memory, sink));
         };
         let outgoing = &mut self.listener.printer.outgoing;
-        outgoing.send_large(sink)?;
-        Ok(())
+        write_large(outgoing, sink, errors)
     }
 
     // Makes `count` receives for the responses to a request.
@@ -249,6 +270,7 @@ impl<'a, 'p, D: Datagrams + Drop> LocalFeed<'a, 'p, D> {
         ensures server { self.new.ports.now.server ≡ self.old.ports.now.server }
         ensures only { OnlyRepairs self.old self.new }
         ensures prints { Begins (unwritten self.old) (unwritten self.new) }
+        ensures keeps { KeepsSide (outgoing self.old) (outgoing self.new) }
     {
         for _answer in 0..count {
             let requests = &mut self.ports.requests;
@@ -267,6 +289,7 @@ impl<'a, 'p, D: Datagrams + Drop> LocalFeed<'a, 'p, D> {
         ensures server { server.new ≡ record server.old { answered = server.new.answered } }
         ensures only { OnlyRepairs self.old self.new }
         ensures prints { Begins (unwritten self.old) (unwritten self.new) }
+        ensures keeps { KeepsSide (outgoing self.old) (outgoing self.new) }
     {
         let mut tally = Tally::new(self.alloc);
         let mut responder = Responder {
@@ -298,6 +321,7 @@ impl<'a, 'p, D: Datagrams + Drop> LocalFeed<'a, 'p, D> {
         ensures server { server.new ≡ record server.old { answered = server.new.answered } }
         ensures only { OnlyRepairs self.old self.new }
         ensures prints { Begins (unwritten self.old) (unwritten self.new) }
+        ensures keeps { KeepsSide (outgoing self.old) (outgoing self.new) }
     {
         let to = self.options.peers.server;
         if self.ports.requests.send(to, &request.encode()).is_err() {
@@ -307,78 +331,89 @@ impl<'a, 'p, D: Datagrams + Drop> LocalFeed<'a, 'p, D> {
         self.repair(server, journal)
     }
 
-    // Makes one round for the wanted messages. Then writes the text if it has at least 65,536 bytes or the sink is
-    // live. If memory runs out in the round, writes the text before it.
-    fn write_round<K: Sink>(
+    // Makes one round for the wanted messages. Then writes text as `write_next` does. If memory runs out in the round,
+    // writes the text for standard output before it.
+    fn write_round<K: Sink, E: Sink>(
         &mut self,
         server: &mut Server,
         journal: &Journal,
         request: &Request,
         sink: &mut K,
+        errors: &mut E,
     ) -> Result<(), CommandFault>
         requires buffer { HasBuffer self.old }
         requires longest { journal.now.max_message ≤ server.old.max_message }
         requires wanted { wanted self.old.listener.now.arbiter.view ≡ Some request.now }
         ensures rests { D.modeled ≡ true → TurnRestsOfTwo
             (repairing self.old.options.now.peers.server (service_of journal.now server.old)) answers_sent text_before
+            side_before rounds_side
             (rounds D.port server.old self.old) result (K.held sink.old) (K.held sink.new)
-            (rounds D.port server.new self.new) }
+            (E.held errors.old) (E.held errors.new) (rounds D.port server.new self.new) }
         ensures server { server.new ≡ record server.old { answered = server.new.answered } }
         ensures bounded { OnOk result (IsBounded (K.live sink.old) (unwritten self.new)) }
         ensures kept { IfErr result (λ fault. fault ≡ CommandFault.Memory →
             Appends (K.held sink.old) (K.held sink.new) (unwritten self.old)) }
         ensures live { K.live sink.new ≡ K.live sink.old }
         ensures only { OnlyRepairs self.old self.new }
-        ensures sink { CountsSink (K.failed sink.old) (K.failed sink.new) result }
+        ensures sinks { CountsSinks (K.failed sink.old) (K.failed sink.new) (E.failed errors.old) (E.failed errors.new)
+            result }
+        ensures plain { OnOk result (IsPlain (outgoing self.old) → IsPlain (outgoing self.new)) }
+        ensures quiet { IsPlain (outgoing self.old) →
+            IsQuiet (K.failed sink.old) (K.failed sink.new) errors.old errors.new result }
     {
         let told = self.listener.printer.outgoing.unwritten();
         let Ok(()) = self.round(server, journal, request) else {
             let outgoing = &mut self.listener.printer.outgoing;
             return Err(outgoing.end_with(told, CommandFault::Memory, sink));
         };
-        self.listener.printer.outgoing.send_large(sink)?;
-        Ok(())
+        write_large(&mut self.listener.printer.outgoing, sink, errors)
     }
 
     // Makes at most `turns` rounds, and stops when the receiver wants no message. Between rounds, less than 65,536
     // bytes of text are unwritten, and none if the sink is live.
-    fn repair_all<K: Sink>(
+    fn repair_all<K: Sink, E: Sink>(
         &mut self,
         server: &mut Server,
         journal: &Journal,
         sink: &mut K,
+        errors: &mut E,
     ) -> Result<(), CommandFault>
         requires buffer { HasBuffer self.old }
         requires longest { journal.now.max_message ≤ server.old.max_message }
         requires bounded { IsBounded (K.live sink.old) (unwritten self.old) }
         ensures rests { D.modeled ≡ true → RestsOfTwo
             (repairing self.old.options.now.peers.server (service_of journal.now server.old)) answers_sent text_before
-            self.old.options.now.turns
+            side_before rounds_side self.old.options.now.turns
             (rounds D.port server.old self.old) result (K.held sink.old) (K.held sink.new)
-            (rounds D.port server.new self.new) }
+            (E.held errors.old) (E.held errors.new) (rounds D.port server.new self.new) }
         ensures server { server.new ≡ record server.old { answered = server.new.answered } }
         ensures only { OnlyRepairs self.old self.new }
         ensures bounded { OnOk result (IsBounded (K.live sink.old) (unwritten self.new)) }
         ensures live { K.live sink.new ≡ K.live sink.old }
-        ensures sink { CountsSink (K.failed sink.old) (K.failed sink.new) result }
+        ensures sinks { CountsSinks (K.failed sink.old) (K.failed sink.new) (E.failed errors.old) (E.failed errors.new)
+            result }
+        ensures plain { OnOk result (IsPlain (outgoing self.old) → IsPlain (outgoing self.new)) }
+        ensures quiet { IsPlain (outgoing self.old) →
+            IsQuiet (K.failed sink.old) (K.failed sink.new) errors.old errors.new result }
     {
         for _turn in 0..self.options.turns {
             let Some(request) = self.listener.arbiter.receiver().wanted() else {
                 return Ok(());
             };
-            self.write_round(server, journal, &request, sink)?;
+            self.write_round(server, journal, &request, sink, errors)?;
         }
         Ok(())
     }
 
     /// Passes all datagrams, repairs what is missing then, and prints the last line. The reports of the lines precede
     /// the last line if the options ask for them. Returns the status.
-    pub(crate) fn run<M: MessageReader, S: Source, K: Sink>(
+    pub(crate) fn run<M: MessageReader, S: Source, K: Sink, E: Sink>(
         &mut self,
         publisher: &mut Publisher,
         server: &mut Server,
         source: &mut S,
         sink: &mut K,
+        errors: &mut E,
     ) -> Result<u8, CommandFault>
         requires buffer { HasBuffer self.old }
         requires room { HasRoom publisher.old }
@@ -389,7 +424,8 @@ impl<'a, 'p, D: Datagrams + Drop> LocalFeed<'a, 'p, D> {
             self.old.options.now.turns publisher.old.limit publisher.old.sent
             (input_published publisher.old.journal input)
             server.old (lines D.port self.old) (rounds D.port server.old self.old) result
-            (K.held sink.old) (K.held sink.new) (lines D.port self.new) (rounds D.port server.new self.new)) }
+            (K.held sink.old) (K.held sink.new) (E.held errors.old) (E.held errors.new)
+            (lines D.port self.new) (rounds D.port server.new self.new)) }
         ensures a { D.modeled ≡ true → (D.port self.new.ports.now.a).sent ≡ (D.port self.old.ports.now.a).sent }
         ensures b { D.modeled ≡ true → (D.port self.new.ports.now.b).sent ≡ (D.port self.old.ports.now.b).sent }
         ensures journal { D.modeled ≡ true → OnOk result (IfSome (known_input M.input_kind M.entries
@@ -398,20 +434,23 @@ impl<'a, 'p, D: Datagrams + Drop> LocalFeed<'a, 'p, D> {
         ensures limit { OnOk result (publisher.new.limit ≡ publisher.old.limit) }
         ensures server { server.new ≡ record server.old { answered = server.new.answered } }
         ensures same { IsSame self.old self.new }
-        ensures failures { CountsCommand (S.failed source.old) (S.failed source.new)
-            (K.failed sink.old) (K.failed sink.new) result }
+        ensures quiet { IsPlain (outgoing self.old) → (errors.new ≡ errors.old)
+            × CountsCommand (S.failed source.old) (S.failed source.new) (K.failed sink.old) (K.failed sink.new) result }
+        ensures failures { CountsLoop (S.failed source.old) (S.failed source.new)
+            (K.failed sink.old) (K.failed sink.new) (E.failed errors.old) (E.failed errors.new) result }
     {
         publisher_holds(publisher);
         let options = self.options;
-        let refused = self.pass_messages::<M, S, K>(publisher, source, sink)?;
+        let refused = self.pass_messages::<M, S, K, E>(publisher, source, sink, errors)?;
         if let Some(refusal) = refused {
             let number = publisher.journal().next();
-            return print_refused(&mut self.listener.printer.outgoing, number, refusal, sink);
+            let outgoing = &mut self.listener.printer.outgoing;
+            return print_refused(outgoing, number, refusal, sink, errors);
         }
-        self.write_end(publisher, sink)?;
+        self.write_end(publisher, sink, errors)?;
         publisher_holds(publisher);
         let journal = publisher.journal();
-        self.repair_all(server, journal, sink)?;
-        print_last(self.listener, options.reporting, sink)
+        self.repair_all(server, journal, sink, errors)?;
+        print_last(self.listener, options.reporting, sink, errors)
     }
 }

@@ -3,11 +3,13 @@
 ghost use Rattle.std.specs.Prelude.{◌≡◌, ◌≤◌, ◌++◌, true, IfErr, IfOk, IfSome, OnOk};
 ghost use Rattle.std.specs.Io.KnownBytes.{Appends};
 ghost use Rattle.mold_devices.specs.Devices.{AppendsPrefix};
-ghost use Rattle.mold_devices.specs.Faults.{CountsCommand, CountsSink};
+ghost use Rattle.mold_devices.specs.Faults.{CountsCommand};
 ghost use Rattle.mold_input.specs.Entries.{known_input};
-ghost use Rattle.mold_listen.specs.Listening.{progress, last_lines, listener_status};
-ghost use Rattle.mold_loop.specs.Looping.{HasWritten, LoopRun, lines_at};
-ghost use Rattle.mold_turns.specs.Outgoing.{IsBounded};
+ghost use Rattle.mold_listen.specs.Listening.{last_lines, last_side, listener_status, progress};
+ghost use Rattle.mold_loop.specs.Looping.{LoopRun, lines_at};
+ghost use Rattle.mold_loop.specs.Writing.{CountsLoop, HasWritten, IsPlain, IsQuiet};
+ghost use Rattle.mold_turns.specs.Outgoing.{IsBounded, note_side, note_text};
+ghost use Rattle.mold_turns.specs.Sides.{CountsSinks};
 ghost use Rattle.mold_loop.specs.Passing.{LoopSends};
 ghost use Rattle.mold_send.specs.PublishLoop.{left_journal};
 ghost use Rattle.mold_loop.specs.Repairing.{rounds_at};
@@ -15,44 +17,57 @@ ghost use Rattle.mold_publish.specs.Publishing.{HasRoom, input_published, refuse
 
 use crate::local_feed::LocalFeed;
 use crate::loop_parts::{Listener, LoopOptions, LoopParts, LoopPorts};
+use crate::writing::{push_refused, write_all};
 use mold_devices::{CommandFault, Sink, Source};
 use mold_input::MessageReader;
 use mold_listen::push_end;
 use mold_ports::Datagrams;
 use mold_publish::MessageRefusal;
-use mold_send::print_message_refused;
 use mold_turns::Outgoing;
 use mold_wire::MAX_LIMIT;
 
-// Prints the text that is still unwritten, and then why the entry `number` is refused. Returns the status. If
-// memory runs out, the text that is still unwritten is written.
-pub(crate) fn print_refused<K: Sink>(
+// Prints the text that is still unwritten, and then why the entry `number` is refused: after lines on standard output,
+// otherwise on standard error. Returns the status. If memory runs out, the unwritten text for standard output is
+// written.
+pub(crate) fn print_refused<K: Sink, E: Sink>(
     outgoing: &mut Outgoing,
     number: u64,
     refusal: MessageRefusal,
     sink: &mut K,
+    errors: &mut E,
 ) -> Result<u8, CommandFault>
-    ensures whole { IfOk result (λ status.
-        Appends (K.held sink.old) (K.held sink.new) (outgoing.old.text ++ refused_text number refusal) × (status ≡ 2)) }
+    ensures whole { IfOk result (λ status. Appends (K.held sink.old) (K.held sink.new)
+        (outgoing.old.text ++ note_text outgoing.old.format (refused_text number refusal)) × (status ≡ 2)) }
     ensures front { AppendsPrefix (K.held sink.old) (K.held sink.new)
-        (outgoing.old.text ++ refused_text number refusal) }
+        (outgoing.old.text ++ note_text outgoing.old.format (refused_text number refusal)) }
+    ensures said { OnOk result (Appends (E.held errors.old) (E.held errors.new)
+        (outgoing.old.side ++ note_side outgoing.old.format (refused_text number refusal))) }
+    ensures said_front { AppendsPrefix (E.held errors.old) (E.held errors.new)
+        (outgoing.old.side ++ note_side outgoing.old.format (refused_text number refusal)) }
     ensures left { OnOk result (HasWritten outgoing.old outgoing.new) }
     ensures kept { IfErr result (λ fault. fault ≡ CommandFault.Memory →
         Appends (K.held sink.old) (K.held sink.new) outgoing.old.text) }
-    ensures sink { CountsSink (K.failed sink.old) (K.failed sink.new) result }
+    ensures sinks { CountsSinks (K.failed sink.old) (K.failed sink.new) (E.failed errors.old) (E.failed errors.new)
+        result }
+    ensures quiet { IsPlain outgoing.old →
+        IsQuiet (K.failed sink.old) (K.failed sink.new) errors.old errors.new result }
 {
-    outgoing.send(sink)?;
-    print_message_refused(outgoing, number, refusal)?;
-    outgoing.send(sink)?;
+    let told = outgoing.unwritten();
+    let Ok(()) = push_refused(outgoing, number, refusal) else {
+        return Err(outgoing.end_with(told, CommandFault::Memory, sink));
+    };
+    write_all(outgoing, sink, errors)?;
     Ok(2)
 }
 
 // Prints the text that is still unwritten and the listener's last line, preceded by the reports of its lines if
-// `reporting`. Returns the status. If memory runs out, the text that is still unwritten is written.
-pub(crate) fn print_last<K: Sink>(
+// `reporting`. After blocks, these lines are printed on standard error. Returns the status. If memory runs out, the
+// unwritten text for standard output is written.
+pub(crate) fn print_last<K: Sink, E: Sink>(
     listener: &mut Listener,
     reporting: bool,
     sink: &mut K,
+    errors: &mut E,
 ) -> Result<u8, CommandFault>
     requires { IsBounded (K.live sink.old) listener.old.printer.outgoing.text }
     ensures whole { IfOk result (λ status. Appends (K.held sink.old) (K.held sink.new)
@@ -62,11 +77,20 @@ pub(crate) fn print_last<K: Sink>(
     ensures front { AppendsPrefix (K.held sink.old) (K.held sink.new)
         (listener.old.printer.outgoing.text
         ++ last_lines reporting (progress listener.old.arbiter listener.old.printer.outgoing)) }
+    ensures said { OnOk result (Appends (E.held errors.old) (E.held errors.new)
+        (listener.old.printer.outgoing.side
+        ++ last_side reporting (progress listener.old.arbiter listener.old.printer.outgoing))) }
+    ensures said_front { AppendsPrefix (E.held errors.old) (E.held errors.new)
+        (listener.old.printer.outgoing.side
+        ++ last_side reporting (progress listener.old.arbiter listener.old.printer.outgoing)) }
     ensures left { OnOk result (HasWritten listener.old.printer.outgoing listener.new.printer.outgoing) }
     ensures arbiter { listener.new.arbiter ≡ listener.old.arbiter }
     ensures kept { IfErr result (λ fault. fault ≡ CommandFault.Memory →
         Appends (K.held sink.old) (K.held sink.new) listener.old.printer.outgoing.text) }
-    ensures sink { CountsSink (K.failed sink.old) (K.failed sink.new) result }
+    ensures sinks { CountsSinks (K.failed sink.old) (K.failed sink.new) (E.failed errors.old) (E.failed errors.new)
+        result }
+    ensures quiet { IsPlain listener.old.printer.outgoing →
+        IsQuiet (K.failed sink.old) (K.failed sink.new) errors.old errors.new result }
 {
     let Listener { arbiter, printer } = listener;
     let outgoing = &mut printer.outgoing;
@@ -74,7 +98,7 @@ pub(crate) fn print_last<K: Sink>(
     let Ok(status) = push_end(arbiter, reporting, outgoing) else {
         return Err(outgoing.end_with(told, CommandFault::Memory, sink));
     };
-    outgoing.send(sink)?;
+    write_all(outgoing, sink, errors)?;
     Ok(status)
 }
 
@@ -86,6 +110,9 @@ pub(crate) fn print_last<K: Sink>(
 ///   the missing messages, in at most `options.turns` rounds.
 /// - The text, the last line and the status are those of `mold listen`. If `options.reporting` is set, the reports of
 ///   both lines precede the last line.
+/// - The listener's printer has the format in which messages are printed. In the format `Lines` all text is written to
+///   `sink`. Otherwise `sink` gets the blocks and nothing else, and refusals, reports and the last line are written to
+///   `errors`.
 /// - A refused entry ends the publication. The delivered messages stay printed, and the refusal follows them. There are
 ///   no reports and no last line, and the status is 2. Of an input of blocks, all messages before the entry are sent.
 ///   Of an input of lines, the last datagram is not sent.
@@ -97,15 +124,16 @@ pub(crate) fn print_last<K: Sink>(
 ///
 /// The publisher's maximum message length must not exceed the server's, so that the server can respond to each request.
 ///
-/// After a fault, the text written and the datagrams sent are prefixes of those of a complete run. If reading fails or
-/// memory runs out, the text before that is written first. The ports of the lines send nothing. `Read` is returned only
-/// if the source failed, `Write` only if the sink failed.
-pub fn session_loop<M: MessageReader, D: Datagrams + Drop, S: Source, K: Sink>(
+/// After a fault, the texts written and the datagrams sent are prefixes of those of a complete run. If reading fails or
+/// memory runs out, the text for `sink` before that is written first. The ports of the lines send nothing. `Read` is
+/// returned only if the source failed, `Write` only if a sink failed.
+pub fn session_loop<M: MessageReader, D: Datagrams + Drop, S: Source, K: Sink, E: Sink>(
     ports: &mut LoopPorts<D>,
     options: &LoopOptions<D::Peer>,
     parts: &mut LoopParts,
     source: &mut S,
     sink: &mut K,
+    errors: &mut E,
 ) -> Result<u8, CommandFault>
     requires room { HasRoom parts.old.publisher }
     requires longest { parts.old.publisher.journal.max_message ≤ parts.old.server.max_message }
@@ -119,7 +147,7 @@ pub fn session_loop<M: MessageReader, D: Datagrams + Drop, S: Source, K: Sink>(
         options.now.peers.server options.now.turns parts.old.publisher.limit parts.old.publisher.sent
         (input_published parts.old.publisher.journal input) parts.old.server
         (lines_at D.port ports.old parts.old.listener) (rounds_at D.port ports.old parts.old.server parts.old.listener)
-        result (K.held sink.old) (K.held sink.new)
+        result (K.held sink.old) (K.held sink.new) (E.held errors.old) (E.held errors.new)
         (lines_at D.port ports.new parts.new.listener)
         (rounds_at D.port ports.new parts.new.server parts.new.listener)) }
     ensures a { D.modeled ≡ true → (D.port ports.new.a).sent ≡ (D.port ports.old.a).sent }
@@ -129,8 +157,10 @@ pub fn session_loop<M: MessageReader, D: Datagrams + Drop, S: Source, K: Sink>(
         parts.new.publisher.journal ≡ left_journal (input_published parts.old.publisher.journal input))) }
     ensures limit { OnOk result (parts.new.publisher.limit ≡ parts.old.publisher.limit) }
     ensures server { parts.new.server ≡ record parts.old.server { answered = parts.new.server.answered } }
-    ensures failures { CountsCommand (S.failed source.old) (S.failed source.new) (K.failed sink.old) (K.failed sink.new)
-        result }
+    ensures failures { CountsLoop (S.failed source.old) (S.failed source.new) (K.failed sink.old) (K.failed sink.new)
+        (E.failed errors.old) (E.failed errors.new) result }
+    ensures lines { IsPlain parts.old.listener.printer.outgoing → (errors.new ≡ errors.old)
+        × CountsCommand (S.failed source.old) (S.failed source.new) (K.failed sink.old) (K.failed sink.new) result }
 {
     let alloc = parts.alloc;
     let mut buffer = vec![in alloc; 0; MAX_LIMIT]?;
@@ -147,5 +177,5 @@ pub fn session_loop<M: MessageReader, D: Datagrams + Drop, S: Source, K: Sink>(
         listener,
         alloc,
     };
-    feed.run::<M, S, K>(publisher, server, source, sink)
+    feed.run::<M, S, K, E>(publisher, server, source, sink, errors)
 }

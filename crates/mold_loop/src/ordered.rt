@@ -4,10 +4,9 @@ ghost use Rattle.mold_wire.specs.declared.limits.TheConstants.{MESSAGE_OVERHEAD}
 ghost use Rattle.std.specs.Prelude.{◌≡◌, ◌-◌, ◌≤◌, IfOk};
 ghost use Rattle.mold_loop.specs.Ordered.{drops_of, loop_arbiter_of, loop_publisher_of, loop_server_of};
 ghost use Rattle.mold_publish.specs.Publishing.{HasRoom};
-ghost use Rattle.mold_turns.specs.Outgoing.{nothing_out};
+ghost use Rattle.mold_turns.specs.Outgoing.{nothing_in};
 
 use crate::loop_parts::{Drops, Listener, LoopOptions, LoopParts, LoopPeers};
-use mold_input::MessageFormat;
 use mold_listen::Printer;
 use mold_receiver::{Arbiter, Receiver};
 use mold_session::{Publisher, Server};
@@ -44,16 +43,16 @@ fn make_server(alloc: Global, order: &LoopOrder) -> Result<Server, AllocError>
     }
 }
 
-// The listener starts at message 1 and has nothing to print. The window is in its range, so only an allocation can
-// fail.
+// The listener starts at message 1 and has nothing to print. It prints in the order's format. The window is in its
+// range, so only an allocation can fail.
 fn make_listener(alloc: Global, order: &LoopOrder) -> Result<Listener, AllocError>
     ensures arbiter { IfOk result (λ listener. listener.arbiter ≡ loop_arbiter_of order.now) }
-    ensures printer { IfOk result (λ listener. listener.printer.outgoing ≡ nothing_out) }
+    ensures printer { IfOk result (λ listener. listener.printer.outgoing ≡ nothing_in order.now.format) }
 {
     match Receiver::new(alloc, Session(order.session), 1, order.window) {
         Ok(receiver) => Ok(Listener {
             arbiter: Arbiter::new(receiver),
-            printer: Printer::new(alloc, MessageFormat::Lines),
+            printer: Printer::new(alloc, order.format),
         }),
         Err(_) => Err(AllocError),
     }
@@ -89,7 +88,7 @@ pub fn make_parts(alloc: Global, order: &LoopOrder) -> Result<LoopParts, AllocEr
     ensures publisher { IfOk result (λ parts. parts.publisher ≡ loop_publisher_of order.now) }
     ensures server { IfOk result (λ parts. parts.server ≡ loop_server_of order.now) }
     ensures arbiter { IfOk result (λ parts. parts.listener.arbiter ≡ loop_arbiter_of order.now) }
-    ensures printer { IfOk result (λ parts. parts.listener.printer.outgoing ≡ nothing_out) }
+    ensures printer { IfOk result (λ parts. parts.listener.printer.outgoing ≡ nothing_in order.now.format) }
     ensures room { IfOk result (λ parts. HasRoom parts.publisher) }
     ensures longest { IfOk result (λ parts. parts.publisher.journal.max_message ≤ parts.server.max_message) }
 {

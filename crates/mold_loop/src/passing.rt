@@ -3,6 +3,7 @@
 ghost use Rattle.std.specs.Prelude.{◌≡◌, true};
 ghost use Rattle.mold_loop.specs.Looping.{ComesOf, ComesOfBoth};
 ghost use Rattle.mold_loop.specs.Passing.{goes, routes_of};
+ghost use Rattle.mold_turns.specs.Outgoing.{KeepsSide};
 
 use crate::loop_parts::{Drops, Listener, LoopPeers, Routes};
 use mold_ports::Datagrams;
@@ -36,6 +37,7 @@ fn is_sent<D: Datagrams>(
     ensures comes { D.modeled ≡ true →
         ComesOf on result to datagram.now (D.port port.old) (D.port port.new) outgoing.old outgoing.new }
     ensures text { outgoing.new.text ≡ outgoing.old.text }
+    ensures keeps { KeepsSide outgoing.old outgoing.new }
 {
     if !on {
         return false;
@@ -59,6 +61,7 @@ pub(crate) fn send_on<D: Datagrams>(
         (D.port port.old) (D.port port.new) listener.old.printer.outgoing listener.new.printer.outgoing }
     ensures arbiter { listener.new.arbiter ≡ listener.old.arbiter }
     ensures text { listener.new.printer.outgoing.text ≡ listener.old.printer.outgoing.text }
+    ensures keeps { KeepsSide listener.old.printer.outgoing listener.new.printer.outgoing }
 {
     let outgoing = &mut listener.printer.outgoing;
     Routes {

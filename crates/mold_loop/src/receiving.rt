@@ -4,6 +4,7 @@ ghost use Rattle.std.specs.Prelude.{◌≡◌, true, length, OnOk};
 ghost use Rattle.mold_listen.specs.Listening.{with_next_receipt, progress};
 ghost use Rattle.mold_ports.specs.Ports.{received};
 ghost use Rattle.mold_receiver.specs.Origin.{line_of};
+ghost use Rattle.mold_turns.specs.Outgoing.{KeepsSide};
 ghost use Rattle.mold_turns.specs.Runs.{Begins};
 ghost use Rattle.mold_wire.specs.declared.limits.TheConstants.{MAX_LIMIT};
 
@@ -28,6 +29,7 @@ pub(crate) fn receive_once<D: Datagrams>(
         ≡ with_next_receipt (line_of origin) (D.port port.old)
         (progress listener.old.arbiter listener.old.printer.outgoing)) }
     ensures prints { Begins listener.old.printer.outgoing.text listener.new.printer.outgoing.text }
+    ensures keeps { KeepsSide listener.old.printer.outgoing listener.new.printer.outgoing }
 {
     let Listener { arbiter, printer } = listener;
     receive_on(port, origin, buffer, arbiter, printer)

@@ -1,40 +1,41 @@
--- Lemmas from the lines that a loop publishes to the lines that it prints, if its ports give only what it sent.
+-- Lemmas from the messages that a loop publishes to what it prints, if its ports give only what it sent.
 use Rattle.std.proofs.Common.{◌≡◌, ℕ, ◌+◌, ◌≤◌, Bool, true, false, List, [], ◌∷◌, ◌++◌, length, map, take, Option, None, Some}
-use Rattle.std.proofs.Common.{Result, inl, refl, sym, ap, subst, ◌∙◌, arith}
+use Rattle.std.proofs.Common.{Ok, Result, inl, refl, sym, ap, subst, ◌∙◌, arith}
+use Rattle.std.specs.Prelude.{IfOk}
 use Rattle.std.specs.Io.KnownBytes.{Appends}
 use Rattle.std.specs.List.{AllByRecursion}
 use Rattle.std.proofs.lemmas.Result.{IfOk-weaker}
 use Rattle.mold_devices.specs.Devices.{AppendsPrefix}
-use Rattle.mold_feed.specs.Received.{GivesOnly, PrintsLines, PrintsRefused, PrintedLine, lines_text, printed_lines_text}
+use Rattle.mold_feed.specs.Received.{GivesOnly, PrintsMessages, PrintsMessagesRefused, PrintedLine, printed_lines_text}
 use Rattle.mold_listen.specs.Listening.{Asking, Progress, ListenerState, last_lines, listener_status, missed}
 use Rattle.mold_loop.specs.Looping.{Failed, LeftOut, LineState, LoopRun, Outcome, Pass, Sent, IsPortAfter}
 use Rattle.mold_loop.specs.Looping.{after_line_if, after_routes, lines_after, loop_end, loop_lines, loop_status, loop_text, offered_by}
 use Rattle.mold_loop.specs.Looping.{outgoing_after, passed, port_after, received_if, rounds_made}
 use Rattle.mold_loop.specs.Looping.{routed_by, sent_by, with_progress}
-use Rattle.mold_turns.specs.Outgoing.{OutgoingState}
+use Rattle.mold_turns.specs.Outgoing.{OutgoingState, note_text}
+use Rattle.mold_input.specs.Entries.{InputEntries}
 use Rattle.mold_input.specs.declared.message_format.MessageFormat.{MessageFormat}
-use Rattle.mold_input.specs.declared.message_format.MessageFormat.TheVariants.{Lines}
 use Rattle.mold_loop_law.specs.Own.{GivesSent, OwnPorts, WasSent}
 use Rattle.mold_loop.specs.Passing.{all_routed, routed, routed_end}
 use Rattle.mold_send.specs.PublishLoop.{after_data, all_datagrams, data_after}
 use Rattle.mold_loop.specs.Repairing.{RepairState, missed_more, repaired, repairing, requested, round, served}
 use Rattle.mold_turns.specs.Runs.{run}
-use Rattle.mold_feed.specs.Sent.{AllSent, HasLines, HasLinesBefore, IsOpening}
+use Rattle.mold_feed.specs.Sent.{AllSent, IsOpening}
 use Rattle.mold_serve.specs.Serving.{ResponderState, Service, serve_turn, service_of, serving}
 use Rattle.mold_listen.specs.Text.{handed_text}
 use Rattle.mold_loop.specs.declared.loop_parts.Drops.{Drops}
 use Rattle.mold_loop.specs.declared.loop_parts.Routes.{Routes}
-use Rattle.mold_feed.proofs.PrintedLineLemmas.{between_front, text-handing}
+use Rattle.mold_feed.proofs.PrintedLineLemmas.{text-handing}
 use Rattle.mold_feed.proofs.TakingLemmas.{HasHeard, HearingLaws, IsSound, MayCome, last_number, nothing_received}
 use Rattle.mold_feed.proofs.TakingLemmas.{then_received}
 use Rattle.mold_feed.proofs.ReceivedTurnLemmas.{after_responses, ends_so, port_received, rest_gives}
-use Rattle.mold_feed.proofs.LinesPrintedLemmas.{HasCome, prints_lines}
-use Rattle.mold_feed.proofs.LinesTextLemmas.{spelled_length, text_between}
+use Rattle.mold_feed.proofs.MessagesPrintedLemmas.{HasCome, prints_messages}
+use Rattle.mold_feed.proofs.SameBytesLemmas.{none_if}
 use Rattle.mold_feed.proofs.SentLemmas.{each_append, each_begun, each_front, each_rest, sent_front, sent_offered, sent_one}
 use Rattle.mold_feed.proofs.OpeningLemmas.{OpeningLaws, begins_at, begins_honest, begins_in, left_by, left_messages}
 use Rattle.mold_feed.proofs.SessionLawLemmas.{none_sent, port_weaker}
 use Rattle.mold_ports.specs.Ports.{Port, offered}
-use Rattle.mold_publish.specs.Publishing.{PublishedInput, lines_published, refused_text}
+use Rattle.mold_publish.specs.Publishing.{PublishedInput, input_published, refused_text}
 use Rattle.mold_publish.specs.declared.message_refusal.MessageRefusal.{MessageRefusal}
 use Rattle.mold_receiver.specs.Store.{Message}
 use Rattle.mold_receiver.specs.View.{fresh}
@@ -54,12 +55,9 @@ pub record LoopLaws (P : Type 0) : Type 0 where
   pub served : (service : Service) (choices : List (List Bool)) (start : ResponderState P) →
       MayAnswer service.journal service.limit → AllSent (IsTrueDatagram service.journal) start.port.sent →
       AllSent (IsTrueDatagram service.journal) (run (serving service) choices start).port.sent
-  pub offered : (beats ends limit : ℕ) (journal : JournalState) (lines : List (List ℕ)) → IsOpening journal limit →
-      AllByRecursion (IsTrueDatagram (left_by journal lines))
-      (all_datagrams limit beats ends (lines_published journal lines))
-  pub before : (limit : ℕ) (journal : JournalState) (lines : List (List ℕ)) (why : MessageRefusal) →
-      IsOpening journal limit → (lines_published journal lines).refused ≡ Some why →
-      HasLinesBefore lines why (lines_published journal lines).journal
+  pub offered : (beats ends limit : ℕ) (journal : JournalState) (input : InputEntries) → IsOpening journal limit →
+      AllByRecursion (IsTrueDatagram (left_by journal input))
+      (all_datagrams limit beats ends (input_published journal input))
   pub progress : HearingLaws
 
 -- ---- what the publisher's port sends
@@ -291,11 +289,11 @@ module _ (journal : JournalState) (Plain : Type 0) (Good : List ℕ → Type 0) 
 -- ---- the whole loop
 
 -- a server whose maximum message length is at least the journal's can respond from it
-pub server_may : (laws : OpeningLaws) (limit : ℕ) (journal : JournalState) (lines : List (List ℕ)) (server : ServerState) →
+pub server_may : (laws : OpeningLaws) (limit : ℕ) (journal : JournalState) (input : InputEntries) (server : ServerState) →
     IsOpening journal limit → IsServer server → journal.max_message ≤ server.max_message →
-    MayAnswer (left_by journal lines) server.limit
-server_may laws limit journal lines server opening serves longest =
-    laws.answers limit server.limit journal lines opening serves.limited (omega (arith, longest, serves.longest))
+    MayAnswer (left_by journal input) server.limit
+server_may laws limit journal input server opening serves longest =
+    laws.answers limit server.limit journal input opening serves.limited (omega (arith, longest, serves.longest))
 
 -- all datagrams sent satisfy `Good`, so all that a port gives of them do
 gives_true : {P : Type 0} (Good : List ℕ → Type 0) (sent : List (P × List ℕ)) (port : Port P) → AllSent Good sent →
@@ -304,17 +302,18 @@ gives_true Good sent port all gives =
     port_weaker (WasSent sent) Good (λ bytes was. sent_one Good sent was.to bytes all was.among) port gives
 
 module _ {P : Type 0} (laws : LoopLaws P) (reporting : Bool) (drops : Drops) (a b to : P) (turns limit : ℕ)
-    (journal : JournalState) (lines : List (List ℕ)) (server : ServerState) (start start_left : LineState P) (rounds rounds_left : RepairState P)
-    {E : Type 0} (result : Result ℕ E) (old new : Option (List ℕ)) (opening : IsOpening journal limit)
-    (may : (lines_published journal lines).refused ≡ None → MayAnswer (left_by journal lines) server.limit)
+    (journal : JournalState) (input : InputEntries) (server : ServerState) (start start_left : LineState P) (rounds rounds_left : RepairState P)
+    {E : Type 0} (result : Result ℕ E) (old new errors_old errors_new : Option (List ℕ))
+    (opening : IsOpening journal limit)
+    (may : (input_published journal input).refused ≡ None → MayAnswer (left_by journal input) server.limit)
     (own : OwnPorts start start_left rounds rounds_left)
-    (ran : LoopRun reporting drops a b to turns limit 0 (lines_published journal lines) server start rounds result old new
-    start_left rounds_left) where
+    (ran : LoopRun reporting drops a b to turns limit 0 (input_published journal input) server start rounds result old new
+    errors_old errors_new start_left rounds_left) where
   abbrev published : PublishedInput
-  published = lines_published journal lines
+  published = input_published journal input
 
   abbrev left : JournalState
-  left = left_by journal lines
+  left = left_by journal input
 
   abbrev Good : List ℕ → Type 0
   Good = IsTrueDatagram left
@@ -328,7 +327,7 @@ module _ {P : Type 0} (laws : LoopLaws P) (reporting : Bool) (drops : Drops) (a 
       behind_sends Good a b ran.passes start start_left.publisher ran.offers
       (routed_passed Good ran.passes
       (subst (λ (datagrams : List (Routes × List ℕ)). AllRouted Good datagrams) (sym ran.are)
-      (published_routed Good drops limit published (laws.offered 0 1 limit journal lines opening))))
+      (published_routed Good drops limit published (laws.offered 0 1 limit journal input opening))))
       (none_sent Good start.publisher.sent own.publisher)
 
   turn_true : published.refused ≡ None → (fails : List Bool) (responder : ResponderState P) →
@@ -359,19 +358,29 @@ module _ {P : Type 0} (laws : LoopLaws P) (reporting : Bool) (drops : Drops) (a 
       (with_progress mid rounds) on_lines.sound
       (gives_true Good rounds_left.server.sent rounds.requests server_true own.requests))
 
+  -- a loop with status 0 refused no entry
+  pub no_refusal : result ≡ Ok 0 → published.refused ≡ None
+  no_refusal zero =
+      none_if published.refused (λ why refused.
+      let written = subst (λ (r : Result ℕ E). IfOk r (λ status. Appends old new (loop_text reporting published end)
+      × (status ≡ loop_status published.refused end))) zero ran.whole in
+      let two : 0 ≡ 2 = written.1 ∙ ap (λ (r : Option MessageRefusal). loop_status r end) refused in
+      omega (arith, two))
+
   -- ---- a new listener
 
   module _ (first window : ℕ) (least : 1 ≤ first) (most : first ≤ length left.messages + 1)
       (anew : start.progress.arbitration.view ≡ fresh journal.session first window)
-      (blank : start.progress.outgoing.text ≡ []) (plain : start.progress.outgoing.format ≡ Lines) where
+      (format : MessageFormat) (blank : start.progress.outgoing.text ≡ [])
+      (in_format : start.progress.outgoing.format ≡ format) where
     begins : start.progress.arbitration.view.next ≡ first
-    begins = begins_at laws.opening limit journal lines opening first window least most start.progress.arbitration anew
+    begins = begins_at laws.opening limit journal input opening first window least most start.progress.arbitration anew
 
     sound : IsSound left start.progress
     sound = record {
       honest =
-          begins_honest laws.opening limit journal lines opening first window least most start.progress.arbitration anew;
-      session = begins_in laws.opening limit journal lines opening first window least most start.progress.arbitration anew;
+          begins_honest laws.opening limit journal input opening first window least most start.progress.arbitration anew;
+      session = begins_in laws.opening limit journal input opening first window least most start.progress.arbitration anew;
     }
 
     done : HasHeard left (Unit {0}) Good start.progress end
@@ -383,52 +392,48 @@ module _ {P : Type 0} (laws : LoopLaws P) (reporting : Bool) (drops : Drops) (a 
     within : end.arbitration.view.next ≤ length left.messages + 1
     within = last_number left end done.sound
 
-    text_is : end.outgoing.text ≡ handed_text Lines first (between left.messages first end.arbitration.view.next)
+    text_is : end.outgoing.text ≡ handed_text format first (between left.messages first end.arbitration.view.next)
     text_is =
         let next : ℕ = end.arbitration.view.next in
         done.text
-        ∙ ap (λ (f : MessageFormat). start.progress.outgoing.text ++ printed_lines_text f done.printed_lines) plain
-        ∙ ap (λ (text : List ℕ). text ++ printed_lines_text Lines done.printed_lines) blank
-        ∙ ap (λ (printed_lines : List PrintedLine). printed_lines_text Lines printed_lines) (done.plain tt)
-        ∙ text-handing Lines start.progress.arbitration.view.next
+        ∙ ap (λ (f : MessageFormat). start.progress.outgoing.text ++ printed_lines_text f done.printed_lines) in_format
+        ∙ ap (λ (text : List ℕ). text ++ printed_lines_text format done.printed_lines) blank
+        ∙ ap (λ (printed_lines : List PrintedLine). printed_lines_text format printed_lines) (done.plain tt)
+        ∙ text-handing format start.progress.arbitration.view.next
         (between left.messages start.progress.arbitration.view.next next)
-        ∙ ap (λ (n : ℕ). handed_text Lines n (between left.messages n next)) begins
+        ∙ ap (λ (n : ℕ). handed_text format n (between left.messages n next)) begins
 
-    -- if a line is refused
+    -- if an entry is refused
 
     module _ (why : MessageRefusal) (refused : published.refused ≡ Some why) where
-      abbrev count : ℕ
-      count = length published.journal.messages
+      abbrev published_messages : List Message
+      published_messages = published.journal.messages
 
-      same : left.messages ≡ published.journal.messages
-      same = left_messages journal lines
+      abbrev next : ℕ
+      next = end.arbitration.view.next
 
-      before : HasLinesBefore lines why published.journal
-      before = laws.before limit journal lines why opening refused
-
-      refused_is : end.outgoing.text ≡ lines_text first (between lines first end.arbitration.view.next)
-      refused_is =
-          let next : ℕ = end.arbitration.view.next in
-          text_is
-          ∙ ap (λ (messages : List Message). handed_text Lines first (between messages first next)) same
-          ∙ text_between (take count lines) published.journal.messages first next before.spelled
-          ∙ ap (lines_text first) (between_front lines count first next least from
-          (let most_of = ap (λ (messages : List Message). length messages) same in omega (arith, most_of, within)))
+      same : left.messages ≡ published_messages
+      same = left_messages journal input
 
       -- the last lines and the status are those of the refusal
       all_is : loop_text reporting published end
-          ≡ lines_text first (between lines first end.arbitration.view.next) ++ refused_text (count + 1) why
+          ≡ handed_text format first (between published_messages first next)
+          ++ note_text format (refused_text (length published_messages + 1) why)
       all_is =
-          ap (λ (text : List ℕ). text ++ loop_lines reporting published.journal published.refused end) refused_is
-          ∙ ap (λ (r : Option MessageRefusal).
-          lines_text first (between lines first end.arbitration.view.next) ++ loop_lines reporting published.journal r end) refused
+          ap (λ (text : List ℕ). text ++ loop_lines reporting published.journal published.refused end) text_is
+          ∙ ap (λ (messages : List Message). handed_text format first (between messages first next)
+          ++ loop_lines reporting published.journal published.refused end) same
+          ∙ ap (λ (r : Option MessageRefusal). handed_text format first (between published_messages first next)
+          ++ loop_lines reporting published.journal r end) refused
+          ∙ ap (λ (f : MessageFormat). handed_text format first (between published_messages first next)
+          ++ note_text f (refused_text (length published_messages + 1) why)) (done.format ∙ in_format)
 
       two_is : loop_status published.refused end ≡ 2
       two_is = ap (λ (r : Option MessageRefusal). loop_status r end) refused
 
-      pub loop_prints_refused : PrintsRefused lines (count + 1) why first result old new
+      pub loop_prints_refused : PrintsMessagesRefused format published_messages why first result old new
       loop_prints_refused = record {
-        next = end.arbitration.view.next;
+        next = next;
         from = from;
         to = let most_of = ap (λ (messages : List Message). length messages) same in omega (arith, most_of, within);
         text =
@@ -439,12 +444,9 @@ module _ {P : Type 0} (laws : LoopLaws P) (reporting : Bool) (drops : Drops) (a 
         front = subst (λ (text : List ℕ). AppendsPrefix old new text) all_is ran.front;
       }
 
-    -- if no line is refused
+    -- if no entry is refused
 
     module _ (unrefused : published.refused ≡ None) where
-      spelled : HasLines lines left
-      spelled = laws.opening.lines limit journal lines opening unrefused
-
       -- the last lines and the status are those of a listener
       line_is : loop_lines reporting published.journal published.refused end ≡ last_lines reporting end
       line_is = ap (λ (refused : Option MessageRefusal). loop_lines reporting published.journal refused end) unrefused
@@ -455,30 +457,26 @@ module _ {P : Type 0} (laws : LoopLaws P) (reporting : Bool) (drops : Drops) (a 
       abbrev ending : ListenerState P
       ending = record { a = start.a; b = start.b; requests = rounds.requests; progress = end }
 
-      comes : HasCome reporting lines first ending result old new
-      comes =
-          let many : length lines ≡ length left.messages = spelled_length lines left.messages spelled.spelled in
-          record {
-            plain = done.format ∙ plain;
-            whole =
-                IfOk-weaker result _ _
-                (λ answer written. (
-                  subst (λ (line : List ℕ). Appends old new (end.outgoing.text ++ line)) line_is written.0,
-                  written.1 ∙ status_is,
-                ))
-                ran.whole;
-            front = subst (λ (line : List ℕ). AppendsPrefix old new (end.outgoing.text ++ line)) line_is ran.front;
-            from = from;
-            to = omega (arith, many, within);
-            ahead = done.sound.honest.well_formed.ahead;
-            received = omega (arith, many, done.sound.honest.known);
-            all = λ over.
-                let is = (done.sound.honest.ends end.arbitration.view.next
-                (ends_so end.arbitration.view.ended end.arbitration.view.next over)).1 in
-                omega (arith, many, is);
-          }
+      comes : HasCome format reporting left first ending result old new
+      comes = record {
+        kept = done.format ∙ in_format;
+        whole =
+            IfOk-weaker result _ _
+            (λ answer written. (
+              subst (λ (line : List ℕ). Appends old new (end.outgoing.text ++ line)) line_is written.0,
+              written.1 ∙ status_is,
+            ))
+            ran.whole;
+        front = subst (λ (line : List ℕ). AppendsPrefix old new (end.outgoing.text ++ line)) line_is ran.front;
+        from = from;
+        to = within;
+        ahead = done.sound.honest.well_formed.ahead;
+        received = done.sound.honest.known;
+        finished = λ over.
+            let is = done.sound.honest.ends end.arbitration.view.next
+            (ends_so end.arbitration.view.ended end.arbitration.view.next over) in
+            record { closed = is.0; all = is.1 };
+      }
 
-      pub loop_prints_lines : PrintsLines reporting lines first result old new
-      loop_prints_lines =
-          prints_lines comes
-          (text_is ∙ text_between lines left.messages first end.arbitration.view.next spelled.spelled)
+      pub loop_prints_messages : PrintsMessages format reporting left first result old new
+      loop_prints_messages = prints_messages comes text_is

@@ -1,4 +1,4 @@
-//! The law of the loop in one process: it relates the lines that are published to the lines that are printed.
+//! The law of the loop in one process: it relates the messages that are published to what is printed.
 #![tactic(auto)]
 
 pub mod laws;

@@ -9,7 +9,6 @@ mod publish_options;
 mod publishing;
 mod sending;
 
-pub use publication::print_message_refused;
 pub use publish_devices::PublishDevices;
 pub use publish_options::PublishOptions;
 pub use publishing::{publish, publish_loop};

@@ -42,9 +42,9 @@ fn save_journal<K: Sink>(journal: &Journal, sink: &mut K) -> Result<(), CommandF
     }
 }
 
-/// Appends the line that reports why the entry of this number is refused. Entries are numbered from 1. If an allocation
-/// fails, a part of the line may follow the earlier text.
-pub fn print_message_refused(
+// Appends the line that reports why the entry of this number is refused. Entries are numbered from 1. If an allocation
+// fails, a part of the line may follow the earlier text.
+fn print_message_refused(
     outgoing: &mut Outgoing,
     number: u64,
     refusal: MessageRefusal,

@@ -10,8 +10,8 @@ use Rattle.std.proofs.KnownBytes.{Appends-nil, Appends-trans}
 use Rattle.mold_devices.specs.Devices.{AppendsPrefix}
 use Rattle.mold_devices.specs.Writing.{Moves}
 use Rattle.mold_turns.specs.Outgoing.{IsBounded}
-use Rattle.mold_turns.specs.Runs.{Loop, run, Begins, Rests, RestsOfTwo, Ran, TurnRests, TurnRestsOfTwo, WrittenInTime}
-use Rattle.mold_turns.specs.Sides.{RanBeside, RestsBeside, TurnRestsBeside}
+use Rattle.mold_turns.specs.Runs.{Loop, run, Begins, Rests, Ran, TurnRests, WrittenInTime}
+use Rattle.mold_turns.specs.Sides.{RanBeside, RestsBeside, RestsOfTwo, TurnRestsBeside, TurnRestsOfTwo}
 
 -- ---- prefixes
 
@@ -175,7 +175,7 @@ module _ {C S M : Type 0} {loop : Loop C S M} {behind : List ℕ → S → S} (i
   rests_all result {start} {now} {old} {new} {count} turns made going =
       rests_end result (subst (λ (n : ℕ). Going loop behind start old new n now) made going)
 
-  -- ---- one turn and the write after it. The lemmas are unfoldable, since a second port's sends depend on the choice.
+  -- ---- one turn and the write after it. The lemmas are unfoldable, since other texts and sends depend on the choice.
 
   -- the turn was made, and some of the text was written
   unfoldable pub turn_sent : {T E : Type 0} (result : Result T E) {start : S} {old new : Option (List ℕ)} {left : List ℕ}
@@ -359,51 +359,6 @@ module _ {C S M : Type 0} {loop : Loop C S M} {behind : List ℕ → S → S} (i
     more = [];
     appended = Appends-nil held;
   }
-
-  -- ---- a loop that sends from two ports
-
-  module _ (other : S → List M) (keeps : (front : List ℕ) (s : S) → other (behind front s) ≡ other s)
-      (more_sent : (choice : C) (s : S) → Begins (other s) (other (loop.turn choice s))) where
-    two_end : {T E : Type 0} (result : Result T E) {start now : S} {old new : Option (List ℕ)} {turns : ℕ} →
-        Going loop behind start old new turns now → RestsOfTwo loop other behind turns start result old new now
-    unfolding rests_end
-    two_end result {start} {now} going =
-        let end : run loop going.choices start ≡ behind going.written now =
-        ap (λ (l : List C). run loop l start) (sym (append-nil going.choices)) ∙ going.goes_on []
-        ∙ run_none loop (behind going.written now) in
-        record {
-          rests = rests_end result going;
-          others =
-              subst (λ (l : List M). Begins (other now) l) (sym (ap other end ∙ keeps going.written now))
-              (begins_whole (other now));
-        }
-
-    pub two_all : {T E : Type 0} (result : Result T E) {start now : S} {old new : Option (List ℕ)} {count : ℕ}
-        (turns : ℕ) → count ≡ turns → Going loop behind start old new count now →
-        RestsOfTwo loop other behind turns start result old new now
-    two_all result {start} {now} {old} {new} {count} turns made going =
-        two_end result (subst (λ (n : ℕ). Going loop behind start old new n now) made going)
-
-    -- a turn, or the write after it, ended in a fault
-    pub two_broken : {T E U F : Type 0} (result : Result T E) (inner : Result U F) {start now : S}
-        {old mid new : Option (List ℕ)} {count : ℕ} (turns : ℕ) (after : S) → Going loop behind start old mid count now →
-        count < turns → TurnRestsOfTwo loop other behind now inner mid new after → IsErr result →
-        RestsOfTwo loop other behind turns start result old new after
-    unfolding rests_broken filled
-    two_broken result inner {start} {now} {old} {mid} {new} {count} turns after going few made failed =
-        let choice : C = made.turn.choice in
-        let fill : List C = replicate (turns - (count + 1)) choice in
-        let here : S = behind going.written now in
-        record {
-          rests = rests_broken result inner turns after going few made.turn failed;
-          others =
-              subst (λ (s : S). Begins (other after) (other s)) (sym (going.goes_on (choice ∷ fill)))
-              (begins_trans
-              (subst (λ (l : List M). Begins (other after) l)
-              (sym (ap other (is.turn going.written choice now) ∙ keeps going.written (loop.turn choice now)))
-              made.others)
-              (grows_from loop other more_sent choice fill here));
-        }
 
   -- ---- after the turns
 
@@ -662,6 +617,52 @@ module _ {C S M : Type 0} {loop : Loop C S M} {behind beside : List ℕ → S �
             (begins_behind going.said turned.front))
             (grows_from loop side apart.says choice fill here));
       }
+
+  -- ---- a loop that sends from two ports
+
+  module _ (other : S → List M) (keeps : (front : List ℕ) (s : S) → other (behind front s) ≡ other s)
+      (kept : (said : List ℕ) (s : S) → other (beside said s) ≡ other s)
+      (more_sent : (choice : C) (s : S) → Begins (other s) (other (loop.turn choice s))) where
+    -- all turns were made
+    pub two_all : {T E : Type 0} {last : T} {start now : S} {old new errors_old errors_new : Option (List ℕ)}
+        {count : ℕ} (turns : ℕ) → count ≡ turns →
+        GoingBeside loop behind beside start old new errors_old errors_new count now →
+        RestsOfTwo {T = T} {E = E} loop other behind beside side turns start (Ok last) old new errors_old errors_new now
+    two_all {T} {E} {last} {start} {now} {old} {new} {errors_old} {errors_new} {count} turns made going =
+        let rests : RestsBeside {T = T} {E = E} loop behind beside side turns start (Ok last) old new errors_old
+        errors_new now = beside_rests_all {T = T} {E = E} turns made going in
+        record {
+          rests = rests;
+          others =
+              subst (λ (l : List M). Begins (other now) l)
+              (sym (ap other rests.rests.whole ∙ keeps rests.rests.written (beside rests.said now)
+              ∙ kept rests.said now))
+              (begins_whole (other now));
+        }
+
+    -- a turn, or a write after it, ended in a fault
+    pub two_broken : {T E U F : Type 0} (result : Result T E) (inner : Result U F) {start now : S}
+        {old mid new errors_old errors_mid errors_new : Option (List ℕ)} {count : ℕ} (turns : ℕ) (after : S) →
+        GoingBeside loop behind beside start old mid errors_old errors_mid count now → count < turns →
+        TurnRestsOfTwo loop other behind beside side now inner mid new errors_mid errors_new after → IsErr result →
+        RestsOfTwo loop other behind beside side turns start result old new errors_old errors_new after
+    unfolding beside_rests_broken filled
+    two_broken result inner {start} {now} {count = count} turns after going few made failed =
+        let choice : C = made.turn.turn.choice in
+        let fill : List C = replicate (turns - (count + 1)) choice in
+        let here : S = behind going.going.written (beside going.said now) in
+        record {
+          rests = beside_rests_broken result inner turns after going few made.turn failed;
+          others =
+              subst (λ (s : S). Begins (other after) (other s)) (sym (going.going.goes_on (choice ∷ fill)))
+              (begins_trans
+              (subst (λ (l : List M). Begins (other after) l)
+              (sym (ap other (is.turn going.going.written choice (beside going.said now))
+              ∙ keeps going.going.written (loop.turn choice (beside going.said now))
+              ∙ ap other (apart.turn going.said choice now) ∙ kept going.said (loop.turn choice now)))
+              made.others)
+              (grows_from loop other more_sent choice fill here));
+        }
 
   -- ---- after the turns
 

@@ -46,13 +46,6 @@ pub record TurnRests {C S M T E : Type 0} (loop : Loop C S M) (behind : List ℕ
   -- what was sent is a prefix of what the turn sends
   pub sent : Begins (loop.sent now) (loop.sent (loop.turn choice start))
 
--- The same for a loop that sends from two ports. What the other port sent is also a prefix of what the turn sends
--- there.
-pub record TurnRestsOfTwo {C S M T E : Type 0} (loop : Loop C S M) (other : S → List M) (behind : List ℕ → S → S)
-    (start : S) (result : Result T E) (old new : Option (List ℕ)) (now : S) : Type 0 where
-  pub turn : TurnRests loop behind start result old new now
-  pub others : Begins (other now) (other (loop.turn turn.choice start))
-
 -- A loop that ended with a fault has written the text of all completed turns, except what it may keep between turns
 -- (`IsBounded`). The state after the last completed turn satisfies `ends`. The contracts of loops pass `IsInNextTurn`
 -- for `ends`.
@@ -87,13 +80,6 @@ pub record Rests {C S M T E : Type 0} (loop : Loop C S M) (behind : List ℕ →
   pub front : Begins written (loop.text (run loop choices start))
   -- what was sent is a prefix of what the run sends
   pub sent : Begins (loop.sent now) (loop.sent (run loop choices start))
-
--- The same for a loop that sends from two ports. What the other port sent is also a prefix of what the run sends
--- there.
-pub record RestsOfTwo {C S M T E : Type 0} (loop : Loop C S M) (other : S → List M) (behind : List ℕ → S → S)
-    (turns : ℕ) (start : S) (result : Result T E) (old new : Option (List ℕ)) (now : S) : Type 0 where
-  pub rests : Rests loop behind turns start result old new now
-  pub others : Begins (other now) (other (run loop rests.choices start))
 
 -- The outcome of a loop of at most `turns` turns from `start`, which agrees with `run` for some choice in each turn.
 -- After a success, the text and the last line of that run are written, and its status is returned. In every case, what

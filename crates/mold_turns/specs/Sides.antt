@@ -35,6 +35,14 @@ pub record TurnRestsBeside {C S M T E : Type 0} (loop : Loop C S M) (behind besi
   -- it is a prefix of the text for standard error after the turn
   pub front : Begins said (side (loop.turn turn.choice start))
 
+-- The same for a loop that sends from two ports. What the other port sent is also a prefix of what the turn sends
+-- there.
+pub record TurnRestsOfTwo {C S M T E : Type 0} (loop : Loop C S M) (other : S → List M)
+    (behind beside : List ℕ → S → S) (side : S → List ℕ) (start : S) (result : Result T E)
+    (old new errors_old errors_new : Option (List ℕ)) (now : S) : Type 0 where
+  pub turn : TurnRestsBeside loop behind beside side start result old new errors_old errors_new now
+  pub others : Begins (other now) (other (loop.turn turn.turn.choice start))
+
 -- What a loop of at most `turns` turns leaves before it prints its last lines, if it also writes to standard error.
 pub record RestsBeside {C S M T E : Type 0} (loop : Loop C S M) (behind beside : List ℕ → S → S)
     (side : S → List ℕ) (turns : ℕ) (start : S) (result : Result T E)
@@ -45,6 +53,14 @@ pub record RestsBeside {C S M T E : Type 0} (loop : Loop C S M) (behind beside :
   pub rests : Rests loop behind turns start result old new (beside said now)
   -- it is a prefix of the text of the run for standard error
   pub front : Begins said (side (run loop rests.choices start))
+
+-- The same for a loop that sends from two ports. What the other port sent is also a prefix of what the run sends
+-- there.
+pub record RestsOfTwo {C S M T E : Type 0} (loop : Loop C S M) (other : S → List M) (behind beside : List ℕ → S → S)
+    (side : S → List ℕ) (turns : ℕ) (start : S) (result : Result T E)
+    (old new errors_old errors_new : Option (List ℕ)) (now : S) : Type 0 where
+  pub rests : RestsBeside loop behind beside side turns start result old new errors_old errors_new now
+  pub others : Begins (other now) (other (run loop rests.rests.choices start))
 
 -- The outcome of a loop that also writes to standard error. After a success, all text of the run for standard error is
 -- written there, followed by its last lines there (`last_side`). In every case, a prefix of that text is written.

@@ -105,6 +105,8 @@ pub record LoopArguments : Type 0 where
   pub turns : ℕ
   -- Whether reports of both lines are printed before the last line.
   pub report : Bool
+  -- How the input encodes the messages, and the format in which they are printed.
+  pub format : MessageFormat
 
 -- The model of a `dump` order.
 pub record DumpArguments : Type 0 where
@@ -191,6 +193,7 @@ view (Loop order) = loop_wanted (record {
   drop_b = order.drop_b;
   turns = order.turns;
   report = order.report;
+  format = order.format;
 })
 view (Upgrade order) = upgrade_wanted (string_bytes order.journal) (string_bytes order.to) order.close
 view (Dump order) = dump_wanted (record {

@@ -74,7 +74,7 @@ format_of false true = None
 unfoldable pub format_in : List Row → Option MessageFormat
 format_in rows = format_of (flag_in (codes "blocks") rows) (flag_in (codes "end-at-empty") rows)
 
--- The format that the flag `--blocks` chooses for an output.
+-- The format that the flag `--blocks` chooses for the output of `listen`, and for input and output of `loop`.
 abbrev pub output_of : Bool → MessageFormat
 output_of false = Lines
 output_of true = Blocks
@@ -258,6 +258,7 @@ loop_of rows =
       drop_b = drop_b;
       turns = turns;
       report = report_in rows;
+      format = output_in rows;
     })))
     (turns_in rows))
     (number_in (codes "drop-b") 0 0 1000 rows))

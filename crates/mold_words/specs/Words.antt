@@ -44,7 +44,8 @@ commands =
       codes "loop",
       (codes "session", Required) ∷ (codes "limit", Optional) ∷ (codes "server-limit", Optional)
           ∷ (codes "window", Optional) ∷ (codes "burst", Optional) ∷ (codes "drop-a", Optional)
-          ∷ (codes "drop-b", Optional) ∷ (codes "turns", Optional) ∷ (codes "report", Flag) ∷ [],
+          ∷ (codes "drop-b", Optional) ∷ (codes "turns", Optional) ∷ (codes "report", Flag)
+          ∷ (codes "blocks", Flag) ∷ [],
     )
     ∷ (codes "upgrade", (codes "journal", Required) ∷ (codes "to", Required) ∷ (codes "close", Flag) ∷ [])
     ∷ (

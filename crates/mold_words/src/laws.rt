@@ -236,7 +236,7 @@ pub fn listen_taken_law()
 
 /// `loop --session MKT` is accepted, and asks to run the session `MKT` in one process. The limits are 1,400 bytes, the
 /// window is 1,024 messages, a request has one response, and there are at most 1,000 rounds. No packet is left out.
-/// `--report` asks for reports of both lines.
+/// Messages are lines. `--report` asks for reports of both lines, and `--blocks` for messages as blocks.
 pub fn loop_taken_law()
     ensures usual { Say (codes "loop" ∷ codes "--session" ∷ codes "MKT" ∷ [])
         (loop_wanted (record {
@@ -249,6 +249,7 @@ pub fn loop_taken_law()
           drop_b = 0;
           turns = 1000;
           report = false;
+          format = Lines;
         })) }
     ensures report { Say (codes "loop" ∷ codes "--session" ∷ codes "MKT" ∷ codes "--report" ∷ [])
         (loop_wanted (record {
@@ -261,6 +262,20 @@ pub fn loop_taken_law()
           drop_b = 0;
           turns = 1000;
           report = true;
+          format = Lines;
+        })) }
+    ensures blocks { Say (codes "loop" ∷ codes "--session" ∷ codes "MKT" ∷ codes "--blocks" ∷ [])
+        (loop_wanted (record {
+          session = codes "MKT       ";
+          limit = 1400;
+          server_limit = 1400;
+          window = 1024;
+          burst = 1;
+          drop_a = 0;
+          drop_b = 0;
+          turns = 1000;
+          report = false;
+          format = Blocks;
         })) }
 {}
 

@@ -6,6 +6,7 @@ ghost use Rattle.mold_words.specs.Values.{is_character};
 ghost use Rattle.mold_wire.specs.declared.limits.TheConstants.{MAX_BURST, MAX_WINDOW};
 
 use crate::limits::Limits;
+use mold_input::MessageFormat;
 
 /// The session that `loop` publishes and receives in one process, and how.
 #[derive(Clone, Copy, Debug, PartialEq, Eq)]
@@ -26,6 +27,8 @@ pub struct LoopOrder {
     pub turns: u32,
     /// Whether reports of both lines are printed before the last line.
     pub report: bool,
+    /// How the input encodes the messages, and the format in which they are printed.
+    pub format: MessageFormat,
     ghost named: { list_all is_character session ≡ true },
     ghost windowed: { (1 ≤ window) × (window ≤ MAX_WINDOW) },
     ghost bursting: { (1 ≤ burst) × (burst ≤ MAX_BURST) },

@@ -269,5 +269,6 @@ fn loop_order(options: &ArgMatches<'_>) -> Result<Order, NoOrder>
         drop_b: drop_b as u32,
         turns,
         report: report_in(options),
+        format: output_in(options),
     }))
 }

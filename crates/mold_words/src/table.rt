@@ -116,6 +116,14 @@ const BLOCKS_OUT: OptionRow = OptionRow {
         standard error",
 };
 
+// Reads and prints message blocks in place of lines.
+const BLOCKS_BOTH: OptionRow = OptionRow {
+    name: "blocks",
+    kind: Kind::Flag,
+    help: "Read and print message blocks (BinaryFILE), and print all other text on\n\
+        standard error",
+};
+
 // Ends the input of blocks before the first empty one.
 const END_AT_EMPTY: OptionRow = OptionRow {
     name: "end-at-empty",
@@ -310,6 +318,7 @@ pub static COMMANDS: [CommandRow; 10] = [
                 help: "The maximum number of rounds of requests, 1 to 1000000 [default: 1000]",
             },
             REPORT,
+            BLOCKS_BOTH,
         ],
         example: "Example:\n  printf '4142\\n4344\\n' | mold loop --session SESSION001 --drop-a 1 --drop-b 1",
     },

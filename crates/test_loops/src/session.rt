@@ -8,7 +8,7 @@ ghost use Rattle.mold_publish.specs.Publishing.{HasRoom};
 use crate::comparisons::{same_bytes, same_outcome, same_size};
 use crate::scripts::{Given, PEER, Sent, expect_sent, give, silent};
 use mold_devices::{CommandFault, MemorySink, MemorySource};
-use mold_input::{HexLines, MessageFormat};
+use mold_input::{HexLines, MessageBlocks, MessageFormat};
 use mold_listen::Printer;
 use mold_loop::{Drops, Listener, LoopOptions, LoopParts, LoopPeers, LoopPorts, session_loop};
 use mold_ports::MemoryPort;
@@ -81,8 +81,16 @@ fn new_server(alloc: Global) -> Result<Server, Fail>
     Ok(Server::new(alloc, 64, 42, 1)?)
 }
 
-// Publisher, server, and a listener that begins at message 1.
+// Publisher, server, and a listener that begins at message 1 and prints lines.
 pub fn new_parts(alloc: Global) -> Result<LoopParts, Fail>
+    ensures room { IfOk result (λ parts. HasRoom parts.publisher) }
+    ensures longest { IfOk result (λ parts. parts.publisher.journal.max_message ≤ parts.server.max_message) }
+{
+    new_parts_in(alloc, MessageFormat::Lines)
+}
+
+// Publisher, server, and a listener that begins at message 1 and prints in this format.
+fn new_parts_in(alloc: Global, format: MessageFormat) -> Result<LoopParts, Fail>
     ensures room { IfOk result (λ parts. HasRoom parts.publisher) }
     ensures longest { IfOk result (λ parts. parts.publisher.journal.max_message ≤ parts.server.max_message) }
 {
@@ -92,7 +100,7 @@ pub fn new_parts(alloc: Global) -> Result<LoopParts, Fail>
         server: new_server(alloc)?,
         listener: Listener {
             arbiter: Arbiter::new(Receiver::new(alloc, SESSION, 1, 4)?),
-            printer: Printer::new(alloc, MessageFormat::Lines),
+            printer: Printer::new(alloc, format),
         },
     })
 }
@@ -152,7 +160,7 @@ fn give_ports(
     Ok(())
 }
 
-// Publishes the lines of the case.
+// Publishes the lines of the case. Among lines, nothing is written to the other sink.
 fn run(
     alloc: Global,
     ports: &mut LoopPorts<MemoryPort>,
@@ -169,7 +177,15 @@ fn run(
     let mut source = MemorySource::new(case.lines);
     source.at_most(THREE_LINES);
     source.fail_at(case.read_fails);
-    Ok(session_loop::<HexLines, _, _, _>(ports, &options, &mut parts, &mut source, sink))
+    let mut errors = MemorySink::new(alloc);
+    Ok(session_loop::<HexLines, _, _, _, _>(
+        ports,
+        &options,
+        &mut parts,
+        &mut source,
+        sink,
+        &mut errors,
+    ))
 }
 
 fn expect_ports(rt: &impl Abort, ports: &LoopPorts<MemoryPort>, case: &Case, at: usize) {
@@ -417,4 +433,42 @@ const REFUSED_LINE: Case = Case {
 #[test]
 fn a_refused_line_ends_a_session(rt: HostRuntime) -> Result<(), Fail> {
     expect(&rt, &REFUSED_LINE, 0)
+}
+
+/// The packet of a message `A`.
+const ONLY_A: &[u8] = b"SESSION001\0\0\0\0\0\0\0\x01\0\x01\0\x01A";
+
+// The input is a block and the first byte of another one. Line A gives a datagram that is refused.
+#[test]
+fn refusals_are_printed_apart_from_blocks(rt: HostRuntime) -> Result<(), Fail> {
+    let mut ports = silent_ports(rt.alloc());
+    give(rt.alloc(), &mut ports.a, &[Given::Bytes(b"\0")], None)?;
+    give(rt.alloc(), &mut ports.b, &[Given::Bytes(ONLY_A)], None)?;
+    let options = LoopOptions {
+        peers: PEERS,
+        drops: Drops { a: 0, b: 0 },
+        turns: 1,
+        reporting: true,
+    };
+    let mut parts = new_parts_in(rt.alloc(), MessageFormat::Blocks)?;
+    let mut source = MemorySource::new(b"\0\x01A\0");
+    let mut sink = MemorySink::new(rt.alloc());
+    let mut errors = MemorySink::new(rt.alloc());
+    let outcome = session_loop::<MessageBlocks, _, _, _, _>(
+        &mut ports,
+        &options,
+        &mut parts,
+        &mut source,
+        &mut sink,
+        &mut errors,
+    );
+    same_outcome(&rt, outcome, Ok(2), 0);
+    same_bytes(&rt, sink.bytes(), b"\0\x01A", 0);
+    same_bytes(
+        &rt,
+        errors.bytes(),
+        b"refused Malformed Short 1\nrefused block 2 Cut\n",
+        0,
+    );
+    Ok(())
 }

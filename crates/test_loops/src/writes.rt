@@ -254,7 +254,15 @@ fn publish_on<K: Sink>(
     };
     let mut parts = new_parts(alloc)?;
     let mut source = MemorySource::new(LINES);
-    Ok(session_loop::<HexLines, _, _, _>(ports, &options, &mut parts, &mut source, sink))
+    let mut errors = MemorySink::new(alloc);
+    Ok(session_loop::<HexLines, _, _, _, _>(
+        ports,
+        &options,
+        &mut parts,
+        &mut source,
+        sink,
+        &mut errors,
+    ))
 }
 
 // Nothing is dropped. The sink has room for the lines of the first packet.

@@ -161,6 +161,7 @@ fn expect_loop(rt: &impl Abort, order: &LoopOrder, wanted: &Values<'_>, line: &s
         u64::from(order.drop_b),
         u64::from(order.turns),
         u64::from(order.report),
+        number_of(order.format),
     ];
     let found = Values {
         command: "loop",

@@ -276,14 +276,14 @@ fn arguments_of_listen(rt: HostRuntime) {
     expect_orders(&rt, LISTEN);
 }
 
-// Both limits, the window, the burst, the drops of line A and line B, the turns and `--report`.
+// Both limits, the window, the burst, the drops of line A and line B, the turns, `--report` and `--blocks`.
 const LOOP: &[OrderLine] = &[(
     "loop --session MKT --limit 64 --server-limit 65 --window 4 --burst 2 --drop-a \
-            3 --drop-b 1000 --turns 5 --report",
+            3 --drop-b 1000 --turns 5 --report --blocks",
     Values {
         command: "loop",
         session: b"MKT       ",
-        numbers: &[64, 65, 4, 2, 3, 1000, 5, 1],
+        numbers: &[64, 65, 4, 2, 3, 1000, 5, 1, 1],
         addresses: &[],
         texts: &[],
     },

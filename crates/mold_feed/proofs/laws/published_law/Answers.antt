@@ -1,4 +1,4 @@
-use Rattle.mold_feed.proofs.PublishedLemmas.{PublishedLaws, lines_spelled, lines_spelled_before, offered_true}
+use Rattle.mold_feed.proofs.PublishedLemmas.{PublishedLaws, entries_read, entries_read_before, offered_true}
 use Rattle.mold_feed.proofs.PublishedLemmas.{published_may, published_true}
 use Rattle.mold_feed.proofs.laws.published_law.Given.{Over}
 use Rattle.mold_feed.proofs.laws.published_law.Goals.{After-sending_law}
@@ -14,7 +14,7 @@ pub returns : goal.returns
 returns g c = record {
   offered = offered_true (laws g c);
   sent = published_true (laws g c);
-  lines = lines_spelled (laws g c);
-  before = lines_spelled_before (laws g c);
+  messages = entries_read (laws g c);
+  before = entries_read_before (laws g c);
   answers = published_may (laws g c);
 }

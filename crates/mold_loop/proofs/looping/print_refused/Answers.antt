@@ -1,56 +1,92 @@
-use Rattle.std.proofs.Common.{◌++◌, ◌∙◌, List, ℕ, ap, refl}
-use Rattle.mold_publish.specs.Publishing.{refused_text}
-use Rattle.mold_devices.proofs.WritingLemmas.{not_memory}
+use Rattle.std.proofs.Common.{◌∙◌, List, ℕ, ap, refl, subst, take}
+use Rattle.std.specs.Io.KnownBytes.{Appends}
+use Rattle.mold_devices.specs.Devices.{AppendsPrefix}
+use Rattle.mold_devices.proofs.WritingLemmas.{ends_front, ends_sink, ends_whole, not_memory}
 use Rattle.mold_turns.specs.Outgoing.{OutgoingState}
-use Rattle.mold_turns.proofs.PrintingLemmas.{front_behind, front_more, front_whole, whole_behind}
+use Rattle.mold_turns.proofs.FaultLemmas.{counts_same, two_faults, two_same}
+use Rattle.mold_turns.proofs.PrintingLemmas.{front_more, front_none}
 use Rattle.mold_loop.proofs.looping.print_refused.Goals as goal
 
-pub returns-in_err-send-clause-front : goal.returns-in_err-send-clause-front
-returns-in_err-send-clause-front g c =
-    front_more _ _ c.args.outgoing.now.text (refused_text c.args.number c.args.refusal) c.send.ensures.front
+pub returns-in_default-clause-front : goal.returns-in_default-clause-front
+returns-in_default-clause-front g c =
+    front_more _ _ c.args.outgoing.now.text _
+    (subst (λ (t : List ℕ). AppendsPrefix (g.K.Sink.held c.args.sink.now) (g.K.Sink.held c.end_with.new.sink) t)
+    (ap (λ (n : ℕ). take n c.push_refused.new.outgoing.text) c.unwritten-told.ensures ∙ c.in_default.ensures.kept)
+    (ends_front c.end_with.ensures.ends))
 
-pub returns-in_err-print_message_refused-clause-front : goal.returns-in_err-print_message_refused-clause-front
-returns-in_err-print_message_refused-clause-front g c =
-    front_whole _ _ c.args.outgoing.now.text (refused_text c.args.number c.args.refusal) c.in_ok-send.ensures.whole
+pub returns-in_default-clause-said_front : goal.returns-in_default-clause-said_front
+returns-in_default-clause-said_front g c = front_none (g.E.Sink.held c.args.errors.now) _
 
-pub returns-in_err-send-2-clause-front : goal.returns-in_err-send-2-clause-front
-returns-in_err-send-2-clause-front g c =
-    let line = refused_text c.args.number c.args.refusal in
-    front_behind _ _ _ c.args.outgoing.now.text c.print_message_refused.new.outgoing.text line c.in_ok-send.ensures.whole
-    (ap (λ (o : OutgoingState). o.text) c.in_ok-print_message_refused.ensures ∙ ap (λ (l : List ℕ). l ++ line) c.in_ok-send.ensures.empty)
-    c.send-2.ensures.front
+pub returns-in_default-clause-kept : goal.returns-in_default-clause-kept
+returns-in_default-clause-kept g c = λ is.
+    subst (λ (t : List ℕ). Appends (g.K.Sink.held c.args.sink.now) (g.K.Sink.held c.end_with.new.sink) t)
+    (ap (λ (n : ℕ). take n c.push_refused.new.outgoing.text) c.unwritten-told.ensures ∙ c.in_default.ensures.kept)
+    (ends_whole c.end_with.ensures.ends is)
+
+pub returns-in_default-clause-sinks : goal.returns-in_default-clause-sinks
+returns-in_default-clause-sinks g c = two_faults _ _ _ _ c.end_with.result (ends_sink c.end_with.ensures.ends) refl
+
+pub returns-in_default-clause-quiet : goal.returns-in_default-clause-quiet
+returns-in_default-clause-quiet g c = λ plain. (refl, ends_sink c.end_with.ensures.ends)
+
+pub returns-in_err-write_all-clause-front : goal.returns-in_err-write_all-clause-front
+returns-in_err-write_all-clause-front g c =
+    subst (λ (t : List ℕ). AppendsPrefix (g.K.Sink.held c.args.sink.now) (g.K.Sink.held c.write_all.new.sink) t)
+    (ap (λ (o : OutgoingState). o.text) c.in-Ok.ensures.note) c.write_all.ensures.front
+
+pub returns-in_err-write_all-clause-said_front : goal.returns-in_err-write_all-clause-said_front
+returns-in_err-write_all-clause-said_front g c =
+    subst (λ (t : List ℕ). AppendsPrefix (g.E.Sink.held c.args.errors.now) (g.E.Sink.held c.write_all.new.errors) t)
+    (ap (λ (o : OutgoingState). o.side) c.in-Ok.ensures.note) c.write_all.ensures.said_front
+
+pub returns-in_err-write_all-clause-kept : goal.returns-in_err-write_all-clause-kept
+returns-in_err-write_all-clause-kept g c =
+    not_memory c.from_residual.result c.in_err-write_all.field-0.0 _ c.from_residual.ensures.1
+    c.in_err-write_all.ensures.fault
+
+pub returns-in_err-write_all-clause-sinks : goal.returns-in_err-write_all-clause-sinks
+returns-in_err-write_all-clause-sinks g c =
+    two_same c.from_residual.result c.in_err-write_all.field-0.0 _ _ _ _ _ _ c.from_residual.ensures.1 refl refl
+    c.in_err-write_all.ensures.sinks
+
+pub returns-in_err-write_all-clause-quiet : goal.returns-in_err-write_all-clause-quiet
+returns-in_err-write_all-clause-quiet g c = λ plain.
+    let quiet = c.in_err-write_all.ensures.quiet (c.push_refused.ensures.keeps.side plain.lines ∙ plain.none) in (
+      quiet.0,
+      counts_same c.from_residual.result c.in_err-write_all.field-0.0 _ _ c.from_residual.ensures.1 quiet.1,
+    )
+
+pub returns-clause-whole : goal.returns-clause-whole
+returns-clause-whole g c = (
+  subst (λ (t : List ℕ). Appends (g.K.Sink.held c.args.sink.now) (g.K.Sink.held c.write_all.new.sink) t)
+      (ap (λ (o : OutgoingState). o.text) c.in-Ok.ensures.note) c.in_ok-write_all.ensures.whole,
+  refl,
+)
 
 pub returns-clause-front : goal.returns-clause-front
 returns-clause-front g c =
-    let line = refused_text c.args.number c.args.refusal in
-    front_behind _ _ _ c.args.outgoing.now.text c.print_message_refused.new.outgoing.text line c.in_ok-send.ensures.whole
-    (ap (λ (o : OutgoingState). o.text) c.in_ok-print_message_refused.ensures ∙ ap (λ (l : List ℕ). l ++ line) c.in_ok-send.ensures.empty)
-    c.send-2.ensures.front
+    subst (λ (t : List ℕ). AppendsPrefix (g.K.Sink.held c.args.sink.now) (g.K.Sink.held c.write_all.new.sink) t)
+    (ap (λ (o : OutgoingState). o.text) c.in-Ok.ensures.note) c.write_all.ensures.front
 
-pub returns-clause-whole : goal.returns-clause-whole
-returns-clause-whole g c =
-    let line = refused_text c.args.number c.args.refusal in (
-      whole_behind _ _ _ c.args.outgoing.now.text c.print_message_refused.new.outgoing.text line c.in_ok-send.ensures.whole
-          (ap (λ (o : OutgoingState). o.text) c.in_ok-print_message_refused.ensures ∙ ap (λ (l : List ℕ). l ++ line) c.in_ok-send.ensures.empty)
-          c.in_ok-send-2.ensures.whole,
-      refl,
-    )
+pub returns-clause-said : goal.returns-clause-said
+returns-clause-said g c =
+    subst (λ (t : List ℕ). Appends (g.E.Sink.held c.args.errors.now) (g.E.Sink.held c.write_all.new.errors) t)
+    (ap (λ (o : OutgoingState). o.side) c.in-Ok.ensures.note) c.in_ok-write_all.ensures.said
+
+pub returns-clause-said_front : goal.returns-clause-said_front
+returns-clause-said_front g c =
+    subst (λ (t : List ℕ). AppendsPrefix (g.E.Sink.held c.args.errors.now) (g.E.Sink.held c.write_all.new.errors) t)
+    (ap (λ (o : OutgoingState). o.side) c.in-Ok.ensures.note) c.write_all.ensures.said_front
 
 pub returns-clause-left : goal.returns-clause-left
 returns-clause-left g c =
+    let left = c.in_ok-write_all.ensures.left in
     record {
-      text = c.in_ok-send-2.ensures.empty;
-      failures =
-          c.send-2.ensures.failures ∙ ap (λ (o : OutgoingState). o.failures) c.in_ok-print_message_refused.ensures
-          ∙ c.send.ensures.failures;
+      text = left.text;
+      side = left.side;
+      failures = left.failures ∙ ap (λ (o : OutgoingState). o.failures) c.in-Ok.ensures.note;
     }
 
--- a fault of the sink is not one of memory
-pub returns-in_err-send-clause-kept : goal.returns-in_err-send-clause-kept
-returns-in_err-send-clause-kept g c =
-    not_memory c.from_residual.result c.in_err-send.field-0.0 _ c.from_residual.ensures.1 c.in_err-send.ensures.fault
-
-pub returns-in_err-send-2-clause-kept : goal.returns-in_err-send-2-clause-kept
-returns-in_err-send-2-clause-kept g c =
-    not_memory c.from_residual-in_err-send-2.result c.in_err-send-2.field-0.0 _ c.from_residual-in_err-send-2.ensures.1
-    c.in_err-send-2.ensures.fault
+pub returns-clause-quiet : goal.returns-clause-quiet
+returns-clause-quiet g c = λ plain.
+    c.in_ok-write_all.ensures.quiet (c.push_refused.ensures.keeps.side plain.lines ∙ plain.none)

@@ -8,4 +8,4 @@ use Rattle.mold_words.proofs.laws.loop_taken_law.Goals as goal
 
 pub returns : goal.returns
 unfolding clap_on_literals mold_app order_of has_no_address order_at limits_in loop_of number_of decimal_of session_of
-returns c = record { usual = (refl, refl); report = (refl, refl) }
+returns c = record { usual = (refl, refl); report = (refl, refl); blocks = (refl, refl) }

@@ -1,4 +1,4 @@
-use Rattle.std.proofs.Common.{◌∙◌, ◌+◌, Bool, ℕ, Err, List, Option, Result, ap, arith, refl, subst, sym}
+use Rattle.std.proofs.Common.{◌∙◌, ◌+◌, Bool, ℕ, Err, List, Option, Result, ap, arith, inl, refl, subst, sym}
 use Rattle.std.proofs.lemmas.List.{take_all}
 use Rattle.mold_devices.specs.Devices.{AppendsPrefix}
 use Rattle.mold_devices.specs.Faults.{CountsFault, CountsReadFault, from_read_fault}
@@ -9,7 +9,8 @@ use Rattle.mold_devices.specs.declared.fault.CommandFault.{CommandFault}
 use Rattle.mold_publish.specs.declared.message_refusal.MessageRefusal.{MessageRefusal}
 use Rattle.mold_publish.proofs.DatagramLemmas.{PackingLaws, all_sent}
 use Rattle.mold_session.specs.Publisher.{PublisherState, next_datagram}
-use Rattle.mold_turns.proofs.FaultLemmas.{counts_behind, counts_same}
+use Rattle.mold_turns.proofs.FaultLemmas.{counts_behind, counts_memory, counts_same, two_memory, two_same}
+use Rattle.mold_loop.proofs.WritingLemmas.{counts_after}
 use Rattle.mold_turns.specs.Outgoing.{IsBounded}
 use Rattle.mold_loop.specs.LocalFeed.{lines}
 use Rattle.mold_send.specs.PublishLoop.{spelled_some}
@@ -39,13 +40,16 @@ passing-init g c = record {
   received = λ modeled.
       let feed = c.args.self.now in
       so_far_begun g.M.MessageReader.input_kind g.M.MessageReader.entries feed.options.now.drops feed.options.now.peers.a feed.options.now.peers.b c.args.publisher.now
-      (g.S.Source.left c.args.source.now) _ _ _ c.in_ok-messages.ensures;
+      (g.S.Source.left c.args.source.now) _ _ _ _ c.in_ok-messages.ensures;
   only = passes_at_first g.D.Datagrams.modeled g.D.Datagrams.port c.args.self.now;
   limit = refl;
   bounded = λ bounded. bounded;
   live = refl;
   source = refl;
   sink = refl;
+  errors = refl;
+  plain = λ plain. plain;
+  quiet = λ plain. refl;
 }
 
 pub passing-preserved : goal.passing-preserved
@@ -61,7 +65,8 @@ passing-preserved g c =
       few = went.1;
       received = λ modeled.
           so_far_full known feed.options.now.drops feed.options.now.peers.a feed.options.now.peers.b c.args.publisher.now
-          c.passing.publisher c.fill.new.publisher c.write_next.new.publisher _ _ _ _ _ (lines port c.write_next.new.self) _ _ _
+          c.passing.publisher c.fill.new.publisher c.write_next.new.publisher _ _ _ _ _
+          (lines port c.write_next.new.self) _ _ _ _ _ _
           c.passing.number c.write_next.new.number c.in_ok-write_next-in-Ok-Full.field-0
           (c.passing.invariant.received modeled) filled c.write_next.ensures.sent
           (next_passed port (c.passing.number + 1) (spelled_some (next_datagram c.fill.new.publisher)) _
@@ -74,7 +79,12 @@ passing-preserved g c =
           c.passing.invariant.live c.in_ok-write_next-in-Ok-Full.ensures.bounded;
       live = c.in_ok-write_next-in-Ok-Full.ensures.live ∙ c.passing.invariant.live;
       source = c.in-Ok-Full.ensures.failures ∙ c.passing.invariant.source;
-      sink = c.in_ok-write_next-in-Ok-Full.ensures.sink ∙ c.passing.invariant.sink;
+      sink = c.in_ok-write_next-in-Ok-Full.ensures.sinks.0 ∙ c.passing.invariant.sink;
+      errors = c.in_ok-write_next-in-Ok-Full.ensures.sinks.1 ∙ c.passing.invariant.errors;
+      plain = λ plain. c.in_ok-write_next-in-Ok-Full.ensures.plain (c.passing.invariant.plain plain);
+      quiet = λ plain.
+          (c.in_ok-write_next-in-Ok-Full.ensures.quiet (c.passing.invariant.plain plain)).0
+          ∙ c.passing.invariant.quiet plain;
     }
 
 pub returns-in-Ok-End-clause-all : goal.returns-in-Ok-End-clause-all
@@ -87,7 +97,7 @@ pub returns-in_err-messages-clause-received : goal.returns-in_err-messages-claus
 returns-in_err-messages-clause-received g c modeled =
     let feed = c.args.self.now in
     hears_none feed.options.now.drops feed.options.now.peers.a feed.options.now.peers.b c.args.publisher.now c.args.publisher.now _
-    c.from_residual.result _ _ c.from_residual.ensures.0
+    c.from_residual.result _ _ _ c.from_residual.ensures.0
 
 pub returns-in-Err-clause-received : goal.returns-in-Err-clause-received
 returns-in-Err-clause-received g c modeled =
@@ -95,7 +105,7 @@ returns-in-Err-clause-received g c modeled =
     let here = lines g.D.Datagrams.port c.passing.self in
     let result : Result (Option MessageRefusal) CommandFault = Err c.end_with.result in
     hears_unwritten feed.options.now.drops feed.options.now.peers.a feed.options.now.peers.b c.args.publisher.now
-    c.passing.publisher c.fill.new.publisher _ _ result _ here _ _ _ _ c.passing.number
+    c.passing.publisher c.fill.new.publisher _ _ result _ here _ _ _ _ _ _ c.passing.number
     (c.passing.invariant.received modeled) refl
     (subst (λ (text : List ℕ). AppendsPrefix (g.K.Sink.held c.passing.sink) (g.K.Sink.held c.end_with.new.sink) text)
     (take_all c.unwritten-len.result here.progress.outgoing.text (omega (arith, c.unwritten-len.ensures)))
@@ -117,15 +127,96 @@ returns-in-Err-clause-failures g c =
     (read_counts c.in-Err.fault source_old source_new sink
     (subst (λ (n : ℕ). CountsReadFault n source_new c.in-Err.fault) c.passing.invariant.source
     c.in-Err.ensures.failures)) in
-    subst (λ (n : ℕ). CountsFault source_old source_new n (g.K.Sink.failed c.end_with.new.sink) c.end_with.result)
-    c.passing.invariant.sink (ends_command source_old source_new met c.end_with.ensures.ends)
+    inl (
+      subst (λ (n : ℕ). CountsFault source_old source_new n (g.K.Sink.failed c.end_with.new.sink) c.end_with.result)
+          c.passing.invariant.sink (ends_command source_old source_new met c.end_with.ensures.ends),
+      c.passing.invariant.errors,
+    )
+
+pub returns-in-Err-clause-quiet : goal.returns-in-Err-clause-quiet
+returns-in-Err-clause-quiet g c = λ plain.
+    let source_old = g.S.Source.failed c.args.source.now in
+    let source_new = g.S.Source.failed c.fill.new.source in
+    let sink = g.K.Sink.failed c.passing.sink in
+    let met = subst (λ (fault : CommandFault). CountsFault source_old source_new sink sink fault) (sym c.from-met.ensures)
+    (read_counts c.in-Err.fault source_old source_new sink
+    (subst (λ (n : ℕ). CountsReadFault n source_new c.in-Err.fault) c.passing.invariant.source
+    c.in-Err.ensures.failures)) in (
+      c.passing.invariant.quiet plain,
+      subst (λ (n : ℕ). CountsFault source_old source_new n (g.K.Sink.failed c.end_with.new.sink) c.end_with.result)
+          c.passing.invariant.sink (ends_command source_old source_new met c.end_with.ensures.ends),
+    )
+
+pub returns-in_err-messages-clause-failures : goal.returns-in_err-messages-clause-failures
+returns-in_err-messages-clause-failures g c =
+    let result = c.from_residual.result in
+    counts_after result _ _ _ _ _ _ _ _ refl refl refl (two_memory result _ _ _ _ c.from_residual.ensures.1 refl refl)
+
+pub returns-in_err-messages-clause-quiet : goal.returns-in_err-messages-clause-quiet
+returns-in_err-messages-clause-quiet g c = λ plain.
+    let result = c.from_residual.result in
+    (refl, counts_behind result _ _ _ _ _ refl refl (counts_memory result _ _ c.from_residual.ensures.1 refl))
+
+pub returns-in-Ok-End-clause-failures : goal.returns-in-Ok-End-clause-failures
+returns-in-Ok-End-clause-failures g c =
+    let counted = c.in_ok-write_next-in-Ok-End.ensures.sinks in
+    inl (
+      (c.in-Ok-End.ensures.failures ∙ c.passing.invariant.source, counted.0 ∙ c.passing.invariant.sink),
+      counted.1 ∙ c.passing.invariant.errors,
+    )
+
+pub returns-in-Ok-End-clause-quiet : goal.returns-in-Ok-End-clause-quiet
+returns-in-Ok-End-clause-quiet g c = λ plain.
+    let quiet = c.in_ok-write_next-in-Ok-End.ensures.quiet (c.passing.invariant.plain plain) in (
+      quiet.0 ∙ c.passing.invariant.quiet plain,
+      (c.in-Ok-End.ensures.failures ∙ c.passing.invariant.source, quiet.1 ∙ c.passing.invariant.sink),
+    )
+
+pub returns-in-Ok-End-clause-plain : goal.returns-in-Ok-End-clause-plain
+returns-in-Ok-End-clause-plain g c = λ plain.
+    c.in_ok-write_next-in-Ok-End.ensures.plain (c.passing.invariant.plain plain)
+
+pub returns-in-Lines-clause-failures : goal.returns-in-Lines-clause-failures
+returns-in-Lines-clause-failures g c =
+    inl (
+      (c.in-Ok-Refused.ensures.failures ∙ c.passing.invariant.source, c.passing.invariant.sink),
+      c.passing.invariant.errors,
+    )
+
+pub returns-in-Lines-clause-quiet : goal.returns-in-Lines-clause-quiet
+returns-in-Lines-clause-quiet g c = λ plain. (
+  c.passing.invariant.quiet plain,
+  (c.in-Ok-Refused.ensures.failures ∙ c.passing.invariant.source, c.passing.invariant.sink),
+)
+
+pub returns-in-Lines-clause-plain : goal.returns-in-Lines-clause-plain
+returns-in-Lines-clause-plain g c = c.passing.invariant.plain
+
+pub returns-in-Blocks-clause-failures : goal.returns-in-Blocks-clause-failures
+returns-in-Blocks-clause-failures g c =
+    let counted = c.in_ok-write_next-in-Blocks.ensures.sinks in
+    inl (
+      (c.in-Ok-Refused.ensures.failures ∙ c.passing.invariant.source, counted.0 ∙ c.passing.invariant.sink),
+      counted.1 ∙ c.passing.invariant.errors,
+    )
+
+pub returns-in-Blocks-clause-quiet : goal.returns-in-Blocks-clause-quiet
+returns-in-Blocks-clause-quiet g c = λ plain.
+    let quiet = c.in_ok-write_next-in-Blocks.ensures.quiet (c.passing.invariant.plain plain) in (
+      quiet.0 ∙ c.passing.invariant.quiet plain,
+      (c.in-Ok-Refused.ensures.failures ∙ c.passing.invariant.source, quiet.1 ∙ c.passing.invariant.sink),
+    )
+
+pub returns-in-Blocks-clause-plain : goal.returns-in-Blocks-clause-plain
+returns-in-Blocks-clause-plain g c = λ plain.
+    c.in_ok-write_next-in-Blocks.ensures.plain (c.passing.invariant.plain plain)
 
 pub returns-in_err-write_next-in-Ok-Full-clause-received : goal.returns-in_err-write_next-in-Ok-Full-clause-received
 returns-in_err-write_next-in-Ok-Full-clause-received g c modeled =
     let feed = c.args.self.now in
     hears_full (laws g (goal.at.returns-in_err-write_next-in-Ok-Full-clause-received g c).After-packing_law)
     feed.options.now.drops feed.options.now.peers.a feed.options.now.peers.b c.args.publisher.now c.passing.publisher
-    c.fill.new.publisher c.write_next.new.publisher _ _ _ _ _ _ _ _ _ c.passing.number c.write_next.result
+    c.fill.new.publisher c.write_next.new.publisher _ _ _ _ _ _ _ _ _ _ _ _ c.passing.number c.write_next.result
     c.from_residual-in_err-write_next-in-Ok-Full.result (c.passing.invariant.received modeled)
     (rw c.in-Ok-Full.field-0-is at c.in-Ok-Full.ensures.filled)
     (next_passed g.D.Datagrams.port (c.passing.number + 1) (spelled_some (next_datagram c.fill.new.publisher)) _
@@ -135,10 +226,22 @@ returns-in_err-write_next-in-Ok-Full-clause-received g c modeled =
 pub returns-in_err-write_next-in-Ok-Full-clause-failures : goal.returns-in_err-write_next-in-Ok-Full-clause-failures
 returns-in_err-write_next-in-Ok-Full-clause-failures g c =
     let result = c.from_residual-in_err-write_next-in-Ok-Full.result in
-    counts_behind result _ _ _ (g.K.Sink.failed c.passing.sink) _
-    (c.in-Ok-Full.ensures.failures ∙ c.passing.invariant.source) c.passing.invariant.sink
-    (counts_same result c.in_err-write_next-in-Ok-Full.field-0.0 _ _
-    c.from_residual-in_err-write_next-in-Ok-Full.ensures.1 c.in_err-write_next-in-Ok-Full.ensures.sink)
+    counts_after result _ _ _ (g.K.Sink.failed c.passing.sink) _ _ (g.E.Sink.failed c.passing.errors) _
+    (c.in-Ok-Full.ensures.failures ∙ c.passing.invariant.source) c.passing.invariant.sink c.passing.invariant.errors
+    (two_same result c.in_err-write_next-in-Ok-Full.field-0.0 _ _ _ _ _ _
+    c.from_residual-in_err-write_next-in-Ok-Full.ensures.1 refl refl
+    c.in_err-write_next-in-Ok-Full.ensures.sinks)
+
+pub returns-in_err-write_next-in-Ok-Full-clause-quiet : goal.returns-in_err-write_next-in-Ok-Full-clause-quiet
+returns-in_err-write_next-in-Ok-Full-clause-quiet g c = λ plain.
+    let result = c.from_residual-in_err-write_next-in-Ok-Full.result in
+    let quiet = c.in_err-write_next-in-Ok-Full.ensures.quiet (c.passing.invariant.plain plain) in (
+      quiet.0 ∙ c.passing.invariant.quiet plain,
+      counts_behind result _ _ _ (g.K.Sink.failed c.passing.sink) _
+          (c.in-Ok-Full.ensures.failures ∙ c.passing.invariant.source) c.passing.invariant.sink
+          (counts_same result c.in_err-write_next-in-Ok-Full.field-0.0 _ _
+          c.from_residual-in_err-write_next-in-Ok-Full.ensures.1 quiet.1),
+    )
 
 pub returns-in_err-write_next-in-Ok-Full-clause-live : goal.returns-in_err-write_next-in-Ok-Full-clause-live
 returns-in_err-write_next-in-Ok-Full-clause-live g c = c.write_next.ensures.live ∙ c.passing.invariant.live
@@ -148,7 +251,7 @@ returns-in_err-write_next-in-Ok-End-clause-received g c modeled =
     let feed = c.args.self.now in
     hears_last (laws g (goal.at.returns-in_err-write_next-in-Ok-End-clause-received g c).After-packing_law)
     feed.options.now.drops feed.options.now.peers.a feed.options.now.peers.b c.args.publisher.now c.passing.publisher
-    c.fill.new.publisher c.write_next-in-Ok-End.new.publisher _ _ _ _ _ _ _ _ _ c.passing.number
+    c.fill.new.publisher c.write_next-in-Ok-End.new.publisher _ _ _ _ _ _ _ _ _ _ _ _ c.passing.number
     c.write_next-in-Ok-End.result c.from_residual-in_err-write_next-in-Ok-End.result
     (c.passing.invariant.received modeled) (rw c.in-Ok-End.field-0-is at c.in-Ok-End.ensures.filled)
     (next_passed g.D.Datagrams.port (c.passing.number + 1) (spelled_some (next_datagram c.fill.new.publisher)) _
@@ -158,10 +261,22 @@ returns-in_err-write_next-in-Ok-End-clause-received g c modeled =
 pub returns-in_err-write_next-in-Ok-End-clause-failures : goal.returns-in_err-write_next-in-Ok-End-clause-failures
 returns-in_err-write_next-in-Ok-End-clause-failures g c =
     let result = c.from_residual-in_err-write_next-in-Ok-End.result in
-    counts_behind result _ _ _ (g.K.Sink.failed c.passing.sink) _
-    (c.in-Ok-End.ensures.failures ∙ c.passing.invariant.source) c.passing.invariant.sink
-    (counts_same result c.in_err-write_next-in-Ok-End.field-0.0 _ _
-    c.from_residual-in_err-write_next-in-Ok-End.ensures.1 c.in_err-write_next-in-Ok-End.ensures.sink)
+    counts_after result _ _ _ (g.K.Sink.failed c.passing.sink) _ _ (g.E.Sink.failed c.passing.errors) _
+    (c.in-Ok-End.ensures.failures ∙ c.passing.invariant.source) c.passing.invariant.sink c.passing.invariant.errors
+    (two_same result c.in_err-write_next-in-Ok-End.field-0.0 _ _ _ _ _ _
+    c.from_residual-in_err-write_next-in-Ok-End.ensures.1 refl refl
+    c.in_err-write_next-in-Ok-End.ensures.sinks)
+
+pub returns-in_err-write_next-in-Ok-End-clause-quiet : goal.returns-in_err-write_next-in-Ok-End-clause-quiet
+returns-in_err-write_next-in-Ok-End-clause-quiet g c = λ plain.
+    let result = c.from_residual-in_err-write_next-in-Ok-End.result in
+    let quiet = c.in_err-write_next-in-Ok-End.ensures.quiet (c.passing.invariant.plain plain) in (
+      quiet.0 ∙ c.passing.invariant.quiet plain,
+      counts_behind result _ _ _ (g.K.Sink.failed c.passing.sink) _
+          (c.in-Ok-End.ensures.failures ∙ c.passing.invariant.source) c.passing.invariant.sink
+          (counts_same result c.in_err-write_next-in-Ok-End.field-0.0 _ _
+          c.from_residual-in_err-write_next-in-Ok-End.ensures.1 quiet.1),
+    )
 
 pub returns-in_err-write_next-in-Ok-End-clause-live : goal.returns-in_err-write_next-in-Ok-End-clause-live
 returns-in_err-write_next-in-Ok-End-clause-live g c = c.write_next-in-Ok-End.ensures.live ∙ c.passing.invariant.live
@@ -171,7 +286,8 @@ returns-in-Ok-End-clause-received g c modeled =
     let feed = c.args.self.now in
     hears_end (laws g (goal.at.returns-in-Ok-End-clause-received g c).After-packing_law) feed.options.now.drops
     feed.options.now.peers.a feed.options.now.peers.b c.args.publisher.now c.passing.publisher c.fill.new.publisher
-    c.write_next-in-Ok-End.new.publisher _ _ _ _ _ (lines g.D.Datagrams.port c.write_next-in-Ok-End.new.self) _ _ _
+    c.write_next-in-Ok-End.new.publisher _ _ _ _ _ (lines g.D.Datagrams.port c.write_next-in-Ok-End.new.self) _ _ _ _ _
+    _
     c.passing.number c.in_ok-write_next-in-Ok-End.field-0
     (c.passing.invariant.received modeled) (rw c.in-Ok-End.field-0-is at c.in-Ok-End.ensures.filled)
     (next_passed g.D.Datagrams.port (c.passing.number + 1) (spelled_some (next_datagram c.fill.new.publisher)) _
@@ -183,7 +299,7 @@ returns-in-Lines-clause-received g c modeled =
     let feed = c.args.self.now in
     hears_refused (laws g (goal.at.returns-in-Lines-clause-received g c).After-packing_law) feed.options.now.drops
     feed.options.now.peers.a feed.options.now.peers.b c.args.publisher.now c.passing.publisher c.fill.new.publisher _ _ _
-    c.in-Ok-Refused.refusal _ _ _ _ c.passing.number (c.passing.invariant.received modeled)
+    c.in-Ok-Refused.refusal _ _ _ _ _ _ c.passing.number (c.passing.invariant.received modeled)
     (rw c.in-Ok-Refused.field-0-is at c.in-Ok-Refused.ensures.filled) c.in-Lines.is
 
 pub returns-in-Err-clause-only : goal.returns-in-Err-clause-only
@@ -233,7 +349,8 @@ returns-in_err-write_next-in-Blocks-clause-received g c modeled =
     let feed = c.args.self.now in
     hears_last_before (laws g (goal.at.returns-in_err-write_next-in-Blocks-clause-received g c).After-packing_law)
     feed.options.now.drops feed.options.now.peers.a feed.options.now.peers.b c.args.publisher.now c.passing.publisher
-    c.fill.new.publisher c.write_next-in-Blocks.new.publisher _ _ _ c.in-Ok-Refused.refusal _ _ _ _ _ _ c.passing.number
+    c.fill.new.publisher c.write_next-in-Blocks.new.publisher _ _ _ c.in-Ok-Refused.refusal _ _ _ _ _ _ _ _ _
+    c.passing.number
     c.write_next-in-Blocks.result c.from_residual-in_err-write_next-in-Blocks.result
     (c.passing.invariant.received modeled) (rw c.in-Ok-Refused.field-0-is at c.in-Ok-Refused.ensures.filled) c.in-Blocks.is
     (next_passed g.D.Datagrams.port (c.passing.number + 1) (spelled_some (next_datagram c.fill.new.publisher)) _
@@ -243,10 +360,22 @@ returns-in_err-write_next-in-Blocks-clause-received g c modeled =
 pub returns-in_err-write_next-in-Blocks-clause-failures : goal.returns-in_err-write_next-in-Blocks-clause-failures
 returns-in_err-write_next-in-Blocks-clause-failures g c =
     let result = c.from_residual-in_err-write_next-in-Blocks.result in
-    counts_behind result _ _ _ (g.K.Sink.failed c.passing.sink) _
-    (c.in-Ok-Refused.ensures.failures ∙ c.passing.invariant.source) c.passing.invariant.sink
-    (counts_same result c.in_err-write_next-in-Blocks.field-0.0 _ _
-    c.from_residual-in_err-write_next-in-Blocks.ensures.1 c.in_err-write_next-in-Blocks.ensures.sink)
+    counts_after result _ _ _ (g.K.Sink.failed c.passing.sink) _ _ (g.E.Sink.failed c.passing.errors) _
+    (c.in-Ok-Refused.ensures.failures ∙ c.passing.invariant.source) c.passing.invariant.sink c.passing.invariant.errors
+    (two_same result c.in_err-write_next-in-Blocks.field-0.0 _ _ _ _ _ _
+    c.from_residual-in_err-write_next-in-Blocks.ensures.1 refl refl
+    c.in_err-write_next-in-Blocks.ensures.sinks)
+
+pub returns-in_err-write_next-in-Blocks-clause-quiet : goal.returns-in_err-write_next-in-Blocks-clause-quiet
+returns-in_err-write_next-in-Blocks-clause-quiet g c = λ plain.
+    let result = c.from_residual-in_err-write_next-in-Blocks.result in
+    let quiet = c.in_err-write_next-in-Blocks.ensures.quiet (c.passing.invariant.plain plain) in (
+      quiet.0 ∙ c.passing.invariant.quiet plain,
+      counts_behind result _ _ _ (g.K.Sink.failed c.passing.sink) _
+          (c.in-Ok-Refused.ensures.failures ∙ c.passing.invariant.source) c.passing.invariant.sink
+          (counts_same result c.in_err-write_next-in-Blocks.field-0.0 _ _
+          c.from_residual-in_err-write_next-in-Blocks.ensures.1 quiet.1),
+    )
 
 pub returns-in_err-write_next-in-Blocks-clause-live : goal.returns-in_err-write_next-in-Blocks-clause-live
 returns-in_err-write_next-in-Blocks-clause-live g c = c.write_next-in-Blocks.ensures.live ∙ c.passing.invariant.live
@@ -259,7 +388,8 @@ returns-in-Blocks-clause-received g c modeled =
     let feed = c.args.self.now in
     hears_before (laws g (goal.at.returns-in-Blocks-clause-received g c).After-packing_law) feed.options.now.drops
     feed.options.now.peers.a feed.options.now.peers.b c.args.publisher.now c.passing.publisher c.fill.new.publisher
-    c.write_next-in-Blocks.new.publisher _ _ _ c.in-Ok-Refused.refusal _ _ (lines g.D.Datagrams.port c.write_next-in-Blocks.new.self) _ _ _
+    c.write_next-in-Blocks.new.publisher _ _ _ c.in-Ok-Refused.refusal _ _
+    (lines g.D.Datagrams.port c.write_next-in-Blocks.new.self) _ _ _ _ _ _
     c.passing.number c.in_ok-write_next-in-Blocks.field-0
     (c.passing.invariant.received modeled) (rw c.in-Ok-Refused.field-0-is at c.in-Ok-Refused.ensures.filled) c.in-Blocks.is
     (next_passed g.D.Datagrams.port (c.passing.number + 1) (spelled_some (next_datagram c.fill.new.publisher)) _

@@ -7,22 +7,27 @@ use Rattle.mold_serve.specs.Serving.{service_of}
 use Rattle.mold_receiver.specs.Wanted.{wanted}
 use Rattle.mold_session.specs.Server.{ServerState}
 use Rattle.mold_loop.proofs.LocalFeedLemmas.{repairs_at_first, repairs_twice, round_from}
-use Rattle.mold_turns.proofs.FaultLemmas.{counts_same}
-use Rattle.mold_turns.proofs.RunLemmas.{going_init, going_turned, two_all, two_broken}
-use Rattle.mold_loop.proofs.RepairLemmas.{rests_still, round_answers, rounds_are}
+use Rattle.mold_turns.proofs.FaultLemmas.{counts_same, two_same}
+use Rattle.mold_turns.proofs.RunLemmas.{beside_init, beside_turned, two_all, two_broken}
+use Rattle.mold_loop.proofs.RepairLemmas.{rests_still, round_answers, rounds_apart, rounds_are}
 use Rattle.mold_serve.proofs.ServingLemmas.{same_service}
 use Rattle.mold_loop.proofs.local_feed.LocalFeed.repair_all.Goals as goal
 
 pub loop-turn-init : goal.loop-turn-init
 loop-turn-init g c = record {
   going = λ t.
-      going_init (rounds_are c.args.self.now.options.now.peers.server (service_of c.args.journal.now c.args.server.now)) _
-      (g.K.Sink.held c.args.sink.now);
+      let service = service_of c.args.journal.now c.args.server.now in
+      beside_init (rounds_are c.args.self.now.options.now.peers.server service)
+      (rounds_apart c.args.self.now.options.now.peers.server service) _ (g.K.Sink.held c.args.sink.now)
+      (g.E.Sink.held c.args.errors.now);
   server = refl;
   only = repairs_at_first c.args.self.now;
   bounded = c.requires.bounded;
   live = refl;
   sink = refl;
+  errors = refl;
+  plain = λ plain. plain;
+  quiet = λ plain. refl;
 }
 
 pub write_round-requires-clause-longest : goal.write_round-requires-clause-longest
@@ -41,7 +46,8 @@ loop-turn-preserved g c = record {
       let made = round_from
       (same_service c.args.journal.now c.loop-turn.server c.args.server.now _ c.loop-turn.invariant.server)
       c.loop-turn.invariant.only.same (c.in_ok-write_round.ensures.rests t) in
-      going_turned (rounds_are c.args.self.now.options.now.peers.server service)
+      let to = c.args.self.now.options.now.peers.server in
+      beside_turned (rounds_are to service) (rounds_apart to service)
       (rounds g.D.Datagrams.port c.write_round.new.server c.write_round.new.self) (c.loop-turn.invariant.going t) made.turn
       refl;
   server =
@@ -52,12 +58,16 @@ loop-turn-preserved g c = record {
       subst (λ (live : Bool). IsBounded live c.write_round.new.self.listener.now.printer.outgoing.text)
       c.loop-turn.invariant.live c.in_ok-write_round.ensures.bounded;
   live = c.in_ok-write_round.ensures.live ∙ c.loop-turn.invariant.live;
-  sink = c.in_ok-write_round.ensures.sink ∙ c.loop-turn.invariant.sink;
+  sink = c.in_ok-write_round.ensures.sinks.0 ∙ c.loop-turn.invariant.sink;
+  errors = c.in_ok-write_round.ensures.sinks.1 ∙ c.loop-turn.invariant.errors;
+  plain = λ plain. c.in_ok-write_round.ensures.plain (c.loop-turn.invariant.plain plain);
+  quiet = λ plain.
+      (c.in_ok-write_round.ensures.quiet (c.loop-turn.invariant.plain plain)).0 ∙ c.loop-turn.invariant.quiet plain;
 }
 
 pub returns-in_default-clause-rests : goal.returns-in_default-clause-rests
 returns-in_default-clause-rests g c = λ t.
-    rests_still c.args.self.now.options.now.peers.server (service_of c.args.journal.now c.args.server.now) _ _ _ _ _
+    rests_still c.args.self.now.options.now.peers.server (service_of c.args.journal.now c.args.server.now) _ _ _ _ _ _
     c.loop-turn._turn c.args.self.now.options.now.turns (c.loop-turn.invariant.going t) (omega (arith, c.loop-turn-test.true))
     (ap wanted (sym c.receiver.ensures) ∙ sym c.in_default.ensures.wanted)
 
@@ -74,7 +84,8 @@ pub returns-in_err-write_round-clause-rests : goal.returns-in_err-write_round-cl
 returns-in_err-write_round-clause-rests g c = λ t.
     let to = c.args.self.now.options.now.peers.server in
     let service = service_of c.args.journal.now c.args.server.now in
-    two_broken (rounds_are to service) answers_sent (λ front s. refl) (round_answers to service)
+    two_broken (rounds_are to service) (rounds_apart to service) answers_sent (λ front s. refl) (λ said s. refl)
+    (round_answers to service)
     c.from_residual.result c.write_round.result c.args.self.now.options.now.turns
     (rounds g.D.Datagrams.port c.write_round.new.server c.write_round.new.self) (c.loop-turn.invariant.going t)
     c.loop-turn-test.true
@@ -88,19 +99,45 @@ returns-in_err-write_round-clause-only g c = repairs_twice c.loop-turn.invariant
 pub returns-in_err-write_round-clause-live : goal.returns-in_err-write_round-clause-live
 returns-in_err-write_round-clause-live g c = c.write_round.ensures.live ∙ c.loop-turn.invariant.live
 
-pub returns-in_err-write_round-clause-sink : goal.returns-in_err-write_round-clause-sink
-returns-in_err-write_round-clause-sink g c =
-    counts_same c.from_residual.result c.in_err-write_round.field-0.0 _ _ c.from_residual.ensures.1
-    (subst (λ (n : ℕ). CountsSinkFault n (g.K.Sink.failed c.write_round.new.sink) c.in_err-write_round.field-0.0)
-    c.loop-turn.invariant.sink c.in_err-write_round.ensures.sink)
+pub returns-in_err-write_round-clause-sinks : goal.returns-in_err-write_round-clause-sinks
+returns-in_err-write_round-clause-sinks g c =
+    two_same c.from_residual.result c.in_err-write_round.field-0.0 _ _ _ _ _ _ c.from_residual.ensures.1
+    c.loop-turn.invariant.sink c.loop-turn.invariant.errors c.in_err-write_round.ensures.sinks
+
+pub returns-in_err-write_round-clause-quiet : goal.returns-in_err-write_round-clause-quiet
+returns-in_err-write_round-clause-quiet g c = λ plain.
+    let quiet = c.in_err-write_round.ensures.quiet (c.loop-turn.invariant.plain plain) in (
+      quiet.0 ∙ c.loop-turn.invariant.quiet plain,
+      counts_same c.from_residual.result c.in_err-write_round.field-0.0 _ _ c.from_residual.ensures.1
+          (subst (λ (n : ℕ). CountsSinkFault n (g.K.Sink.failed c.write_round.new.sink) c.in_err-write_round.field-0.0)
+          c.loop-turn.invariant.sink quiet.1),
+    )
+
+pub returns-in_default-clause-sinks : goal.returns-in_default-clause-sinks
+returns-in_default-clause-sinks g c = (c.loop-turn.invariant.sink, c.loop-turn.invariant.errors)
+
+pub returns-in_default-clause-plain : goal.returns-in_default-clause-plain
+returns-in_default-clause-plain g c = c.loop-turn.invariant.plain
+
+pub returns-in_default-clause-quiet : goal.returns-in_default-clause-quiet
+returns-in_default-clause-quiet g c = λ plain. (c.loop-turn.invariant.quiet plain, c.loop-turn.invariant.sink)
+
+pub returns-clause-sinks : goal.returns-clause-sinks
+returns-clause-sinks g c = (c.loop-turn.invariant.sink, c.loop-turn.invariant.errors)
+
+pub returns-clause-plain : goal.returns-clause-plain
+returns-clause-plain g c = c.loop-turn.invariant.plain
+
+pub returns-clause-quiet : goal.returns-clause-quiet
+returns-clause-quiet g c = λ plain. (c.loop-turn.invariant.quiet plain, c.loop-turn.invariant.sink)
 
 pub returns-clause-rests : goal.returns-clause-rests
 returns-clause-rests g c = λ t.
     let to = c.args.self.now.options.now.peers.server in
     let made : c.loop-turn._turn ≡ c.args.self.now.options.now.turns = omega (arith, c.loop-turn-test.false, c.loop-turn.auto._turn-end) in
     let service = service_of c.args.journal.now c.args.server.now in
-    two_all (rounds_are to service) answers_sent (λ front s. refl) (round_answers to service) _ c.args.self.now.options.now.turns
-    made (c.loop-turn.invariant.going t)
+    two_all (rounds_are to service) (rounds_apart to service) answers_sent (λ front s. refl) (λ said s. refl)
+    (round_answers to service) c.args.self.now.options.now.turns made (c.loop-turn.invariant.going t)
 
 pub returns-clause-only : goal.returns-clause-only
 returns-clause-only g c = c.loop-turn.invariant.only

@@ -6,7 +6,8 @@ use Rattle.mold_loop.specs.Repairing.{repair_state}
 use Rattle.mold_serve.specs.Serving.{service_of}
 use Rattle.mold_ports.specs.Ports.{Port}
 use Rattle.mold_session.specs.Publisher.{PublisherState}
-use Rattle.mold_turns.proofs.FaultLemmas.{counts_behind, counts_same}
+use Rattle.mold_turns.proofs.FaultLemmas.{counts_behind, counts_same, two_same}
+use Rattle.mold_loop.proofs.WritingLemmas.{counts_after, none_failed}
 use Rattle.mold_turns.specs.Outgoing.{IsBounded}
 use Rattle.mold_loop.proofs.LocalFeedLemmas.{passed_from, rounds_from, same_twice}
 use Rattle.mold_loop.proofs.LoopEndLemmas.{journal_left, loop_done, loop_stopped, loop_unended, loop_unreceived, loop_unrepaired}
@@ -16,8 +17,14 @@ use Rattle.mold_loop.proofs.local_feed.LocalFeed.run.Goals as goal
 
 pub returns-in-Some-clause-failures : goal.returns-in-Some-clause-failures
 returns-in-Some-clause-failures g c =
-    counts_behind c.print_refused.result _ _ _ _ _ c.in_ok-refused.ensures.failures.0
-    c.in_ok-refused.ensures.failures.1 c.print_refused.ensures.sink
+    let none = none_failed c.in_ok-refused.ensures.failures in
+    counts_after c.print_refused.result _ _ _ _ _ _ _ _ none.source none.sink none.errors c.print_refused.ensures.sinks
+
+pub returns-in-Some-clause-quiet : goal.returns-in-Some-clause-quiet
+returns-in-Some-clause-quiet g c = λ plain.
+    let before = c.in_ok-refused.ensures.quiet plain in
+    let quiet = c.print_refused.ensures.quiet (c.in_ok-refused.ensures.plain plain) in
+    (quiet.0 ∙ before.0, counts_behind c.print_refused.result _ _ _ _ _ before.1.0 before.1.1 quiet.1)
 
 pub returns-in_err-refused-clause-run : goal.returns-in_err-refused-clause-run
 returns-in_err-refused-clause-run g c modeled =
@@ -26,7 +33,7 @@ returns-in_err-refused-clause-run g c modeled =
     let peers = feed.options.now.peers in
     loop_unreceived feed.options.now.reporting feed.options.now.drops peers.a peers.b peers.server feed.options.now.turns c.args.publisher.now
     c.pass_messages.new.publisher c.args.server.now (lines port feed) (rounds port c.args.server.now feed) _
-    c.pass_messages.result c.from_residual.result _ _ (lines port c.pass_messages.new.self)
+    c.pass_messages.result c.from_residual.result _ _ _ _ (lines port c.pass_messages.new.self)
     (rounds port c.args.server.now c.pass_messages.new.self) c.from_residual.ensures.0
     (ap port c.pass_messages.ensures.only.server) (ap port c.pass_messages.ensures.only.requests)
     (c.pass_messages.ensures.received modeled)
@@ -44,10 +51,11 @@ returns-in-Some-clause-run g c modeled =
     loop_stopped feed.options.now.reporting feed.options.now.drops peers.a peers.b peers.server feed.options.now.turns c.args.publisher.now
     c.pass_messages.new.publisher c.args.server.now (lines port feed) (rounds port c.args.server.now feed) _
     c.in-Some.refusal c.next-number.result c.print_refused.result
-    _ _ _ here here_left left
+    _ _ _ _ _ _ here here_left left
     (rw c.in-Some.is at (c.in_ok-refused.ensures.received modeled))
     (rw c.journal.ensures at c.next-number.ensures.value)
-    c.print_refused.ensures.front c.print_refused.ensures.whole
+    c.print_refused.ensures.front c.print_refused.ensures.whole c.print_refused.ensures.said_front
+    c.print_refused.ensures.said
     (record {
       publisher_left = refl;
       a_left = refl;
@@ -66,7 +74,7 @@ returns-in_err-write_end-clause-run g c modeled =
     let peers = feed.options.now.peers in
     loop_unended feed.options.now.reporting feed.options.now.drops peers.a peers.b peers.server feed.options.now.turns c.args.publisher.now
     c.pass_messages.new.publisher c.args.server.now (lines port feed) (rounds port c.args.server.now feed) _
-    c.write_end.result c.from_residual-in_err-write_end.result _ _ _ (lines port c.pass_messages.new.self)
+    c.write_end.result c.from_residual-in_err-write_end.result _ _ _ _ _ _ (lines port c.pass_messages.new.self)
     (lines port c.write_end.new.self) (rounds port c.args.server.now c.write_end.new.self)
     (rw c.in_default.is at (c.in_ok-refused.ensures.received modeled))
     (passed_from port (routed_end c.pass_messages.new.publisher.journal None) c.write_end.result c.write_end.new.self
@@ -84,13 +92,13 @@ returns-in_err-repair_all-clause-run g c modeled =
     let left = rounds port c.repair_all.new.server c.repair_all.new.self in
     loop_unrepaired feed.options.now.reporting feed.options.now.drops peers.a peers.b peers.server feed.options.now.turns c.args.publisher.now
     c.pass_messages.new.publisher c.args.server.now (lines port feed) (rounds port c.args.server.now feed) _
-    c.in_ok-write_end.field-0 c.repair_all.result c.from_residual-in_err-repair_all.result _ _ _ _
+    c.in_ok-write_end.field-0 c.repair_all.result c.from_residual-in_err-repair_all.result _ _ _ _ _ _ _ _
     (lines port c.pass_messages.new.self) there (lines port c.repair_all.new.self) left
     (rw c.in_default.is at (c.in_ok-refused.ensures.received modeled))
     (passed_from port (routed_end c.pass_messages.new.publisher.journal None) _ c.write_end.new.self
     c.pass_messages.ensures.only.same (c.in_ok-write_end.ensures.passed modeled))
     (rests_from peers.server c.args.server.now feed.options.now.turns _ _ _ _ there.progress.arbitration there.progress.outgoing
-    (rounds port c.args.server.now feed) c.repair_all.result _ _ left
+    (rounds port c.args.server.now feed) c.repair_all.result _ _ _ _ left
     (c.journal-journal.ensures ∙ ap (λ (p : PublisherState). p.journal) c.write_end.ensures.closed)
     (ap port (c.write_end.ensures.only.server ∙ c.pass_messages.ensures.only.server))
     (ap port (c.write_end.ensures.only.requests ∙ c.pass_messages.ensures.only.requests))
@@ -114,13 +122,13 @@ returns-clause-run g c modeled =
     c.print_last.new.listener.printer.outgoing in
     loop_done feed.options.now.reporting feed.options.now.drops peers.a peers.b peers.server feed.options.now.turns c.args.publisher.now
     c.pass_messages.new.publisher c.args.server.now (lines port feed) (rounds port c.args.server.now feed) _
-    c.in_ok-write_end.field-0 c.in_ok-repair_all.field-0 c.print_last.result _ _ _ _ _
+    c.in_ok-write_end.field-0 c.in_ok-repair_all.field-0 c.print_last.result _ _ _ _ _ _ _ _ _ _
     (lines port c.pass_messages.new.self) there there_left behind left
     (rw c.in_default.is at (c.in_ok-refused.ensures.received modeled))
     (passed_from port (routed_end c.pass_messages.new.publisher.journal None) _ c.write_end.new.self
     c.pass_messages.ensures.only.same (c.in_ok-write_end.ensures.passed modeled))
     (rests_from peers.server c.args.server.now feed.options.now.turns _ _ _ _ there.progress.arbitration there.progress.outgoing
-    (rounds port c.args.server.now feed) _ _ _ behind
+    (rounds port c.args.server.now feed) _ _ _ _ _ behind
     (c.journal-journal.ensures ∙ ap (λ (p : PublisherState). p.journal) c.write_end.ensures.closed)
     (ap port (c.write_end.ensures.only.server ∙ c.pass_messages.ensures.only.server))
     (ap port (c.write_end.ensures.only.requests ∙ c.pass_messages.ensures.only.requests))
@@ -128,7 +136,7 @@ returns-clause-run g c modeled =
     (rounds_from (service_of c.journal-journal.result.now c.args.server.now)
     (same_twice c.pass_messages.ensures.only.same c.write_end.ensures.only.same)
     (c.in_ok-repair_all.ensures.rests modeled)))
-    c.print_last.ensures.front c.print_last.ensures.whole
+    c.print_last.ensures.front c.print_last.ensures.whole c.print_last.ensures.said_front c.print_last.ensures.said
     (record {
       publisher_left = ap port c.repair_all.ensures.only.publisher;
       a_left = ap port c.repair_all.ensures.only.a;
@@ -145,14 +153,14 @@ returns-in-Some-clause-journal g c modeled =
     let feed = c.args.self.now in
     on_ok c.print_refused.result
     (journal_left feed.options.now.drops feed.options.now.peers.a feed.options.now.peers.b c.args.publisher.now c.pass_messages.new.publisher _
-    (Some c.in-Some.refusal) _ _ _ _ _ (rw c.in-Some.is at (c.in_ok-refused.ensures.received modeled)) refl)
+    (Some c.in-Some.refusal) _ _ _ _ _ _ _ (rw c.in-Some.is at (c.in_ok-refused.ensures.received modeled)) refl)
 
 pub returns-clause-journal : goal.returns-clause-journal
 returns-clause-journal g c modeled =
     let feed = c.args.self.now in
     on_ok c.print_last.result
     (journal_left feed.options.now.drops feed.options.now.peers.a feed.options.now.peers.b c.args.publisher.now c.pass_messages.new.publisher _
-    None _ _ _ _ _ (rw c.in_default.is at (c.in_ok-refused.ensures.received modeled))
+    None _ _ _ _ _ _ _ (rw c.in_default.is at (c.in_ok-refused.ensures.received modeled))
     (ap (λ (p : PublisherState). p.journal) c.write_end.ensures.closed))
 
 pub returns-in-Some-clause-limit : goal.returns-in-Some-clause-limit
@@ -241,6 +249,60 @@ print_last-requires g c =
 pub returns-in_err-write_end-clause-failures : goal.returns-in_err-write_end-clause-failures
 returns-in_err-write_end-clause-failures g c =
     let result = c.from_residual-in_err-write_end.result in
-    counts_behind result _ _ _ _ _ c.in_ok-refused.ensures.failures.0 c.in_ok-refused.ensures.failures.1
-    (counts_same result c.in_err-write_end.field-0.0 _ _ c.from_residual-in_err-write_end.ensures.1
-    c.in_err-write_end.ensures.sink)
+    let none = none_failed c.in_ok-refused.ensures.failures in
+    counts_after result _ _ _ _ _ _ _ _ none.source none.sink none.errors
+    (two_same result c.in_err-write_end.field-0.0 _ _ _ _ _ _ c.from_residual-in_err-write_end.ensures.1 refl refl
+    c.in_err-write_end.ensures.sinks)
+
+pub returns-in_err-repair_all-clause-failures : goal.returns-in_err-repair_all-clause-failures
+returns-in_err-repair_all-clause-failures g c =
+    let result = c.from_residual-in_err-repair_all.result in
+    let none = none_failed c.in_ok-refused.ensures.failures in
+    let ended = c.in_ok-write_end.ensures.sinks in
+    counts_after result _ _ _ _ _ _ _ _ none.source (ended.0 ∙ none.sink) (ended.1 ∙ none.errors)
+    (two_same result c.in_err-repair_all.field-0.0 _ _ _ _ _ _ c.from_residual-in_err-repair_all.ensures.1 refl refl
+    c.in_err-repair_all.ensures.sinks)
+
+pub returns-clause-failures : goal.returns-clause-failures
+returns-clause-failures g c =
+    let none = none_failed c.in_ok-refused.ensures.failures in
+    let ended = c.in_ok-write_end.ensures.sinks in
+    let repaired = c.in_ok-repair_all.ensures.sinks in
+    counts_after c.print_last.result _ _ _ _ _ _ _ _ none.source (repaired.0 ∙ ended.0 ∙ none.sink)
+    (repaired.1 ∙ ended.1 ∙ none.errors) c.print_last.ensures.sinks
+
+-- ---- messages as lines
+
+pub returns-in_err-write_end-clause-quiet : goal.returns-in_err-write_end-clause-quiet
+returns-in_err-write_end-clause-quiet g c = λ plain.
+    let result = c.from_residual-in_err-write_end.result in
+    let before = c.in_ok-refused.ensures.quiet plain in
+    let quiet = c.in_err-write_end.ensures.quiet (c.in_ok-refused.ensures.plain plain) in (
+      quiet.0 ∙ before.0,
+      counts_behind result _ _ _ _ _ before.1.0 before.1.1
+          (counts_same result c.in_err-write_end.field-0.0 _ _ c.from_residual-in_err-write_end.ensures.1 quiet.1),
+    )
+
+pub returns-in_err-repair_all-clause-quiet : goal.returns-in_err-repair_all-clause-quiet
+returns-in_err-repair_all-clause-quiet g c = λ plain.
+    let result = c.from_residual-in_err-repair_all.result in
+    let before = c.in_ok-refused.ensures.quiet plain in
+    let passed = c.in_ok-refused.ensures.plain plain in
+    let ended = c.in_ok-write_end.ensures.quiet passed in
+    let quiet = c.in_err-repair_all.ensures.quiet (c.in_ok-write_end.ensures.plain passed) in (
+      quiet.0 ∙ ended.0 ∙ before.0,
+      counts_behind result _ _ _ _ _ before.1.0 (ended.1 ∙ before.1.1)
+          (counts_same result c.in_err-repair_all.field-0.0 _ _ c.from_residual-in_err-repair_all.ensures.1 quiet.1),
+    )
+
+pub returns-clause-quiet : goal.returns-clause-quiet
+returns-clause-quiet g c = λ plain.
+    let before = c.in_ok-refused.ensures.quiet plain in
+    let passed = c.in_ok-refused.ensures.plain plain in
+    let ended = c.in_ok-write_end.ensures.quiet passed in
+    let closed = c.in_ok-write_end.ensures.plain passed in
+    let repaired = c.in_ok-repair_all.ensures.quiet closed in
+    let quiet = c.print_last.ensures.quiet (c.in_ok-repair_all.ensures.plain closed) in (
+      quiet.0 ∙ repaired.0 ∙ ended.0 ∙ before.0,
+      counts_behind c.print_last.result _ _ _ _ _ before.1.0 (repaired.1 ∙ ended.1 ∙ before.1.1) quiet.1,
+    )

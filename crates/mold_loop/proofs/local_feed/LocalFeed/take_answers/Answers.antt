@@ -5,6 +5,7 @@ use Rattle.mold_loop.specs.LocalFeed.{asking_state}
 use Rattle.mold_listen.proofs.ListenLemmas.{asking_is, stepped}
 use Rattle.mold_loop.proofs.LocalFeedLemmas.{repairs_at_first, repairs_twice}
 use Rattle.mold_loop.proofs.RepairLemmas.{all_received, one_received}
+use Rattle.mold_turns.proofs.OutgoingLemmas.{keeps_both, keeps_same}
 use Rattle.mold_turns.proofs.RunLemmas.{begins_trans, begins_whole}
 use Rattle.mold_loop.proofs.local_feed.LocalFeed.take_answers.Goals as goal
 
@@ -16,6 +17,7 @@ loop-answer-init g c = record {
   sent = λ t. refl;
   server = refl;
   only = repairs_at_first c.args.self.now;
+  keeps = keeps_same _;
   prints = begins_whole _;
 }
 
@@ -38,11 +40,15 @@ loop-answer-preserved g c = record {
         a = refl;
         b = refl;
       });
+  keeps = keeps_both c.loop-answer.invariant.keeps c.receive_once.ensures.keeps;
   prints = begins_trans c.loop-answer.invariant.prints c.receive_once.ensures.prints;
 }
 
 pub returns-in_err-receive_once-clause-prints : goal.returns-in_err-receive_once-clause-prints
 returns-in_err-receive_once-clause-prints g c = begins_trans c.loop-answer.invariant.prints c.receive_once.ensures.prints
+
+pub returns-in_err-receive_once-clause-keeps : goal.returns-in_err-receive_once-clause-keeps
+returns-in_err-receive_once-clause-keeps g c = keeps_both c.loop-answer.invariant.keeps c.receive_once.ensures.keeps
 
 pub returns-in_err-receive_once-clause-sent : goal.returns-in_err-receive_once-clause-sent
 returns-in_err-receive_once-clause-sent g c = λ t.
@@ -65,5 +71,6 @@ returns g c = record {
       (omega (arith, c.loop-answer-test.false)) (c.loop-answer.invariant.received t);
   server = c.loop-answer.invariant.server;
   only = c.loop-answer.invariant.only;
+  keeps = c.loop-answer.invariant.keeps;
   prints = c.loop-answer.invariant.prints;
 }

@@ -1,6 +1,7 @@
 use Rattle.std.proofs.Common.{◌≡◌, true, ◌-◌}
 use Rattle.mold_listen.specs.Listening.{receive_responses}
 use Rattle.mold_loop.specs.LocalFeed.{OnlyRepairs, asking_state}
+use Rattle.mold_turns.specs.Outgoing.{KeepsSide}
 use Rattle.mold_turns.specs.Runs.{Begins}
 use Rattle.mold_loop.proofs.local_feed.LocalFeed.take_answers.Given as goal
 
@@ -15,5 +16,6 @@ invariant-loop-answer g l = record {
       (g.D.Datagrams.port l.self.ports.now.requests).sent ≡ (g.D.Datagrams.port l.fn.self.ports.now.requests).sent;
   server : l.self.ports.now.server ≡ l.fn.self.ports.now.server;
   only : OnlyRepairs l.fn.self l.self;
+  keeps : KeepsSide l.fn.self.listener.now.printer.outgoing l.self.listener.now.printer.outgoing;
   prints : Begins l.fn.self.listener.now.printer.outgoing.text l.self.listener.now.printer.outgoing.text;
 }
