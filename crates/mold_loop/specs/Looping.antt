@@ -160,8 +160,7 @@ pub record HasPassed {P T E : Type 0} (a b : P) (datagrams : List (Routes × Lis
   pub offered : after.publisher ≡ (run (passing a b) passes before).publisher
 
 -- What passing these datagrams leaves, together with the writes after it. They were passed with some outcomes. The
--- texts
--- written are prefixes of the texts after them. After a fault, only that and the publisher's port are known.
+-- texts written are prefixes of the texts after them. After a fault, only that and the publisher's port are known.
 pub record PassRests {P T E : Type 0} (a b : P) (datagrams : List (Routes × List ℕ)) (result : Result T E)
     (before after : LineState P) (old new errors_old errors_new : Option (List ℕ)) : Type 0 where
   pub passes : List Pass
@@ -237,7 +236,7 @@ loop_lines reporting journal refused e = note_text e.outgoing.format (loop_note 
 abbrev pub loop_side : Bool → JournalState → Option MessageRefusal → Progress → List ℕ
 loop_side reporting journal refused e = note_side e.outgoing.format (loop_note reporting journal refused e)
 
--- The status of a loop: that of a listener, or 2 if a line is refused.
+-- The status of a loop: that of a listener, or 2 if an entry is refused.
 abbrev pub loop_status : Option MessageRefusal → Progress → ℕ
 loop_status None e = listener_status e
 loop_status (Some why) e = 2
