@@ -1,28 +1,19 @@
 -- Responses and arrivals keep the order of the table.
-use Rattle.std.proofs.Common.{◌≡◌, ℕ, ◌&&◌, true, false, List, [], ◌∷◌, arith, refl, ap, cond, map, nat_le, min, ◌+◌, ◌∙◌}
+use Rattle.std.proofs.Common.{◌≡◌, ℕ, ◌&&◌, true, false, List, [], ◌∷◌, arith, refl, ap, cond, map, nat_le, max, min, ◌+◌, ◌∙◌}
 use Rattle.mold_pacing.specs.Flight.{is_ascending}
 use Rattle.mold_pacing.specs.Responses.{after_arrival, after_response, has_come, is_response_to}
 use Rattle.mold_pacing.specs.declared.flight.Flight.{Flight}
 
 pub response_first : (settle now first end : ℕ) (f : Flight) → (after_response settle now first end f).first ≡ f.first
-response_first settle now first end f = elim (is_response_to now first end f) as (λ b. (cond b (record {
-  first = f.first;
-  end = f.end;
+response_first settle now first end f = elim (is_response_to now first end f) as (λ b. (cond b (record f {
   until = cond (nat_le f.end end) now (min f.until (now + settle));
   pause = 0;
-  server = f.server;
   attempts = 0;
+  reached = max f.reached end;
 }) f).first ≡ f.first) [ true ↦ refl | false ↦ refl ]
 
 pub arrival_first : (now first end : ℕ) (f : Flight) → (after_arrival now first end f).first ≡ f.first
-arrival_first now first end f = elim (has_come first end f) as (λ b. (cond b (record {
-  first = f.first;
-  end = f.end;
-  until = min f.until now;
-  pause = f.pause;
-  server = f.server;
-  attempts = f.attempts;
-}) f).first ≡ f.first) [ true ↦ refl | false ↦ refl ]
+arrival_first now first end f = elim (has_come first end f) as (λ b. (cond b (record f { until = min f.until now }) f).first ≡ f.first) [ true ↦ refl | false ↦ refl ]
 
 pub map_ascending : (change : Flight → Flight) (low : ℕ) (fs : List Flight) →
     ((f : Flight) → (change f).first ≡ f.first) → is_ascending low fs ≡ true → is_ascending low (map change fs) ≡ true

@@ -143,4 +143,4 @@ busy_there fs now index f there on =
 
 -- The request at an index of the table.
 abbrev pub flight_at : List Flight → ℕ → Flight
-flight_at fs index = get_or fs index (record { first = 0; end = 0; until = 0; pause = 0; server = 0; attempts = 0 })
+flight_at fs index = get_or fs index (record { first = 0; end = 0; until = 0; pause = 0; server = 0; attempts = 0; reached = 0 })

@@ -3,6 +3,7 @@ pub mod Asks
 pub mod Repeat
 pub mod State
 pub mod Responses
+pub mod Most
 pub mod Table
 pub mod Polls
 pub mod Run

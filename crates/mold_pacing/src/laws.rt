@@ -10,6 +10,7 @@ ghost use Rattle.mold_pacing.specs.Run.{IsRun};
 ghost use Rattle.mold_pacing.specs.State.{IsRipened, advanced, fresh};
 ghost use Rattle.mold_pacing.specs.declared.ask.Ask.{Ask};
 ghost use Rattle.mold_pacing.specs.declared.gap.Gap.{Gap};
+ghost use Rattle.mold_pacing.specs.declared.options.PacerOptions.{PacerOptions};
 ghost use Rattle.mold_pacing.specs.declared.pacer.Pacer.{Pacer};
 ghost use Rattle.mold_pacing.specs.declared.state.PacerState.{PacerState};
 ghost use Rattle.mold_pacing.specs.declared.step.Step.{Step};
@@ -41,10 +42,10 @@ pub fn ready_law()
 {}
 
 /// Only numbers that were known a patience ago, or at the beginning, are ripe. This holds of the state of a new pacer,
-/// and `Pacer::advance` keeps it. No other call changes the marks.
+/// and `Pacer::advance` keeps it, for any patience that is not above the pacer's. No other call changes the marks.
 pub fn patience_law()
-    ensures begins { (known_at : ℕ → ℕ) (begin patience : ℕ) → IsRipened known_at begin patience (fresh begin) }
+    ensures begins { (known_at : ℕ → ℕ) (begin patience : ℕ) (options : PacerOptions) → IsRipened known_at begin patience (fresh options begin) }
     ensures stays { (known_at : ℕ → ℕ) (begin patience time known : ℕ) (s : PacerState) →
-        known_at (max s.now time) ≡ known → IsRipened known_at begin patience s →
-        IsRipened known_at begin patience (advanced patience time known s) }
+        patience ≤ s.patience → known_at (max s.now time) ≡ known → IsRipened known_at begin patience s →
+        IsRipened known_at begin patience (advanced time known s) }
 {}

@@ -19,7 +19,7 @@ mod waiting;
 
 pub use ask::Ask;
 pub use flight::Flight;
-pub use gap::Gap;
+pub use gap::{Gap, are_in_order};
 pub use options::PacerOptions;
 pub use pacer::Pacer;
 pub use state::PacerState;
