@@ -8,3 +8,5 @@ pub mod WaitingLemmas
 pub mod EndLemmas
 pub mod ReadyLemmas
 pub mod PatienceLemmas
+pub mod FrugalLemmas
+pub mod FrugalRunLemmas

@@ -8,4 +8,5 @@ pub mod Table
 pub mod Polls
 pub mod Run
 pub mod Laws
+pub mod Frugal
 pub mod Deadline

@@ -26,6 +26,7 @@ pub struct PacerOptions {
     /// The number of servers.
     pub servers: u32,
     ghost times: { (patience < 2 ^ 62) × (settle < 2 ^ 62) × (interval < 2 ^ 62) × (tolerance < 2 ^ 62) },
+    ghost settles: { 0 < settle },
     ghost waits: { (0 < timeout) × (timeout ≤ ceiling) × (ceiling < 2 ^ 62) },
     ghost asks: { (0 < most) × (0 < places) × (places ≤ 4096) × (0 < servers) },
 }

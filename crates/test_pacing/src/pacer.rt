@@ -1,5 +1,6 @@
 //! The policy of requests by worked examples. The expected values were worked out by hand from the rules of the policy:
-//! patience 10, timeout 100, ceiling 400, settle 5, one request each 10 and two at once, at most 3 messages in a request.
+//! patience 10, timeout 100, ceiling 400, settle 5, one request each 10 and two at once, at most 3
+//! messages in a request.
 
 use mold_pacing::{Ask, Gap, Pacer, PacerOptions, Step, are_in_order};
 use std::process::Abort;
