@@ -10,3 +10,4 @@ pub mod ReadyLemmas
 pub mod PatienceLemmas
 pub mod FrugalLemmas
 pub mod FrugalRunLemmas
+pub mod AttemptsLemmas

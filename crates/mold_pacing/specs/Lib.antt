@@ -9,4 +9,5 @@ pub mod Polls
 pub mod Run
 pub mod Laws
 pub mod Frugal
+pub mod Attempts
 pub mod Deadline

@@ -3,10 +3,12 @@
 
 ghost use Rattle.std.specs.Prelude.{◌≡◌, ◌+◌, ◌-◌, ◌*◌, ◌<◌, ◌≤◌, ℕ, max, true, [], List, Option, Some, slice_get};
 ghost use Rattle.mold_pacing.specs.Asks.{are_gaps};
+ghost use Rattle.mold_pacing.specs.Attempts.{count_asks_for};
 ghost use Rattle.mold_pacing.specs.Deadline.{CanAsk};
 ghost use Rattle.mold_pacing.specs.Frugal.{AreMissingOnce, IsFrugal};
 ghost use Rattle.mold_pacing.specs.Laws.{AreApart, count_asks};
-ghost use Rattle.mold_pacing.specs.Polls.{HasAsked, IsIdle};
+ghost use Rattle.mold_pacing.specs.Polls.{HasAsked, IsIdle, last_request};
+ghost use Rattle.mold_pacing.specs.Repeat.{attempts_of};
 ghost use Rattle.mold_pacing.specs.Run.{IsRun};
 ghost use Rattle.mold_pacing.specs.State.{IsRipened, advanced, fresh};
 ghost use Rattle.mold_pacing.specs.declared.ask.Ask.{Ask};
@@ -59,4 +61,12 @@ pub fn patience_law()
 pub fn frugal_law()
     ensures { (old new : Pacer) (steps : List Step) (asks : List (Option Ask)) (ran : IsRun old new steps asks) →
         old.flights.items ≡ [] → AreMissingOnce steps → IsFrugal old new steps asks ran }
+{}
+
+/// `Pacer::attempts` counts no more than the requests that asked for the number, from a pacer without requests on. So a
+/// caller that gives a number up after some attempts has requested it that many times.
+pub fn attempts_law()
+    ensures { (old new : Pacer) (steps : List Step) (asks : List (Option Ask)) (number : ℕ) →
+        IsRun old new steps asks → old.flights.items ≡ [] →
+        attempts_of (last_request new number) ≤ count_asks_for number asks }
 {}

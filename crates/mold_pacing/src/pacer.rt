@@ -14,7 +14,7 @@ use crate::repeat::{next_flight, next_server, repeat_end};
 use crate::response::{ended_request, take_arrival, take_response};
 use crate::state::PacerState;
 use crate::step::Step;
-use crate::table::{Free, first_free, free_end};
+use crate::table::{Free, all_begin_below, first_free, free_end};
 use crate::waiting::{free_from, over_from};
 use std::alloc::{AllocError, Global};
 
@@ -106,6 +106,10 @@ impl Pacer {
         ensures flights { self.new.flights.items ≡
             map (after_arrival self.old.state.now came.first came.end) self.old.flights.items }
     {
+        // Most datagrams of a line are above all requests.
+        if all_begin_below(&self.flights, came.first) {
+            return;
+        }
         take_arrival(&mut self.flights, self.state.now, came);
     }
 
