@@ -11,3 +11,4 @@ pub mod PatienceLemmas
 pub mod FrugalLemmas
 pub mod FrugalRunLemmas
 pub mod AttemptsLemmas
+pub mod DelayLemmas

@@ -1,5 +1,5 @@
 -- Only numbers that were known a patience ago are ripe.
-use Rattle.std.proofs.Common.{◌≡◌, ◌⊎◌, ℕ, ◌+◌, ◌-◌, ◌≤◌, Bool, true, false, cond, max, nat_lt, refl, sym, arith, inl, inr}
+use Rattle.std.proofs.Common.{◌≡◌, ◌⊎◌, ℕ, ◌+◌, ◌-◌, ◌<◌, ◌≤◌, Bool, true, false, cond, max, nat_lt, refl, ap, sym, arith, inl, inr}
 use Rattle.std.proofs.lemmas.Bool.Decides.{nat_tests}
 use Rattle.mold_pacing.specs.State.{IsRipened, advanced, fresh}
 use Rattle.mold_pacing.specs.declared.options.PacerOptions.{PacerOptions}
@@ -36,3 +36,22 @@ pub advanced_ripened : (known_at : ℕ → ℕ) (begin patience time known : ℕ
     IsRipened known_at begin patience (advanced time known s)
 advanced_ripened known_at begin patience time known s least knows is =
     ripened_by known_at begin patience time known s (nat_lt (max s.now time - s.marked) s.patience) refl least knows is
+
+pub ripe_by : (time known : ℕ) (s : PacerState) (early : Bool) → nat_lt (max s.now time - s.marked) s.patience ≡ early →
+    (advanced time known s).ripe ≡ cond early s.ripe s.mark
+ripe_by time known s true test = ap (λ (b : Bool). (cond {A = PacerState} b (record s { now = max s.now time })
+    (record s { now = max s.now time; marked = max s.now time; mark = known; ripe = s.mark })).ripe) test
+ripe_by time known s false test = ap (λ (b : Bool). (cond {A = PacerState} b (record s { now = max s.now time })
+    (record s { now = max s.now time; marked = max s.now time; mark = known; ripe = s.mark })).ripe) test
+
+-- The mark becomes ripe a patience after it was set, and not before.
+pub ripe_from : (time known : ℕ) (s : PacerState) → s.marked + s.patience ≤ time → (advanced time known s).ripe ≡ s.mark
+ripe_from time known s past =
+    let waited : s.patience ≤ max s.now time - s.marked = omega (arith, past) in
+    ripe_by time known s false (grind (arith, nat_tests, waited))
+
+pub ripe_until : (time known : ℕ) (s : PacerState) → max s.now s.marked ≤ time → time < s.marked + s.patience →
+    (advanced time known s).ripe ≡ s.ripe
+ripe_until time known s after before =
+    let waits : max s.now time - s.marked < s.patience = omega (arith, after, before) in
+    ripe_by time known s true (grind (arith, nat_tests, waits))

@@ -10,4 +10,6 @@ pub mod Run
 pub mod Laws
 pub mod Frugal
 pub mod Attempts
+pub mod Delays
+pub mod Lines
 pub mod Deadline

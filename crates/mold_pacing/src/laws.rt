@@ -64,7 +64,7 @@ pub fn frugal_law()
 {}
 
 /// `Pacer::attempts` counts no more than the requests that asked for the number, from a pacer without requests on. So a
-/// caller that gives a number up after some attempts has requested it that many times.
+/// caller that gives a number up after N attempts has requested it at least N times.
 pub fn attempts_law()
     ensures { (old new : Pacer) (steps : List Step) (asks : List (Option Ask)) (number : ℕ) →
         IsRun old new steps asks → old.flights.items ≡ [] →

@@ -188,6 +188,24 @@ impl Pacer {
         self.state.now.max(opens).max(free).max(self.room_from())
     }
 
+    /// Returns what the pacer knows besides its requests.
+    pub fn state(&self) -> PacerState
+        ensures { result ≡ self.now.state }
+    {
+        self.state
+    }
+
+    /// Returns the time from which on `advance` makes the numbers below the mark ripe. A caller that waits until a
+    /// missing number is ripe reports the time then.
+    pub fn ripens(&self) -> u64
+        ensures ripe { (time known : ℕ) → result ≤ time → time < 2 ^ 62 →
+            (advanced time known self.now.state).ripe ≡ self.now.state.mark }
+        ensures least { (time known : ℕ) → max self.now.state.now self.now.state.marked ≤ time → time < result →
+            (advanced time known self.now.state).ripe ≡ self.now.state.ripe }
+    {
+        self.state.marked.saturating_add(self.state.patience)
+    }
+
     /// Returns how many requests in a row for this number had no response. A request in flight doesn't count.
     pub fn attempts(&self, number: u64) -> u32
         ensures { result ≡ attempts_of (last_request self.now number) }

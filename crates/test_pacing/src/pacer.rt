@@ -144,6 +144,8 @@ fn waits_as_long_as_the_patience(rt: HostRuntime) -> Result<(), Fail> {
     let mut pacer = Pacer::new(rt.alloc(), OPTIONS, 1)?;
     pacer.adapt(50);
     pacer.advance(50, 3);
+    same_number(&rt, pacer.ripens(), 100);
+    same_number(&rt, pacer.state().ripe, 1);
     pacer.advance(90, 3);
     same(&rt, pacer.poll(&[Gap { first: 1, end: 3 }]), None);
     pacer.advance(100, 3);
