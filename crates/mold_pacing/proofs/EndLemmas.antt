@@ -1,6 +1,6 @@
 -- All requests of the table are over at a later time.
 use Rattle.std.proofs.Common.{◌≡◌, ◌⊎◌, ℕ, zero, suc, ◌+◌, ◌<◌, ◌≤◌, ◌||◌, Bool, true, false, List, [], ◌∷◌, Option, None, Some}
-use Rattle.std.proofs.Common.{arith, refl, ap, ◌∙◌, cond, inl, inr, map, min, nat_le}
+use Rattle.std.proofs.Common.{arith, refl, ap, ◌∙◌, cond, inl, inr, map, max, min, nat_le}
 use Rattle.std.proofs.lemmas.Bool.Decides.{nat_tests}
 use Rattle.std.specs.List.{list_all, remove}
 use Rattle.mold_pacing.specs.Flight.{covers, in_flight, is_over}
@@ -71,20 +71,16 @@ sent_ends options now before ask order =
 
 pub until_response : (settle now first end : ℕ) (f : Flight) →
     ((after_response settle now first end f).until ≤ f.until) ⊎ ((after_response settle now first end f).until ≤ now)
-until_response settle now first end f = elim (is_response_to now first end f) as (λ b. ((cond b (record {
-  first = f.first;
-  end = f.end;
+until_response settle now first end f = elim (is_response_to now first end f) as (λ b. ((cond b (record f {
   until = cond (nat_le f.end end) now (min f.until (now + settle));
   pause = 0;
-  server = f.server;
   attempts = 0;
-}) f).until ≤ f.until) ⊎ ((cond b (record {
-  first = f.first;
-  end = f.end;
+  reached = max f.reached end;
+}) f).until ≤ f.until) ⊎ ((cond b (record f {
   until = cond (nat_le f.end end) now (min f.until (now + settle));
   pause = 0;
-  server = f.server;
   attempts = 0;
+  reached = max f.reached end;
 }) f).until ≤ now)) [
   | true ↦ elim (nat_le f.end end) as (λ d. (cond d now (min f.until (now + settle)) ≤ f.until)
       ⊎ (cond d now (min f.until (now + settle)) ≤ now)) [ true ↦ inr (omega arith) | false ↦ inl (omega arith) ]
@@ -101,14 +97,7 @@ ends_response settle now first end ceiling f over =
 
 pub ends_arrival : (now first end ceiling : ℕ) (f : Flight) → is_over (now + ceiling) f ≡ true →
     is_over (now + ceiling) (after_arrival now first end f) ≡ true
-ends_arrival now first end ceiling f over = elim (has_come first end f) as (λ b. is_over (now + ceiling) (cond b (record {
-  first = f.first;
-  end = f.end;
-  until = min f.until now;
-  pause = f.pause;
-  server = f.server;
-  attempts = f.attempts;
-}) f) ≡ true) [
+ends_arrival now first end ceiling f over = elim (has_come first end f) as (λ b. is_over (now + ceiling) (cond b (record f { until = min f.until now }) f) ≡ true) [
   | true ↦ grind (arith, nat_tests, over)
   | false ↦ over
 ]

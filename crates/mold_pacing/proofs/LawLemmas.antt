@@ -6,11 +6,12 @@ use Rattle.std.specs.List.{list_any, remove}
 use Rattle.std.specs.Option.{IfSome}
 use Rattle.mold_pacing.specs.Flight.{covers}
 use Rattle.mold_pacing.specs.Laws.{AreApart, HaveNoneInCommon, NoneAsks, count_asks, frees, time_after}
-use Rattle.mold_pacing.specs.Polls.{HasAsked, last_request}
+use Rattle.mold_pacing.specs.Most.{is_partial, learned}
+use Rattle.mold_pacing.specs.Polls.{HasAsked, ended_request, last_request}
 use Rattle.mold_pacing.specs.Repeat.{flight_for, pause_for}
 use Rattle.mold_pacing.specs.Responses.{after_arrival, after_response, has_come, is_response_to}
 use Rattle.mold_pacing.specs.Run.{IsRun, Takes}
-use Rattle.mold_pacing.specs.State.{advanced}
+use Rattle.mold_pacing.specs.State.{advanced, responded}
 use Rattle.mold_pacing.specs.Table.{CanLeave, placed, without}
 use Rattle.mold_pacing.specs.declared.ask.Ask.{Ask}
 use Rattle.mold_pacing.specs.declared.flight.Flight.{Flight}
@@ -19,7 +20,7 @@ use Rattle.mold_pacing.specs.declared.options.PacerOptions.{PacerOptions}
 use Rattle.mold_pacing.specs.declared.pacer.Pacer.{Pacer}
 use Rattle.mold_pacing.specs.declared.state.PacerState.{PacerState}
 use Rattle.mold_pacing.specs.declared.step.Step.{Step}
-use Rattle.mold_pacing.specs.declared.step.Step.TheVariants.{Advance, Poll, Respond, Arrive}
+use Rattle.mold_pacing.specs.declared.step.Step.TheVariants.{Advance, Adapt, Poll, Respond, Arrive}
 
 -- Whether the record is that of the request `ask`, and in flight until `until` at least.
 abbrev pub holds : Ask → ℕ → Flight → Bool
@@ -140,13 +141,11 @@ pub keeps_response : (ask : Ask) (until settle now first end : ℕ) (f : Flight)
     holds ask until (after_response settle now first end f) ≡ true
 keeps_response ask until settle now first end f off is =
     let other : is_response_to now first end f ≡ false = grind (arith, nat_tests, off, is) in
-    ap (λ (b : Bool). holds ask until (cond b (record {
-      first = f.first;
-      end = f.end;
+    ap (λ (b : Bool). holds ask until (cond b (record f {
       until = cond (nat_le f.end end) now (min f.until (now + settle));
       pause = 0;
-      server = f.server;
       attempts = 0;
+      reached = max f.reached end;
     }) f)) other ∙ is
 
 pub keeps_arrival : (ask : Ask) (until now first end : ℕ) (f : Flight) →
@@ -154,20 +153,14 @@ pub keeps_arrival : (ask : Ask) (until now first end : ℕ) (f : Flight) →
     holds ask until (after_arrival now first end f) ≡ true
 keeps_arrival ask until now first end f off is =
     let other : has_come first end f ≡ false = grind (arith, nat_tests, off, is) in
-    ap (λ (b : Bool). holds ask until (cond b (record {
-      first = f.first;
-      end = f.end;
-      until = min f.until now;
-      pause = f.pause;
-      server = f.server;
-      attempts = f.attempts;
-    }) f)) other ∙ is
+    ap (λ (b : Bool). holds ask until (cond b (record f { until = min f.until now }) f)) other ∙ is
 
 -- A request that no step frees stays in the table until its time has passed.
 pub held_takes : (a : Ask) (until : ℕ) (old new : Pacer) (step : Step) (ask : Option Ask) → Takes old new step ask →
     frees a step ≡ false → old.state.now < until → held a until old.flights.items ≡ true →
     held a until new.flights.items ≡ true
 held_takes a until old new (Advance time known) ask takes off before any = ap (held a until) takes.table ∙ any
+held_takes a until old new (Adapt patience) ask takes off before any = ap (held a until) takes.table ∙ any
 held_takes a until old new (Poll gaps) None takes off before any = ap (held a until) takes.flights ∙ any
 held_takes a until old new (Poll gaps) (Some ask) takes off before any =
     ap (held a until) takes.flights
@@ -190,34 +183,89 @@ pub takes_clear : (a : Ask) (until : ℕ) (old new : Pacer) (step : Step) (ask :
     old.state.now < until → held a until old.flights.items ≡ true → IfSome ask (HaveNoneInCommon a)
 takes_clear a until old new step None takes before any = tt
 takes_clear a until old new (Advance time known) (Some b) takes before any = absurd (some_is_none b takes.none)
+takes_clear a until old new (Adapt patience) (Some b) takes before any = absurd (some_is_none b takes.none)
 takes_clear a until old new (Poll gaps) (Some b) takes before any = held_clear a b until old new gaps.now takes before any
 takes_clear a until old new (Respond server came) (Some b) takes before any = absurd (some_is_none b takes.none)
 takes_clear a until old new (Arrive came) (Some b) takes before any = absurd (some_is_none b takes.none)
 
-pub advanced_now : (patience time known : ℕ) (s : PacerState) → (advanced patience time known s).now ≡ max s.now time
-advanced_now patience time known s = elim (nat_lt (max s.now time - s.marked) patience) as (λ b. (cond {A = PacerState} b
-    (record { now = max s.now time; opens = s.opens; marked = s.marked; mark = s.mark; ripe = s.ripe; server = s.server })
-    (record { now = max s.now time; opens = s.opens; marked = max s.now time; mark = known; ripe = s.mark; server = s.server })).now
+pub advanced_now : (time known : ℕ) (s : PacerState) → (advanced time known s).now ≡ max s.now time
+advanced_now time known s = elim (nat_lt (max s.now time - s.marked) s.patience) as (λ b. (cond {A = PacerState} b
+    (record s { now = max s.now time })
+    (record s { now = max s.now time; marked = max s.now time; mark = known; ripe = s.mark })).now
     ≡ max s.now time) [ true ↦ refl | false ↦ refl ]
 
-pub advanced_opens : (patience time known : ℕ) (s : PacerState) → (advanced patience time known s).opens ≡ s.opens
-advanced_opens patience time known s = elim (nat_lt (max s.now time - s.marked) patience) as (λ b. (cond {A = PacerState} b
-    (record { now = max s.now time; opens = s.opens; marked = s.marked; mark = s.mark; ripe = s.ripe; server = s.server })
-    (record { now = max s.now time; opens = s.opens; marked = max s.now time; mark = known; ripe = s.mark; server = s.server })).opens
+pub advanced_opens : (time known : ℕ) (s : PacerState) → (advanced time known s).opens ≡ s.opens
+advanced_opens time known s = elim (nat_lt (max s.now time - s.marked) s.patience) as (λ b. (cond {A = PacerState} b
+    (record s { now = max s.now time })
+    (record s { now = max s.now time; marked = max s.now time; mark = known; ripe = s.mark })).opens
     ≡ s.opens) [ true ↦ refl | false ↦ refl ]
+
+pub advanced_most : (time known : ℕ) (s : PacerState) → (advanced time known s).most ≡ s.most
+advanced_most time known s = elim (nat_lt (max s.now time - s.marked) s.patience) as (λ b. (cond {A = PacerState} b
+    (record s { now = max s.now time })
+    (record s { now = max s.now time; marked = max s.now time; mark = known; ripe = s.mark })).most
+    ≡ s.most) [ true ↦ refl | false ↦ refl ]
+
+pub learned_now : (options : PacerOptions) (before : Option Flight) (s : PacerState) →
+    (learned options before s).now ≡ s.now
+learned_now options None s = refl
+learned_now options (Some f) s = elim (is_partial f) as (λ b. (cond {A = PacerState} b
+    (record s { most = min (f.reached - f.first) options.most; full = 0 }) s).now ≡ s.now) [ true ↦ refl | false ↦ refl ]
+
+pub learned_opens : (options : PacerOptions) (before : Option Flight) (s : PacerState) →
+    (learned options before s).opens ≡ s.opens
+learned_opens options None s = refl
+learned_opens options (Some f) s = elim (is_partial f) as (λ b. (cond {A = PacerState} b
+    (record s { most = min (f.reached - f.first) options.most; full = 0 }) s).opens ≡ s.opens)
+    [ true ↦ refl | false ↦ refl ]
+
+pub learned_most_by : (options : PacerOptions) (f : Flight) (s : PacerState) (partial : Bool) → is_partial f ≡ partial →
+    0 < options.most → 0 < s.most → s.most ≤ options.most →
+    (0 < (cond {A = PacerState} partial (record s { most = min (f.reached - f.first) options.most; full = 0 }) s).most)
+    × ((cond {A = PacerState} partial (record s { most = min (f.reached - f.first) options.most; full = 0 }) s).most
+    ≤ options.most)
+learned_most_by options f s true is some here few =
+    let beyond : f.first < f.reached = grind (arith, nat_tests, is) in (omega (arith, beyond, some), omega arith)
+learned_most_by options f s false is some here few = (here, few)
+
+pub learned_most : (options : PacerOptions) (before : Option Flight) (s : PacerState) → 0 < options.most → 0 < s.most →
+    s.most ≤ options.most → (0 < (learned options before s).most) × ((learned options before s).most ≤ options.most)
+learned_most options None s some here few = (here, few)
+learned_most options (Some f) s some here few = learned_most_by options f s (is_partial f) refl some here few
+
+pub responded_now : (options : PacerOptions) (server : ℕ) (ended : Option Flight) (s : PacerState) →
+    (responded options server ended s).now ≡ s.now
+responded_now options server None s = refl
+responded_now options server (Some f) s = refl
+
+pub responded_opens : (options : PacerOptions) (server : ℕ) (ended : Option Flight) (s : PacerState) →
+    (responded options server ended s).opens ≡ s.opens
+responded_opens options server None s = refl
+responded_opens options server (Some f) s = refl
+
+pub responded_most : (options : PacerOptions) (server : ℕ) (ended : Option Flight) (s : PacerState) →
+    0 < s.most → s.most ≤ options.most →
+    (0 < (responded options server ended s).most) × ((responded options server ended s).most ≤ options.most)
+responded_most options server None s some few = (some, few)
+responded_most options server (Some f) s some few = (omega (arith, some), omega (arith, few))
 
 pub takes_time : (old new : Pacer) (step : Step) (ask : Option Ask) → Takes old new step ask →
     new.state.now ≡ time_after old.state.now step
 takes_time old new (Advance time known) ask takes =
-    ap (λ (s : PacerState). s.now) takes.becomes ∙ advanced_now old.options.patience time known old.state
+    ap (λ (s : PacerState). s.now) takes.becomes ∙ advanced_now time known old.state
+takes_time old new (Adapt patience) ask takes = ap (λ (s : PacerState). s.now) takes.becomes
 takes_time old new (Poll gaps) None takes = ap (λ (s : PacerState). s.now) takes.state
-takes_time old new (Poll gaps) (Some ask) takes = ap (λ (s : PacerState). s.now) takes.state
-takes_time old new (Respond server came) ask takes = ap (λ (s : PacerState). s.now) takes.becomes
+takes_time old new (Poll gaps) (Some ask) takes =
+    ap (λ (s : PacerState). s.now) takes.state ∙ learned_now old.options (last_request old ask.first) old.state
+takes_time old new (Respond server came) ask takes =
+    ap (λ (s : PacerState). s.now) takes.becomes
+    ∙ responded_now old.options server (ended_request old came.first came.end) old.state
 takes_time old new (Arrive came) ask takes = ap (λ (s : PacerState). s.now) takes.becomes
 
 pub takes_options : (old new : Pacer) (step : Step) (ask : Option Ask) → Takes old new step ask →
     new.options ≡ old.options
 takes_options old new (Advance time known) ask takes = takes.options
+takes_options old new (Adapt patience) ask takes = takes.options
 takes_options old new (Poll gaps) None takes = takes.options
 takes_options old new (Poll gaps) (Some ask) takes = takes.options
 takes_options old new (Respond server came) ask takes = takes.options
@@ -225,6 +273,7 @@ takes_options old new (Arrive came) ask takes = takes.options
 
 pub time_grows : (now : ℕ) (step : Step) → now ≤ time_after now step
 time_grows now (Advance time known) = omega arith
+time_grows now (Adapt patience) = omega arith
 time_grows now (Poll gaps) = omega arith
 time_grows now (Respond server came) = omega arith
 time_grows now (Arrive came) = omega arith
@@ -249,6 +298,7 @@ pub first_apart : (old next new : Pacer) (step : Step) (ask : Option Ask) (steps
     IfSome ask (λ a. NoneAsks a (old.state.now + old.options.timeout) next.state.now steps asks)
 first_apart old next new step None steps asks takes ran = tt
 first_apart old next new (Advance time known) (Some a) steps asks takes ran = absurd (some_is_none a takes.none)
+first_apart old next new (Adapt patience) (Some a) steps asks takes ran = absurd (some_is_none a takes.none)
 first_apart old next new (Poll gaps) (Some a) steps asks takes ran =
     none_asks a (old.state.now + old.options.timeout) next new steps asks ran (λ _. held_sent old next gaps.now a takes)
 first_apart old next new (Respond server came) (Some a) steps asks takes ran = absurd (some_is_none a takes.none)
@@ -277,16 +327,31 @@ takes_limit old new (Advance time known) None takes =
       arith,
       ap (λ (s : PacerState). s.now) takes.becomes,
       ap (λ (s : PacerState). s.opens) takes.becomes,
-      advanced_now old.options.patience time known old.state,
-      advanced_opens old.options.patience time known old.state,
+      advanced_now time known old.state,
+      advanced_opens time known old.state,
     )
 takes_limit old new (Advance time known) (Some ask) takes = absurd (some_is_none ask takes.none)
+takes_limit old new (Adapt patience) None takes =
+    omega (arith, ap (λ (s : PacerState). s.now) takes.becomes, ap (λ (s : PacerState). s.opens) takes.becomes)
+takes_limit old new (Adapt patience) (Some ask) takes = absurd (some_is_none ask takes.none)
 takes_limit old new (Poll gaps) None takes =
     omega (arith, ap (λ (s : PacerState). s.now) takes.state, ap (λ (s : PacerState). s.opens) takes.state)
 takes_limit old new (Poll gaps) (Some ask) takes =
-    omega (arith, ap (λ (s : PacerState). s.now) takes.state, ap (λ (s : PacerState). s.opens) takes.state)
+    omega (
+      arith,
+      ap (λ (s : PacerState). s.now) takes.state,
+      ap (λ (s : PacerState). s.opens) takes.state,
+      learned_now old.options (last_request old ask.first) old.state,
+      learned_opens old.options (last_request old ask.first) old.state,
+    )
 takes_limit old new (Respond server came) None takes =
-    omega (arith, ap (λ (s : PacerState). s.now) takes.becomes, ap (λ (s : PacerState). s.opens) takes.becomes)
+    omega (
+      arith,
+      ap (λ (s : PacerState). s.now) takes.becomes,
+      ap (λ (s : PacerState). s.opens) takes.becomes,
+      responded_now old.options server (ended_request old came.first came.end) old.state,
+      responded_opens old.options server (ended_request old came.first came.end) old.state,
+    )
 takes_limit old new (Respond server came) (Some ask) takes = absurd (some_is_none ask takes.none)
 takes_limit old new (Arrive came) None takes =
     omega (arith, ap (λ (s : PacerState). s.now) takes.becomes, ap (λ (s : PacerState). s.opens) takes.becomes)

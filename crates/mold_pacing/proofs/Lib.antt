@@ -8,3 +8,7 @@ pub mod WaitingLemmas
 pub mod EndLemmas
 pub mod ReadyLemmas
 pub mod PatienceLemmas
+pub mod FrugalLemmas
+pub mod FrugalRunLemmas
+pub mod AttemptsLemmas
+pub mod DelayLemmas

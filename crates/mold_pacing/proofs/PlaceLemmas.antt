@@ -1,13 +1,13 @@
 -- A request enters the table, and another one leaves it.
-use Rattle.std.proofs.Common.{◌≡◌, ℕ, zero, suc, ◌+◌, ◌≤◌, Bool, true, false, List, [], ◌∷◌, ◌++◌, Option, Some, None}
+use Rattle.std.proofs.Common.{◌≡◌, ℕ, zero, suc, ◌+◌, ◌<◌, ◌≤◌, Bool, true, false, List, [], ◌∷◌, ◌++◌, Option, Some, None}
 use Rattle.std.proofs.Common.{arith, nat_le, refl, ap, ◌∙◌, sym, slice_get, length, take, drop, cond, inl, inr}
 use Rattle.std.proofs.lemmas.Bool.{cases_lt}
 use Rattle.std.proofs.lemmas.Bool.Decides.{nat_tests}
 use Rattle.std.proofs.lemmas.List.Edits.{length-remove}
 use Rattle.std.proofs.lemmas.Option.{slice_get_within}
 use Rattle.std.specs.List.{find, remove}
-use Rattle.mold_pacing.specs.Flight.{is_ascending}
-use Rattle.mold_pacing.specs.Table.{AreBelow, CanLeave, NonePass, placed, without}
+use Rattle.mold_pacing.specs.Flight.{is_ascending, is_stale}
+use Rattle.mold_pacing.specs.Table.{AreBelow, CanLeave, IsPlace, NonePass, placed, without}
 use Rattle.mold_pacing.specs.declared.flight.Flight.{Flight}
 
 pub find_at : (p : Flight → Bool) (fs : List Flight) (index : ℕ) (f : Flight) → NonePass p fs index →
@@ -28,6 +28,29 @@ find_none p [] none = refl
 find_none p (g ∷ gs) none =
     ap (λ (b : Bool). cond b (Some g) (find p gs)) (none 0 g refl)
     ∙ find_none p gs (λ i f there. none (suc i) f there)
+
+pub find_passes_by : (p : Flight → Bool) (g : Flight) (gs : List Flight) (f : Flight) (b : Bool) → p g ≡ b →
+    (find p gs ≡ Some f → p f ≡ true) → cond b (Some g) (find p gs) ≡ Some f → p f ≡ true
+find_passes_by p g gs f true is later found =
+    let same : g ≡ f = grind (arith, found) in
+    sym (ap p same) ∙ is
+find_passes_by p g gs f false is later found = later found
+
+pub find_passes : (p : Flight → Bool) (fs : List Flight) (f : Flight) → find p fs ≡ Some f → p f ≡ true
+find_passes p [] f found = cc
+find_passes p (g ∷ gs) f found = find_passes_by p g gs f (p g) refl (find_passes p gs f) found
+
+-- The last request for a number asked for it, and is over.
+pub place_before : (fs : List Flight) (places now number : ℕ) (leaves : Option ℕ) (before : Option Flight) →
+    IsPlace fs places now number leaves before → (f : Flight) → before ≡ Some f → is_stale now number f ≡ true
+place_before fs places now number leaves before place f is =
+    find_passes (is_stale now number) fs f (sym place.last ∙ is)
+
+pub place_end : (fs : List Flight) (places now number : ℕ) (leaves : Option ℕ) (before : Option Flight) →
+    IsPlace fs places now number leaves before → (f : Flight) → before ≡ Some f → number < f.end
+place_end fs places now number leaves before place f is =
+    let stale = place_before fs places now number leaves before place f is in
+    grind (arith, nat_tests, stale)
 
 pub placed_is : (sent : Flight) (fs : List Flight) (index : ℕ) → index ≤ length fs → AreBelow fs index sent.first →
     ((f : Flight) → slice_get fs index ≡ Some f → sent.first ≤ f.first) →

@@ -1,9 +1,9 @@
 -- The table of requests, by index.
 use Rattle.std.proofs.Common.{◌≡◌, ℕ, zero, suc, ◌<◌, ◌≤◌, Bool, true, false, List, [], ◌∷◌, Some, arith}
-use Rattle.std.proofs.Common.{◌&&◌, nat_lt, refl, ap, ◌∙◌, ◌+◌, sym, slice_get, length, inl, inr, get_or}
+use Rattle.std.proofs.Common.{◌&&◌, nat_lt, refl, ap, ◌∙◌, ◌+◌, ◌-◌, sym, slice_get, length, inl, inr, get_or}
 use Rattle.std.proofs.lemmas.Bool.{cases_lt}
 use Rattle.std.proofs.lemmas.Bool.Decides.{nat_tests}
-use Rattle.std.proofs.lemmas.Option.{slice_get_within}
+use Rattle.std.proofs.lemmas.Option.{slice_get-get_or, slice_get_within}
 use Rattle.std.specs.List.{list_any}
 use Rattle.mold_pacing.specs.Flight.{AllInFlight, NoneInFlight, ArePassed, covers, in_flight, is_ascending}
 use Rattle.mold_pacing.specs.declared.flight.Flight.{Flight}
@@ -143,4 +143,13 @@ busy_there fs now index f there on =
 
 -- The request at an index of the table.
 abbrev pub flight_at : List Flight → ℕ → Flight
-flight_at fs index = get_or fs index (record { first = 0; end = 0; until = 0; pause = 0; server = 0; attempts = 0 })
+flight_at fs index = get_or fs index (record { first = 0; end = 0; until = 0; pause = 0; server = 0; attempts = 0; reached = 0 })
+
+pub below_last : (fs : List Flight) (number : ℕ) → is_ascending 0 fs ≡ true → 0 < length fs →
+    nat_lt (flight_at fs (length fs - 1)).first number ≡ true → (i : ℕ) (f : Flight) → i < length fs →
+    slice_get fs i ≡ Some f → f.first < number
+below_last fs number sorted some test i f within there =
+    let last = flight_at fs (length fs - 1) in
+    let here = slice_get-get_or fs (length fs - 1) (record { first = 0; end = 0; until = 0; pause = 0; server = 0; attempts = 0; reached = 0 }) (omega (arith, some)) in
+    let below : last.first < number = grind (arith, nat_tests, test) in
+    omega (arith, below, ascending_at 0 fs i (length fs - 1) f last sorted (omega (arith, within)) there here)

@@ -3,11 +3,12 @@ use Rattle.std.specs.Prelude.{◌≡◌, ℕ, ◌+◌, ◌<◌, ◌≤◌, ◌&&
 use Rattle.std.specs.Prelude.{IfSome, Option, None, Some}
 use Rattle.mold_pacing.specs.declared.ask.Ask.{Ask}
 use Rattle.mold_pacing.specs.declared.step.Step.{Step}
-use Rattle.mold_pacing.specs.declared.step.Step.TheVariants.{Advance, Poll, Respond, Arrive}
+use Rattle.mold_pacing.specs.declared.step.Step.TheVariants.{Advance, Adapt, Poll, Respond, Arrive}
 
 -- The time after a step.
 abbrev pub time_after : ℕ → Step → ℕ
 time_after now (Advance time known) = max now time
+time_after now (Adapt patience) = now
 time_after now (Poll gaps) = now
 time_after now (Respond server came) = now
 time_after now (Arrive came) = now
@@ -15,6 +16,7 @@ time_after now (Arrive came) = now
 -- Whether the step can free the request: it is a response with one of its numbers, or the arrival of all of them.
 abbrev pub frees : Ask → Step → Bool
 frees ask (Advance time known) = false
+frees ask (Adapt patience) = false
 frees ask (Poll gaps) = false
 frees ask (Respond server came) = nat_lt ask.first came.end && nat_lt came.first ask.end
 frees ask (Arrive came) = nat_le came.first ask.first && nat_le ask.end came.end

@@ -3,8 +3,13 @@ pub mod Asks
 pub mod Repeat
 pub mod State
 pub mod Responses
+pub mod Most
 pub mod Table
 pub mod Polls
 pub mod Run
 pub mod Laws
+pub mod Frugal
+pub mod Attempts
+pub mod Delays
+pub mod Lines
 pub mod Deadline

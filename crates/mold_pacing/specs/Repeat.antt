@@ -27,6 +27,12 @@ server_for servers base None = if nat_lt base servers then base else 0
 server_for servers base (Some f) =
     let next = if f.pause == 0 then f.server else f.server + 1 in if nat_lt next servers then next else 0
 
+-- The end of a request that could go to `end`. A request that is repeated because it had no response asks for no more
+-- numbers than before.
+abbrev pub end_for : ℕ → Option Flight → ℕ
+end_for end None = end
+end_for end (Some f) = if nat_lt 0 f.attempts then min end f.end else end
+
 -- The record of a request that is sent now.
 abbrev pub flight_for : PacerOptions → ℕ → Option Flight → Ask → Flight
 flight_for options now before ask = record {
@@ -36,4 +42,5 @@ flight_for options now before ask = record {
   pause = pause_for options before;
   server = ask.server;
   attempts = attempts_for before;
+  reached = ask.first;
 }

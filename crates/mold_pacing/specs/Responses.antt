@@ -1,5 +1,5 @@
 -- What a response does to the requests in flight.
-use Rattle.std.specs.Prelude.{ℕ, ◌+◌, ◌&&◌, Bool, min, nat_le, nat_lt, if◌then◌else◌}
+use Rattle.std.specs.Prelude.{ℕ, ◌+◌, ◌&&◌, Bool, max, min, nat_le, nat_lt, if◌then◌else◌}
 use Rattle.mold_pacing.specs.declared.flight.Flight.{Flight}
 
 -- Whether numbers of this range respond to the request: it is in flight and asked for one of them.
@@ -11,13 +11,11 @@ is_response_to now first end f = nat_lt now f.until && (nat_lt f.first end && na
 abbrev pub after_response : ℕ → ℕ → ℕ → ℕ → Flight → Flight
 after_response settle now first end f =
     if is_response_to now first end f
-    then record {
-      first = f.first;
-      end = f.end;
+    then record f {
       until = if nat_le f.end end then now else min f.until (now + settle);
       pause = 0;
-      server = f.server;
       attempts = 0;
+      reached = max f.reached end;
     }
     else f
 
@@ -29,13 +27,4 @@ has_come first end f = nat_le first f.first && nat_le f.end end
 -- flight.
 abbrev pub after_arrival : ℕ → ℕ → ℕ → Flight → Flight
 after_arrival now first end f =
-    if has_come first end f
-    then record {
-      first = f.first;
-      end = f.end;
-      until = min f.until now;
-      pause = f.pause;
-      server = f.server;
-      attempts = f.attempts;
-    }
-    else f
+    if has_come first end f then record f { until = min f.until now } else f

@@ -1,39 +1,51 @@
 -- What a pacer knows besides its requests.
-use Rattle.std.specs.Prelude.{◌≡◌, ◌⊎◌, ◌≤◌, ℕ, ◌+◌, ◌-◌, max, nat_lt, if◌then◌else◌}
+use Rattle.std.specs.Prelude.{◌≡◌, ◌⊎◌, ◌≤◌, ℕ, ◌+◌, ◌-◌, max, min, nat_le, nat_lt, if◌then◌else◌, Option, None, Some}
+use Rattle.mold_pacing.specs.declared.flight.Flight.{Flight}
+use Rattle.mold_pacing.specs.declared.options.PacerOptions.{PacerOptions}
 use Rattle.mold_pacing.specs.declared.state.PacerState.{PacerState}
 
 -- The state before any time was reported. No number below `known` is ripe.
-abbrev pub fresh : ℕ → PacerState
-fresh known = record { now = 0; opens = 0; marked = 0; mark = known; ripe = 0; server = 0 }
+abbrev pub fresh : PacerOptions → ℕ → PacerState
+fresh options known = record {
+  now = 0;
+  opens = 0;
+  marked = 0;
+  mark = known;
+  ripe = 0;
+  patience = options.patience;
+  most = options.most;
+  full = 0;
+  server = 0;
+}
 
 -- The state at a later time. A time below the last one counts as the last one. Once a patience has passed since the
 -- mark was set, the numbers below the mark are ripe, and the mark is what is known now.
-abbrev pub advanced : ℕ → ℕ → ℕ → PacerState → PacerState
-advanced patience time known s =
+abbrev pub advanced : ℕ → ℕ → PacerState → PacerState
+advanced time known s =
     let now = max s.now time in
-    if nat_lt (now - s.marked) patience
-    then record { now = now; opens = s.opens; marked = s.marked; mark = s.mark; ripe = s.ripe; server = s.server }
-    else record { now = now; opens = s.opens; marked = now; mark = known; ripe = s.mark; server = s.server }
+    if nat_lt (now - s.marked) s.patience
+    then record s { now = now }
+    else record s { now = now; marked = now; mark = known; ripe = s.mark }
 
--- The state after a request was sent: the next one may be sent an interval later.
-abbrev pub asked : ℕ → PacerState → PacerState
-asked interval s = record {
-  now = s.now;
+-- The state after the patience changed.
+abbrev pub adapted : ℕ → PacerState → PacerState
+adapted patience s = record s { patience = patience }
+
+-- The state after a request was sent for `count` messages: the next one may be sent an interval later. If it asked for
+-- more than `most`, the count of full requests starts again at 0.
+abbrev pub asked : ℕ → ℕ → PacerState → PacerState
+asked interval count s = record s {
   opens = max s.opens s.now + interval;
-  marked = s.marked;
-  mark = s.mark;
-  ripe = s.ripe;
-  server = s.server;
+  full = if nat_lt s.most count then 0 else s.full;
 }
 
--- The state after a server responded: new requests go to it.
-abbrev pub responded : ℕ → PacerState → PacerState
-responded server s = record {
-  now = s.now;
-  opens = s.opens;
-  marked = s.marked;
-  mark = s.mark;
-  ripe = s.ripe;
+-- The state after a server responded, and perhaps ended a request: new requests go to this server. If the request asked
+-- for `most` messages or more, it counts as full, and requests ask for as many from now on.
+abbrev pub responded : PacerOptions → ℕ → Option Flight → PacerState → PacerState
+responded options server None s = record s { server = server }
+responded options server (Some f) s = record s {
+  most = max s.most (min (f.end - f.first) options.most);
+  full = if nat_le s.most (f.end - f.first) then min (s.full + 1) 4294967295 else s.full;
   server = server;
 }
 

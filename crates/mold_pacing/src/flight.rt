@@ -16,4 +16,6 @@ pub struct Flight {
     pub server: u32,
     /// How many requests in a row had no response, up to this one. A response sets it to 0.
     pub attempts: u32,
+    /// One more than the greatest number of its responses, or `first` without a response.
+    pub reached: u64,
 }

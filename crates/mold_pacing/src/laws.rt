@@ -1,15 +1,19 @@
 //! Theorems about all runs of a pacer. Each law is a function with an empty body whose contract is the theorem.
 //! `Pacer::run` returns such a run.
 
-ghost use Rattle.std.specs.Prelude.{◌≡◌, ◌+◌, ◌-◌, ◌*◌, ◌<◌, ◌≤◌, ℕ, max, true, List, Option, Some, slice_get};
+ghost use Rattle.std.specs.Prelude.{◌≡◌, ◌+◌, ◌-◌, ◌*◌, ◌<◌, ◌≤◌, ℕ, max, true, [], List, Option, Some, slice_get};
 ghost use Rattle.mold_pacing.specs.Asks.{are_gaps};
+ghost use Rattle.mold_pacing.specs.Attempts.{count_asks_for};
 ghost use Rattle.mold_pacing.specs.Deadline.{CanAsk};
+ghost use Rattle.mold_pacing.specs.Frugal.{AreMissingOnce, IsFrugal};
 ghost use Rattle.mold_pacing.specs.Laws.{AreApart, count_asks};
-ghost use Rattle.mold_pacing.specs.Polls.{HasAsked, IsIdle};
+ghost use Rattle.mold_pacing.specs.Polls.{HasAsked, IsIdle, last_request};
+ghost use Rattle.mold_pacing.specs.Repeat.{attempts_of};
 ghost use Rattle.mold_pacing.specs.Run.{IsRun};
 ghost use Rattle.mold_pacing.specs.State.{IsRipened, advanced, fresh};
 ghost use Rattle.mold_pacing.specs.declared.ask.Ask.{Ask};
 ghost use Rattle.mold_pacing.specs.declared.gap.Gap.{Gap};
+ghost use Rattle.mold_pacing.specs.declared.options.PacerOptions.{PacerOptions};
 ghost use Rattle.mold_pacing.specs.declared.pacer.Pacer.{Pacer};
 ghost use Rattle.mold_pacing.specs.declared.state.PacerState.{PacerState};
 ghost use Rattle.mold_pacing.specs.declared.step.Step.{Step};
@@ -41,10 +45,28 @@ pub fn ready_law()
 {}
 
 /// Only numbers that were known a patience ago, or at the beginning, are ripe. This holds of the state of a new pacer,
-/// and `Pacer::advance` keeps it. No other call changes the marks.
+/// and `Pacer::advance` keeps it, for any patience that is not above the pacer's. No other call changes the marks.
 pub fn patience_law()
-    ensures begins { (known_at : ℕ → ℕ) (begin patience : ℕ) → IsRipened known_at begin patience (fresh begin) }
+    ensures begins { (known_at : ℕ → ℕ) (begin patience : ℕ) (options : PacerOptions) →
+        IsRipened known_at begin patience (fresh options begin) }
     ensures stays { (known_at : ℕ → ℕ) (begin patience time known : ℕ) (s : PacerState) →
-        known_at (max s.now time) ≡ known → IsRipened known_at begin patience s →
-        IsRipened known_at begin patience (advanced patience time known s) }
+        patience ≤ s.patience → known_at (max s.now time) ≡ known → IsRipened known_at begin patience s →
+        IsRipened known_at begin patience (advanced time known s) }
+{}
+
+/// Requests are frugal, from a pacer without requests on. The requests that did not run out, and are not in flight at
+/// the end, are at most the distinct numbers that came while a request for them was in flight. A request runs out when
+/// its timeout passes, or the settle time after a response. The caller may not report a number as missing after it
+/// came.
+pub fn frugal_law()
+    ensures { (old new : Pacer) (steps : List Step) (asks : List (Option Ask)) (ran : IsRun old new steps asks) →
+        old.flights.items ≡ [] → AreMissingOnce steps → IsFrugal old new steps asks ran }
+{}
+
+/// `Pacer::attempts` counts no more than the requests that asked for the number, from a pacer without requests on. So a
+/// caller that gives a number up after N attempts has requested it at least N times.
+pub fn attempts_law()
+    ensures { (old new : Pacer) (steps : List Step) (asks : List (Option Ask)) (number : ℕ) →
+        IsRun old new steps asks → old.flights.items ≡ [] →
+        attempts_of (last_request new number) ≤ count_asks_for number asks }
 {}

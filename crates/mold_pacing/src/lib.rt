@@ -2,8 +2,10 @@
 //! which server. It has no clock and no receiver.
 #![tactic(auto)]
 
+mod arrival;
 mod ask;
 mod bucket;
+mod delays;
 mod flight;
 mod gap;
 pub mod laws;
@@ -17,9 +19,11 @@ mod step;
 mod table;
 mod waiting;
 
+pub use arrival::Arrival;
 pub use ask::Ask;
+pub use delays::Delays;
 pub use flight::Flight;
-pub use gap::Gap;
+pub use gap::{Gap, are_in_order};
 pub use options::PacerOptions;
 pub use pacer::Pacer;
 pub use state::PacerState;

@@ -10,11 +10,11 @@ use crate::flight::Flight;
 use crate::gap::Gap;
 use crate::options::PacerOptions;
 use crate::place::{Place, place_for, replace, stale_index};
-use crate::repeat::{next_flight, next_server};
-use crate::response::{take_arrival, take_response};
+use crate::repeat::{next_flight, next_server, repeat_end};
+use crate::response::{ended_request, take_arrival, take_response};
 use crate::state::PacerState;
 use crate::step::Step;
-use crate::table::{Free, first_free, free_end};
+use crate::table::{Free, all_begin_below, first_free, free_end};
 use crate::waiting::{free_from, over_from};
 use std::alloc::{AllocError, Global};
 
@@ -29,33 +29,36 @@ pub struct Pacer {
     ghost few: { vec_len flights ≤ options.places },
     ghost room: { options.places ≤ vec_capacity flights },
     ghost timed: { state.now < 2 ^ 62 },
+    ghost learned: { (0 < state.most) × (state.most ≤ options.most) },
     ghost opens: { state.opens ≤ state.now + options.tolerance + options.interval },
     ghost ends: { list_all (is_over (state.now + options.ceiling)) flights.items ≡ true },
 }
 
 impl Pacer {
-    ghost use Rattle.std.specs.Prelude.{max, [], map, false, IfOk, IfSome, IfNone, OnErr, ℕ};
+    ghost use Rattle.std.specs.Prelude.{max, [], map, false, IfOk, IfSome, IfNone, OnErr, ℕ, ◌-◌, Some};
     ghost use Rattle.std.specs.List.{list_all};
     ghost use Rattle.mold_pacing.specs.Asks.{are_gaps, AsksFrom};
     ghost use Rattle.mold_pacing.specs.Deadline.{CanAsk};
-    ghost use Rattle.mold_pacing.specs.Polls.{HasAsked, IsIdle, last_request};
+    ghost use Rattle.mold_pacing.specs.Polls.{HasAsked, IsIdle, ended_request, last_request};
     ghost use Rattle.mold_pacing.specs.Flight.{ArePassed, BeginAbove};
-    ghost use Rattle.mold_pacing.specs.Repeat.{attempts_of, flight_for, server_for};
+    ghost use Rattle.mold_pacing.specs.Repeat.{attempts_of, end_for, flight_for, server_for};
+    ghost use Rattle.mold_pacing.specs.Most.{learned, request_most};
+    ghost use Rattle.mold_pacing.specs.declared.flight.Flight.{Flight};
     ghost use Rattle.mold_pacing.specs.Responses.{after_arrival, after_response};
     ghost use Rattle.mold_pacing.specs.Run.{IsRun, Takes, can_step};
-    ghost use Rattle.mold_pacing.specs.State.{advanced, asked, fresh, responded};
+    ghost use Rattle.mold_pacing.specs.State.{adapted, advanced, asked, fresh, responded};
     ghost use Rattle.mold_pacing.specs.Table.{IsPlace, has_room, placed, without};
 
     /// Returns a pacer with no request in flight, before any time was reported. `known` is one more than the greatest
     /// number that is known. It takes its whole memory here.
     pub fn new(alloc: Global, options: PacerOptions, known: u64) -> Result<Pacer, AllocError>
         ensures options { IfOk result (λ pacer. pacer.options ≡ options) }
-        ensures state { IfOk result (λ pacer. pacer.state ≡ fresh known) }
+        ensures state { IfOk result (λ pacer. pacer.state ≡ fresh options known) }
         ensures empty { IfOk result (λ pacer. pacer.flights.items ≡ []) }
     {
         Ok(Pacer {
             options,
-            state: PacerState::new(known),
+            state: PacerState::new(options, known),
             flights: Vec::with_capacity(alloc, options.places as usize)?,
         })
     }
@@ -65,21 +68,35 @@ impl Pacer {
     pub fn advance(&mut self, time: u64, known: u64)
         requires { time < 2 ^ 62 }
         ensures options { self.new.options ≡ self.old.options }
-        ensures state { self.new.state ≡ advanced self.old.options.patience time known self.old.state }
+        ensures state { self.new.state ≡ advanced time known self.old.state }
         ensures flights { self.new.flights.items ≡ self.old.flights.items }
     {
-        self.state = self.state.advance(self.options.patience, time, known);
+        self.state = self.state.advance(time, known);
+    }
+
+    /// Changes the patience. It counts from the next call of `advance` on.
+    pub fn adapt(&mut self, patience: u64)
+        ensures options { self.new.options ≡ self.old.options }
+        ensures state { self.new.state ≡ adapted patience self.old.state }
+        ensures flights { self.new.flights.items ≡ self.old.flights.items }
+    {
+        self.state = PacerState {
+            patience,
+            ..self.state
+        };
     }
 
     /// Reports a response with the numbers of the range, which was accepted. New requests go to its server.
     pub fn respond(&mut self, server: u32, came: Gap)
         ensures options { self.new.options ≡ self.old.options }
-        ensures state { self.new.state ≡ responded server self.old.state }
+        ensures state { self.new.state ≡
+            responded self.old.options server (ended_request self.old came.first came.end) self.old.state }
         ensures flights { self.new.flights.items ≡
             map (after_response self.old.options.settle self.old.state.now came.first came.end) self.old.flights.items }
     {
+        let ended = ended_request(&self.flights, self.state.now, came);
         take_response(&mut self.flights, self.options.settle, self.state.now, came);
-        self.state.server = server;
+        self.state = self.state.respond(self.options, server, ended);
     }
 
     /// Reports that all numbers of the range came, from wherever. Requests for nothing else are no longer in flight.
@@ -89,6 +106,10 @@ impl Pacer {
         ensures flights { self.new.flights.items ≡
             map (after_arrival self.old.state.now came.first came.end) self.old.flights.items }
     {
+        // Most datagrams of a line are above all requests.
+        if all_begin_below(&self.flights, came.first) {
+            return;
+        }
         take_arrival(&mut self.flights, self.state.now, came);
     }
 
@@ -97,13 +118,18 @@ impl Pacer {
         requires passed { ArePassed self.now.flights.items self.now.state.now free.index free.first }
         requires above { BeginAbove self.now.flights.items free.index free.first }
         requires some { free.first < free.end }
-        ensures asks { AsksFrom self.now.flights.items self.now.state.now self.now.options.most free.first free.end
-            result }
+        requires before { (f : Flight) → before ≡ Some f → free.first < f.end }
+        ensures asks { AsksFrom self.now.flights.items self.now.state.now
+            (request_most self.now.options (learned self.now.options before self.now.state)) free.first
+            (end_for free.end before) result }
         ensures server { result.server ≡ server_for self.now.options.servers self.now.state.server before }
     {
-        let most = free.first.saturating_add(u64::from(self.options.most));
+        let most = self
+            .state
+            .learn(self.options, before)
+            .request_most(self.options);
         let free = Free {
-            end: free.end.min(most),
+            end: repeat_end(free.end, before).min(free.first.saturating_add(most)),
             ..free
         };
         Ask {
@@ -119,14 +145,16 @@ impl Pacer {
             place.leaves place.before }
         requires opened { self.old.state.opens ≤ self.old.state.now + self.old.options.tolerance }
         ensures options { self.new.options ≡ self.old.options }
-        ensures state { self.new.state ≡ asked self.old.options.interval self.old.state }
+        ensures state { self.new.state ≡ asked self.old.options.interval (ask.end - ask.first)
+            (learned self.old.options place.before self.old.state) }
         ensures flights { self.new.flights.items ≡
             placed (flight_for self.old.options self.old.state.now place.before ask)
             (without place.leaves self.old.flights.items) }
     {
         let sent = next_flight(self.options, self.state.now, place.before, ask);
         replace(&mut self.flights, place.leaves, sent);
-        self.state = self.state.ask(self.options.interval);
+        let state = self.state.learn(self.options, place.before);
+        self.state = state.ask(self.options.interval, ask.end.saturating_sub(ask.first));
     }
 
     /// Returns the next request that may be sent now, if there is one. It counts as sent. `gaps` are the missing
@@ -158,6 +186,24 @@ impl Pacer {
         let opens = self.state.opens.saturating_sub(self.options.tolerance);
         let free = free_from(&self.flights, number);
         self.state.now.max(opens).max(free).max(self.room_from())
+    }
+
+    /// Returns what the pacer knows besides its requests.
+    pub fn state(&self) -> PacerState
+        ensures { result ≡ self.now.state }
+    {
+        self.state
+    }
+
+    /// Returns the time from which on `advance` makes the numbers below the mark ripe. A caller that waits until a
+    /// missing number is ripe reports the time then.
+    pub fn ripens(&self) -> u64
+        ensures ripe { (time known : ℕ) → result ≤ time → time < 2 ^ 62 →
+            (advanced time known self.now.state).ripe ≡ self.now.state.mark }
+        ensures least { (time known : ℕ) → max self.now.state.now self.now.state.marked ≤ time → time < result →
+            (advanced time known self.now.state).ripe ≡ self.now.state.ripe }
+    {
+        self.state.marked.saturating_add(self.state.patience)
     }
 
     /// Returns how many requests in a row for this number had no response. A request in flight doesn't count.
@@ -192,6 +238,10 @@ impl Pacer {
             Step::Poll { gaps } => self.poll(gaps),
             Step::Advance { time, known } => {
                 self.advance(time, known);
+                None
+            }
+            Step::Adapt { patience } => {
+                self.adapt(patience);
                 None
             }
             Step::Respond { server, came } => {

@@ -1,7 +1,7 @@
 //! What follows from the requests before: how long a request waits, and to which server it goes.
 
 ghost use Rattle.std.specs.Prelude.{◌≡◌, ◌<◌, ◌^◌};
-ghost use Rattle.mold_pacing.specs.Repeat.{attempts_for, flight_for, pause_for, server_for};
+ghost use Rattle.mold_pacing.specs.Repeat.{attempts_for, end_for, flight_for, pause_for, server_for};
 
 use crate::ask::Ask;
 use crate::flight::Flight;
@@ -42,6 +42,17 @@ pub(crate) fn next_server(options: PacerOptions, base: u32, before: Option<Fligh
     if next < options.servers { next } else { 0 }
 }
 
+/// Returns the end of a request that could go to `end`. A request that is repeated because it had no response asks for
+/// no more numbers than before.
+pub(crate) fn repeat_end(end: u64, before: Option<Flight>) -> u64
+    ensures { result ≡ end_for end before }
+{
+    match before {
+        Some(flight) if flight.attempts > 0 => end.min(flight.end),
+        _ => end,
+    }
+}
+
 /// Returns the record of a request that is sent now.
 pub(crate) fn next_flight(
     options: PacerOptions,
@@ -60,5 +71,6 @@ pub(crate) fn next_flight(
         pause,
         server: ask.server,
         attempts: next_attempt(before),
+        reached: ask.first,
     }
 }

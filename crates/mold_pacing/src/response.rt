@@ -1,6 +1,7 @@
 //! What responses and arrivals do to the requests in flight.
 
-ghost use Rattle.std.specs.Prelude.{◌≡◌, ◌<◌, ◌+◌, ◌^◌, map};
+ghost use Rattle.std.specs.Prelude.{◌≡◌, ◌<◌, ◌+◌, ◌^◌, find, map};
+ghost use Rattle.mold_pacing.specs.Most.{ends_request};
 ghost use Rattle.mold_pacing.specs.Responses.{after_arrival, after_response, is_response_to};
 
 use crate::flight::Flight;
@@ -30,6 +31,7 @@ fn with_response(flight: Flight, settle: u64, now: u64, came: Gap) -> Flight
         until,
         pause: 0,
         attempts: 0,
+        reached: flight.reached.max(came.end),
         ..flight
     }
 }
@@ -45,6 +47,23 @@ fn with_arrival(flight: Flight, now: u64, came: Gap) -> Flight
         };
     }
     flight
+}
+
+// Returns whether a number of the range responds to the request, and the range reaches the request's end.
+fn is_end(flight: Flight, now: u64, came: Gap) -> bool
+    ensures { result ≡ ends_request now came.first came.end flight }
+{
+    is_response(flight, now, came) && flight.end <= came.end
+}
+
+/// Returns the first request that a response with the numbers of the range ends.
+pub(crate) fn ended_request(flights: &[Flight], now: u64, came: Gap) -> Option<Flight>
+    ensures { result ≡ find (ends_request now came.first came.end) flights.now }
+{
+    flights
+        .iter()
+        .copied()
+        .find(|flight| is_end(*flight, now, came))
 }
 
 /// Applies a response with the numbers of the range to each request.

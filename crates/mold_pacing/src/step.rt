@@ -7,6 +7,8 @@ use crate::gap::Gap;
 pub enum Step<'a> {
     /// `Pacer::advance`: the time, and one more than the greatest known number.
     Advance { time: u64, known: u64 },
+    /// `Pacer::adapt`: the patience from now on.
+    Adapt { patience: u64 },
     /// `Pacer::poll`: the missing numbers.
     Poll { gaps: &'a [Gap] },
     /// `Pacer::respond`: the server that responded, and the numbers of the response.

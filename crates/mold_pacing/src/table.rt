@@ -1,6 +1,7 @@
 //! Walks over the table of requests, which is in ascending order of their first numbers.
 
-ghost use Rattle.std.specs.Prelude.{◌≡◌, ◌≤◌, ◌<◌, ◌⊎◌, ◌&&◌, true, false, nat_lt, IfSome, IfNone};
+ghost use Rattle.std.specs.Prelude.{◌≡◌, ◌≤◌, ◌<◌, ◌⊎◌, ◌&&◌, true, false, nat_lt, length, IfSome, IfNone};
+ghost use Rattle.mold_pacing.specs.Table.{AreBelow};
 ghost use Rattle.mold_pacing.specs.Flight.{AllInFlight, ArePassed, BeginAbove, NoneInFlight, in_flight, is_ascending};
 ghost use Rattle.mold_pacing.specs.Asks.{AreGaps, AreAllInFlight, IsFirstFree};
 
@@ -50,7 +51,7 @@ fn pass_flights(flights: &[Flight], now: u64, from: Cursor) -> Cursor
 }
 
 /// Returns the least number of the gaps that is below `ripe` and not in flight. Each gap and each request is visited at
-/// most once.
+/// most once, and no gap after the first one that begins at or above `ripe`.
 pub(crate) fn first_free(flights: &[Flight], now: u64, ripe: u64, gaps: &[Gap]) -> Option<Free>
     requires sorted { is_ascending 0 flights.now ≡ true }
     requires gaps { AreGaps gaps.now }
@@ -64,21 +65,39 @@ pub(crate) fn first_free(flights: &[Flight], now: u64, ripe: u64, gaps: &[Gap]) 
         number: 0,
     };
     for gap in gaps {
-        let from = Cursor {
-            index: cursor.index,
-            number: cursor.number.max(gap.first),
-        };
-        cursor = pass_flights(flights, now, from);
-        let end = gap.end.min(ripe);
-        if cursor.number < end {
-            return Some(Free {
+        if gap.first >= ripe {
+            return None;
+        }
+        // Most gaps are below the end of a request that was passed. They take one comparison.
+        if gap.end > cursor.number {
+            let from = Cursor {
                 index: cursor.index,
-                first: cursor.number,
-                end,
-            });
+                number: cursor.number.max(gap.first),
+            };
+            cursor = pass_flights(flights, now, from);
+            let end = gap.end.min(ripe);
+            if cursor.number < end {
+                return Some(Free {
+                    index: cursor.index,
+                    first: cursor.number,
+                    end,
+                });
+            }
         }
     }
     None
+}
+
+/// Returns whether all requests begin below this number. It looks at the last one only.
+pub(crate) fn all_begin_below(flights: &[Flight], number: u64) -> bool
+    requires sorted { is_ascending 0 flights.now ≡ true }
+    ensures { result ≡ true → AreBelow flights.now (length flights.now) number }
+{
+    let count = flights.len();
+    if count == 0 {
+        return true;
+    }
+    flights[count - 1].first < number
 }
 
 // Returns whether the request is in flight and asks for a number.

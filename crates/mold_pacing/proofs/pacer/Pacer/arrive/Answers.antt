@@ -1,12 +1,13 @@
-use Rattle.std.proofs.Common.{◌+◌, ◌∙◌, List, ap, length, map, sym}
+use Rattle.std.proofs.Common.{◌+◌, ◌∙◌, List, ap, length, map, subst, sym}
 use Rattle.std.proofs.lemmas.List.{length-map, with_items_is}
 use Rattle.std.specs.Vec.{with_items}
 use Rattle.mold_pacing.specs.declared.flight.Flight.{Flight}
 use Rattle.mold_pacing.specs.Responses.{after_arrival}
+use Rattle.mold_pacing.specs.Table.{AreBelow}
 use Rattle.std.specs.List.{list_all}
 use Rattle.mold_pacing.specs.Flight.{is_over}
 use Rattle.mold_pacing.proofs.EndLemmas.{all_map, ends_arrival}
-use Rattle.mold_pacing.proofs.ResponseLemmas.{arrival_first, changed_ascending}
+use Rattle.mold_pacing.proofs.ResponseLemmas.{arrival_first, arrival_none, changed_ascending}
 use Rattle.mold_pacing.proofs.pacer.Pacer.arrive.Goals as goal
 
 pub invariant_of-self-clause-sorted : goal.invariant_of-self-clause-sorted
@@ -32,3 +33,10 @@ invariant_of-self-clause-ends c =
     let over = is_over (old.state.now + old.options.ceiling) in
     ap (list_all over) (with_items_is fs now long ∙ is)
     ∙ all_map over over change fs.items (ends_arrival old.state.now c.args.came.first c.args.came.end old.options.ceiling) old.ends
+
+pub returns-then-all_begin_below-clause-flights : goal.returns-then-all_begin_below-clause-flights
+returns-then-all_begin_below-clause-flights c =
+    let fs = c.args.self.now.flights.items in
+    let Below : List Flight → Type 0 = λ t. AreBelow t (length t) c.args.came.first in
+    arrival_none c.args.self.now.state.now c.args.came.first c.args.came.end fs
+    (subst Below c.deref.ensures.value (c.all_begin_below.ensures c.if-all_begin_below.true))

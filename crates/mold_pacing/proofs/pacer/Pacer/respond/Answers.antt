@@ -1,6 +1,8 @@
-use Rattle.std.proofs.Common.{◌+◌, ◌∙◌, List, ap, length, map, sym}
+use Rattle.std.proofs.Common.{ℕ, ◌+◌, ◌∙◌, List, ap, length, map, sym}
 use Rattle.std.proofs.lemmas.List.{length-map, with_items_is}
 use Rattle.std.specs.Vec.{with_items}
+use Rattle.mold_pacing.proofs.LawLemmas.{responded_now}
+use Rattle.mold_pacing.specs.declared.state.PacerState.{PacerState}
 use Rattle.mold_pacing.specs.declared.flight.Flight.{Flight}
 use Rattle.mold_pacing.specs.Responses.{after_response}
 use Rattle.std.specs.List.{list_all}
@@ -30,5 +32,8 @@ invariant_of-self-clause-ends c =
     let is = c.take_response.ensures ∙ ap (map change) c.deref_mut.ensures.value in
     let long = ap (λ (t : List Flight). length t) is ∙ length-map fs.items change ∙ sym fs.ok.0 in
     let over = is_over (old.state.now + old.options.ceiling) in
-    ap (list_all over) (with_items_is fs now long ∙ is)
+    let time = ap (λ (s : PacerState). s.now) c.respond-self.ensures
+    ∙ responded_now old.options c.args.server c.ended_request-ended.result old.state in
+    ap (λ (n : ℕ). list_all (is_over (n + old.options.ceiling)) (with_items fs now).items) time
+    ∙ ap (list_all over) (with_items_is fs now long ∙ is)
     ∙ all_map over over change fs.items (ends_response old.options.settle old.state.now c.args.came.first c.args.came.end old.options.ceiling) old.ends

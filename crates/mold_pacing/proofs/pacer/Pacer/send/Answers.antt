@@ -5,6 +5,7 @@ use Rattle.mold_pacing.specs.Table.{without}
 use Rattle.mold_pacing.proofs.EndLemmas.{all_placed, all_without, sent_ends}
 use Rattle.mold_pacing.specs.declared.flight.Flight.{Flight}
 use Rattle.mold_pacing.specs.declared.state.PacerState.{PacerState}
+use Rattle.mold_pacing.proofs.LawLemmas.{learned_most, learned_now, learned_opens}
 use Rattle.mold_pacing.proofs.PlaceLemmas.{sent_ascending, sent_length}
 use Rattle.mold_pacing.proofs.pacer.Pacer.send.Goals as goal
 
@@ -14,8 +15,13 @@ invariant_of-self c =
     let fs = old.flights.items in
     let sent = c.next_flight-sent.result in
     let leaves = c.args.place.leaves in
-    let now = ap (λ (s : PacerState). s.now) c.ask-self.ensures in
+    let before = c.args.place.before in
+    let learns = c.learn-state.ensures in
+    let now = ap (λ (s : PacerState). s.now) c.ask-self.ensures ∙ ap (λ (s : PacerState). s.now) learns
+    ∙ learned_now old.options before old.state in
     let opens = ap (λ (s : PacerState). s.opens) c.ask-self.ensures in
+    let most = ap (λ (s : PacerState). s.most) c.ask-self.ensures ∙ ap (λ (s : PacerState). s.most) learns in
+    let some = learned_most old.options before old.state old.options.asks.0 old.learned.0 old.learned.1 in
     record {
       sorted = ap (is_ascending 0) c.replace.ensures.items ∙ sent_ascending sent leaves fs old.sorted;
       few = omega (
@@ -27,7 +33,17 @@ invariant_of-self c =
       );
       room = omega (arith, c.replace.ensures.capacity, old.room);
       timed = omega (arith, now, old.timed);
-      opens = omega (arith, now, opens, c.requires.opened);
+      learned = (omega (arith, most, some.0), omega (arith, most, some.1));
+      opens = omega (
+        arith,
+        now,
+        opens,
+        ap (λ (s : PacerState). s.now) learns,
+        ap (λ (s : PacerState). s.opens) learns,
+        learned_now old.options before old.state,
+        learned_opens old.options before old.state,
+        c.requires.opened,
+      );
       ends = ap (λ (n : ℕ). list_all (is_over (n + old.options.ceiling)) c.replace.new.flights.items) now
           ∙ ap (list_all (is_over (old.state.now + old.options.ceiling))) c.replace.ensures.items
           ∙ all_placed (is_over (old.state.now + old.options.ceiling)) sent (without leaves fs)

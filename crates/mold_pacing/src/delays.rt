@@ -1,0 +1,138 @@
+//! The patience that adapts: how long after one line the other line brings the same datagram.
+
+ghost use Rattle.std.specs.Prelude.{◌≡◌, ◌≤◌, ◌<◌, [], length, replicate, vec_capacity, IfOk};
+ghost use Rattle.mold_pacing.specs.Delays.{greatest_of, index_after, no_arrival, patience_for, pushed};
+
+use crate::arrival::{Arrival, BOTH};
+use std::alloc::{AllocError, Global};
+
+// How many delays count for the patience.
+const DELAYS: usize = 1024;
+
+// For how many datagrams the first arrival is kept.
+const SLOTS: usize = 65_536;
+
+// The patience before a delay is known, the least and the greatest one, in nanoseconds.
+const FIRST_PATIENCE: u64 = 1_000_000;
+
+const LEAST_PATIENCE: u64 = 200_000;
+
+const GREATEST_PATIENCE: u64 = 100_000_000;
+
+const NO_ARRIVAL: Arrival = Arrival {
+    first: 0,
+    end: 0,
+    time: 0,
+    line: BOTH,
+};
+
+/// The delays between two lines: how much later the second line brought a datagram that both brought. It counts the
+/// last 1,024 of them. The first arrival of a datagram is forgotten when the arrival of one follows whose first number
+/// is greater by a multiple of 65,536.
+#[derive(Debug, Drop)]
+pub struct Delays {
+    // The arrivals, each at the index of its first number.
+    arrivals: Vec<Arrival>,
+    // The last delays.
+    recent: Vec<u64>,
+    // The index of the delay that the next one replaces.
+    next: usize,
+    // The greatest of the last delays.
+    greatest: u64,
+    ghost slots: { length arrivals.items ≡ 65536 },
+    ghost room: { 1024 ≤ vec_capacity recent },
+    ghost few: { length recent.items ≤ 1024 },
+    ghost within: { next < 1024 },
+    ghost most: { greatest ≡ greatest_of recent.items },
+}
+
+// Returns the greatest of the delays, or 0 without a delay.
+fn greatest_in(delays: &[u64]) -> u64
+    ensures { result ≡ greatest_of delays.now }
+{
+    let mut greatest = 0u64;
+    for index in 0..delays.len() {
+        greatest = greatest.max(delays[index]);
+    }
+    greatest
+}
+
+// Returns the greatest of the delays, after `delay` took the place of `left`. `greatest` was the greatest one before.
+fn next_greatest(delays: &[u64], greatest: u64, left: u64, delay: u64) -> u64
+    requires new { greatest ≤ delay → greatest_of delays.now ≡ delay }
+    requires kept { left < greatest → delay < greatest → greatest_of delays.now ≡ greatest }
+    ensures { result ≡ greatest_of delays.now }
+{
+    if delay >= greatest {
+        return delay;
+    }
+    if left < greatest {
+        return greatest;
+    }
+    greatest_in(delays)
+}
+
+impl Delays {
+    ghost use Rattle.mold_pacing.specs.Lines.{IsTaken};
+
+    /// Returns the state before any arrival. It takes its whole memory here, which is 2 MiB.
+    pub fn new(alloc: Global) -> Result<Delays, AllocError>
+        ensures arrivals { IfOk result (λ delays. delays.arrivals.items ≡ replicate 65536 no_arrival) }
+        ensures recent { IfOk result (λ delays. delays.recent.items ≡ []) }
+        ensures index { IfOk result (λ delays. delays.next ≡ 0) }
+    {
+        Ok(Delays {
+            arrivals: vec![in alloc; NO_ARRIVAL; SLOTS]?,
+            recent: Vec::with_capacity(alloc, DELAYS)?,
+            next: 0,
+            greatest: 0,
+        })
+    }
+
+    // Adds a delay. The greatest one is looked for only if it left.
+    fn push(&mut self, delay: u64)
+        ensures arrivals { self.new.arrivals.items ≡ self.old.arrivals.items }
+        ensures recent { self.new.recent.items ≡ pushed delay self.old.next self.old.recent.items }
+        ensures next { self.new.next ≡ index_after self.old.next self.old.recent.items }
+    {
+        if self.recent.len() < DELAYS {
+            self.recent.push_reserved(delay);
+            self.greatest = self.greatest.max(delay);
+            return;
+        }
+        let left = self.recent[self.next];
+        self.recent[self.next] = delay;
+        self.greatest = next_greatest(&self.recent, self.greatest, left, delay);
+        self.next = if self.next + 1 < DELAYS {
+            self.next + 1
+        } else {
+            0
+        };
+    }
+
+    /// Takes an arrival on one of two lines. If the other line brought the datagram before, the time since then is a
+    /// delay.
+    pub fn take(&mut self, arrival: Arrival)
+        ensures { IsTaken self.old self.new arrival }
+    {
+        let slot = (arrival.first % SLOTS as u64) as usize;
+        let before = self.arrivals[slot];
+        self.arrivals[slot] = before.keep(arrival);
+        if before.is_second(arrival) {
+            self.push(arrival.time.saturating_sub(before.time));
+        }
+    }
+
+    /// Returns the patience that fits the delays, in nanoseconds.
+    pub fn patience(&self) -> u64
+        ensures { result ≡ patience_for self.now.recent.items }
+    {
+        if self.recent.is_empty() {
+            return FIRST_PATIENCE;
+        }
+        self.greatest
+            .saturating_mul(2)
+            .min(GREATEST_PATIENCE)
+            .max(LEAST_PATIENCE)
+    }
+}
