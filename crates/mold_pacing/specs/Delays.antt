@@ -2,6 +2,8 @@
 use Rattle.std.specs.Prelude.{ℕ, ◌+◌, ◌*◌, ◌&&◌, Bool, not, List, [], ◌∷◌, ◌++◌, length, max, min, nat_eq, nat_lt, set}
 use Rattle.std.specs.Prelude.{if◌then◌else◌}
 use Rattle.mold_pacing.specs.declared.arrival.Arrival.{Arrival}
+use Rattle.mold_pacing.specs.declared.arrival.TheConstants.{BOTH}
+use Rattle.mold_pacing.specs.declared.delays.TheConstants.{DELAYS, FIRST_PATIENCE, GREATEST_PATIENCE, LEAST_PATIENCE}
 
 -- The greatest of the delays, or 0 without a delay.
 abbrev pub greatest_of : List ℕ → ℕ
@@ -11,32 +13,32 @@ greatest_of (delay ∷ delays) = max delay (greatest_of delays)
 -- The patience that fits the delays: twice the greatest one, but at least 200 microseconds and at most 100
 -- milliseconds. Without a delay it is a millisecond.
 abbrev pub patience_for : List ℕ → ℕ
-patience_for [] = 1000000
-patience_for (delay ∷ delays) = max 200000 (min (greatest_of (delay ∷ delays) * 2) 100000000)
+patience_for [] = FIRST_PATIENCE
+patience_for (delay ∷ delays) = max LEAST_PATIENCE (min (greatest_of (delay ∷ delays) * 2) GREATEST_PATIENCE)
 
 -- What is kept of the arrivals before the first one.
 abbrev pub no_arrival : Arrival
-no_arrival = record { first = 0; end = 0; time = 0; line = 4294967295 }
+no_arrival = record { first = 0; end = 0; time = 0; line = BOTH }
 
 -- Whether this is the same datagram: it has the same numbers.
 abbrev pub is_same : Arrival → Arrival → Bool
 is_same a b = nat_eq a.first b.first && nat_eq a.end b.end
 
--- Whether the datagram came before, and the other line alone brought it. The line 4294967295 means both lines.
+-- Whether the datagram came before, and the other line alone brought it. The line `BOTH` means both lines.
 abbrev pub is_second : Arrival → Arrival → Bool
-is_second before a = is_same before a && (not (nat_eq before.line a.line) && not (nat_eq before.line 4294967295))
+is_second before a = is_same before a && (not (nat_eq before.line a.line) && not (nat_eq before.line BOTH))
 
 -- What is kept of a datagram that comes, in place of what was kept before.
 abbrev pub kept : Arrival → Arrival → Arrival
 kept before a =
-    if is_second before a then record before { line = 4294967295 } else if is_same before a then before else a
+    if is_second before a then record before { line = BOTH } else if is_same before a then before else a
 
--- The last 1,024 delays after another one. The delay at the index leaves, if there are as many.
+-- The last `DELAYS` delays after another one. The delay at the index leaves, if there are as many.
 abbrev pub pushed : ℕ → ℕ → List ℕ → List ℕ
 pushed delay index delays =
-    if nat_lt (length delays) 1024 then delays ++ delay ∷ [] else set delays index delay
+    if nat_lt (length delays) DELAYS then delays ++ delay ∷ [] else set delays index delay
 
 -- The index of the delay that leaves next.
 abbrev pub index_after : ℕ → List ℕ → ℕ
 index_after index delays =
-    if nat_lt (length delays) 1024 then index else if nat_lt (index + 1) 1024 then index + 1 else 0
+    if nat_lt (length delays) DELAYS then index else if nat_lt (index + 1) DELAYS then index + 1 else 0

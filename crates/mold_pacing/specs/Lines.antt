@@ -3,13 +3,14 @@ use Rattle.std.specs.Prelude.{◌≡◌, ◌-◌, ◌%◌, set, slice_get, if◌
 use Rattle.mold_pacing.specs.Delays.{index_after, is_second, kept, pushed}
 use Rattle.mold_pacing.specs.declared.arrival.Arrival.{Arrival}
 use Rattle.mold_pacing.specs.declared.delays.Delays.{Delays}
+use Rattle.mold_pacing.specs.declared.delays.TheConstants.{SLOTS}
 
 -- The delays after an arrival. `before` is what was kept of the last arrival with such a number. If the arrival is the
 -- second one of a datagram, the time between both is the newest delay.
 pub record IsTaken (old new : Delays) (a : Arrival) : Type 0 where
   pub before : Arrival
-  pub there : slice_get old.arrivals.items (a.first % 65536) ≡ Some before
-  pub arrivals : new.arrivals.items ≡ set old.arrivals.items (a.first % 65536) (kept before a)
+  pub there : slice_get old.arrivals.items (a.first % SLOTS) ≡ Some before
+  pub arrivals : new.arrivals.items ≡ set old.arrivals.items (a.first % SLOTS) (kept before a)
   pub recent : new.recent.items ≡ (if is_second before a
       then pushed (a.time - before.time) old.next old.recent.items
       else old.recent.items)

@@ -4,6 +4,7 @@ use Rattle.mold_pacing.specs.Responses.{is_response_to}
 use Rattle.mold_pacing.specs.declared.flight.Flight.{Flight}
 use Rattle.mold_pacing.specs.declared.options.PacerOptions.{PacerOptions}
 use Rattle.mold_pacing.specs.declared.state.PacerState.{PacerState}
+use Rattle.mold_pacing.specs.declared.state.TheConstants.{GROWTH}
 
 -- Whether numbers of this range respond to the request, and reach its end.
 abbrev pub ends_request : ℕ → ℕ → ℕ → Flight → Bool
@@ -20,7 +21,7 @@ learned options None s = s
 learned options (Some f) s =
     if is_partial f then record s { most = min (f.reached - f.first) options.most; full = 0 } else s
 
--- The greatest number of messages that the next request asks for. After 16 full requests it is twice `most`, but not
--- more than the options allow.
+-- The greatest number of messages that the next request asks for. After `GROWTH` full requests it is twice
+-- `most`, but not more than the options allow.
 abbrev pub request_most : PacerOptions → PacerState → ℕ
-request_most options s = if nat_lt s.full 16 then s.most else min (s.most * 2) options.most
+request_most options s = if nat_lt s.full GROWTH then s.most else min (s.most * 2) options.most

@@ -2,22 +2,23 @@
 
 ghost use Rattle.std.specs.Prelude.{◌≡◌, ◌≤◌, ◌<◌, [], length, replicate, vec_capacity, IfOk};
 ghost use Rattle.mold_pacing.specs.Delays.{greatest_of, index_after, no_arrival, patience_for, pushed};
+ghost use Rattle.mold_pacing.specs.declared.delays.TheConstants.{DELAYS, SLOTS};
 
 use crate::arrival::{Arrival, BOTH};
 use std::alloc::{AllocError, Global};
 
 // How many delays count for the patience.
-const DELAYS: usize = 1024;
+pub(crate) const DELAYS: usize = 1024;
 
 // For how many datagrams the first arrival is kept.
-const SLOTS: usize = 65_536;
+pub(crate) const SLOTS: usize = 65_536;
 
 // The patience before a delay is known, the least and the greatest one, in nanoseconds.
-const FIRST_PATIENCE: u64 = 1_000_000;
+pub(crate) const FIRST_PATIENCE: u64 = 1_000_000;
 
-const LEAST_PATIENCE: u64 = 200_000;
+pub(crate) const LEAST_PATIENCE: u64 = 200_000;
 
-const GREATEST_PATIENCE: u64 = 100_000_000;
+pub(crate) const GREATEST_PATIENCE: u64 = 100_000_000;
 
 const NO_ARRIVAL: Arrival = Arrival {
     first: 0,
@@ -39,10 +40,10 @@ pub struct Delays {
     next: usize,
     // The greatest of the last delays.
     greatest: u64,
-    ghost slots: { length arrivals.items ≡ 65536 },
-    ghost room: { 1024 ≤ vec_capacity recent },
-    ghost few: { length recent.items ≤ 1024 },
-    ghost within: { next < 1024 },
+    ghost slots: { length arrivals.items ≡ SLOTS },
+    ghost room: { DELAYS ≤ vec_capacity recent },
+    ghost few: { length recent.items ≤ DELAYS },
+    ghost within: { next < DELAYS },
     ghost most: { greatest ≡ greatest_of recent.items },
 }
 
@@ -77,7 +78,7 @@ impl Delays {
 
     /// Returns the state before any arrival. It takes its whole memory here, which is 2 MiB.
     pub fn new(alloc: Global) -> Result<Delays, AllocError>
-        ensures arrivals { IfOk result (λ delays. delays.arrivals.items ≡ replicate 65536 no_arrival) }
+        ensures arrivals { IfOk result (λ delays. delays.arrivals.items ≡ replicate SLOTS no_arrival) }
         ensures recent { IfOk result (λ delays. delays.recent.items ≡ []) }
         ensures index { IfOk result (λ delays. delays.next ≡ 0) }
     {

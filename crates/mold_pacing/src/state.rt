@@ -8,7 +8,7 @@ use crate::flight::Flight;
 use crate::options::PacerOptions;
 
 /// After this many full requests in a row, one request asks for twice as many messages.
-const GROWTH: u32 = 16;
+pub(crate) const GROWTH: u32 = 16;
 
 /// The time, the limit on requests, the numbers that are ripe, and what was learned about the servers.
 #[derive(Clone, Copy, Debug, PartialEq, Eq)]
