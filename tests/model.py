@@ -624,8 +624,8 @@ def loop(session, limits, window, burst, drops, turns, is_reported, some_bytes, 
 
 
 def loop_text(session, limits, window, burst, drops, turns, is_reported, some_bytes, form):
-    """The text if messages are printed as lines, and the status. Models ports that lose nothing. The limits are those of
-    publisher and server, the drops those of A and B."""
+    """The text if messages are printed as lines, and the status. Models ports that lose nothing. The limits are those
+    of publisher and server, the drops those of A and B."""
     limit, server_limit = limits
     messages, packets, refusal = packets_of(session, limit, some_bytes, form)
     listener = Listener(fresh(session, 1, window))
