@@ -603,19 +603,6 @@ def is_sent(drop, number):
     return drop == 0 or number % drop != 0
 
 
-def apart(text):
-    """The text of a listener that prints blocks, which are on standard output, and its text on standard error. The
-    given text is that of a listener that prints lines."""
-    printed, notes = [], []
-    for line in text.splitlines():
-        number, _, digits = line.partition(b" ")
-        if number.isdigit():
-            printed.append(b"" if digits == b"-" else bytes.fromhex(digits.decode()))
-        else:
-            notes.append(line + b"\n")
-    return blocks(printed), b"".join(notes)
-
-
 def loop(session, limits, window, burst, drops, turns, is_reported, some_bytes, form="lines"):
     """The text, the status, and the text on standard error."""
     text, status = loop_text(session, limits, window, burst, drops, turns, is_reported, some_bytes, form)
