@@ -120,8 +120,8 @@ const BLOCKS_OUT: OptionRow = OptionRow {
 const BLOCKS_BOTH: OptionRow = OptionRow {
     name: "blocks",
     kind: Kind::Flag,
-    help: "Read and print message blocks (BinaryFILE), and print all other text on\n\
-        standard error",
+    help: "Read and print message blocks (BinaryFILE), and print all other text\n\
+        on standard error",
 };
 
 // Ends the input of blocks before the first empty one.
