@@ -5,8 +5,8 @@ ghost use Rattle.hex.specs.Hex.{encode_lower, lower_digits};
 
 mod block;
 
-use crate::lanes::LANES;
-use block::encode_blocks;
+use crate::lanes::{HALF, LANES};
+use block::{encode_blocks, encode_halves};
 
 /// Fills `out` with the digits of the bytes, two for each byte.
 #[inline(always)]
@@ -14,8 +14,10 @@ pub fn encode_into(bytes: &[u8], out: &mut [u8])
     requires { length out.old ≡ 2 * length bytes.now }
     ensures { out.new ≡ encode_lower bytes.now }
 {
-    if bytes.len() < LANES {
+    if bytes.len() < HALF {
         encode_few(bytes, out)
+    } else if bytes.len() < LANES {
+        encode_halves(bytes, out)
     } else {
         encode_blocks(bytes, out)
     }

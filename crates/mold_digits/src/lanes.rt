@@ -10,6 +10,9 @@ use std::simd::prelude::*;
 /// The number of bytes in a vector.
 pub const LANES: usize = 16;
 
+/// Half the number of bytes in a vector.
+pub const HALF: usize = LANES / 2;
+
 /// Adds `amount` to each byte, modulo 256.
 #[inline(always)]
 pub fn plus(lanes: u8x16, amount: u8) -> u8x16
