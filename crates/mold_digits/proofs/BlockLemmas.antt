@@ -1,15 +1,18 @@
 -- The loop over whole vectors of digits.
-use Rattle.std.proofs.Common.{◌≡◌, ℕ, ◌+◌, ◌*◌, ◌%◌, ◌<◌, ◌≤◌, Bool, true, false, List, ◌++◌, length, map, take, Result}
+use Rattle.std.proofs.Common.{◌≡◌, ℕ, ◌+◌, ◌-◌, ◌*◌, ◌%◌, ◌<◌, ◌≤◌, Bool, true, false, List, ◌++◌, length, map, take, Result}
 use Rattle.std.proofs.Common.{Ok, Err, is_err, refl, sym, ap, ◌∙◌, arith}
 use Rattle.std.specs.Prelude.{MatchResult}
-use Rattle.std.proofs.lemmas.List.{map-append}
+use Rattle.std.proofs.lemmas.List.{length-take-le, map-append, take-append-le, take-take, take_all}
 use Rattle.std.proofs.lemmas.Simd.{length-chunk}
 use Rattle.std.specs.Simd.Lanes.{Each1, chunk, zip2}
-use Rattle.hex.specs.Hex.{decode_pairs}
+use Rattle.hex.proofs.HexLemmas.{decode_of-even, decode_pairs-ok}
+use Rattle.hex.specs.Hex.{decode_of, decode_pairs}
 use Rattle.hex.specs.declared.error.FromHexError.{FromHexError}
 use Rattle.mold_digits.specs.Digits.{IsDecodedTo}
 use Rattle.mold_digits.specs.Lanes.{any_large, evens, odds, pair_byte, reading}
-use Rattle.mold_digits.proofs.JoiningLemmas.{chunk-append, chunk_read, chunk_refused}
+use Rattle.mold_digits.proofs.DecodingLemmas.{match_err}
+use Rattle.mold_digits.proofs.JoiningLemmas.{chunk-append, chunk_read, chunk_refused, decode_pairs-append, joined}
+use Rattle.mold_digits.proofs.JoiningLemmas.{take-chunk}
 use Rattle.mold_digits.proofs.ReadingLemmas.{bad_readings, good_readings}
 
 -- The readings of a block at even and at odd indices.
@@ -78,3 +81,46 @@ blocks_refused s out more at answer fits before match denied =
     refused_from_match (decode_pairs (2 * at) (chunk (2 * at) 32 s))
     (λ bytes. take (at + 16) more ≡ take at out ++ bytes) answer match denied in
     chunk_refused s (take at out) (2 * at) 32 (omega arith) refl fits before bad
+
+joined_parts : (a b : Result (List ℕ) FromHexError) (whole : List ℕ) → joined a b ≡ Ok whole
+    → (front : List ℕ) × (a ≡ Ok front) × (back : List ℕ) × (whole ≡ front ++ back)
+joined_parts (Ok front) (Ok back) whole is = (front, refl, back, cc (sym is))
+joined_parts (Ok front) (Err e) whole is = absurd (cc is)
+joined_parts (Err e) b whole is = absurd (cc is)
+
+-- Fewer digits are decoded to fewer bytes.
+pub decoded_front : (s out : List ℕ) (less at : ℕ) → less ≤ at → 2 * at ≤ length s → IsDecodedTo at s out
+    → IsDecodedTo less s out
+decoded_front s out less at below fits whole =
+    let two : 2 * less + 2 * (at - less) ≡ 2 * at = omega arith in
+    let short : length (take (2 * less) s) ≡ 2 * less = length-take-le (2 * less) s (omega arith) in
+    let split : take (2 * at) s ≡ take (2 * less) s ++ chunk (2 * less) (2 * (at - less)) s =
+    ap (λ (n : ℕ). take n s) (sym two) ∙ take-chunk (2 * less) (2 * (at - less)) s in
+    let parts =
+    joined_parts (decode_pairs 0 (take (2 * less) s)) _ (take at out)
+    (sym (decode_pairs-append 0 (take (2 * less) s) (chunk (2 * less) (2 * (at - less)) s) (omega (arith, short)))
+    ∙ ap (decode_pairs 0) (sym split)
+    ∙ whole) in
+    let front = parts.0 in
+    let long = (decode_pairs-ok 0 (take (2 * less) s) front parts.1).1 in
+    let size : length front ≡ less = omega (arith, long, short) in
+    let same : take less out ≡ front =
+    sym (take-take less at out below)
+    ∙ ap (take less) parts.3
+    ∙ take-append-le less front parts.2 (omega (arith, size))
+    ∙ take_all less front (omega (arith, size)) in
+    parts.1 ∙ ap Ok (sym same)
+
+-- The result is that of the last block.
+pub blocks_all : (s out more : List ℕ) (at : ℕ) (answer : Bool) → length s ≡ 2 * length more → at + 16 ≡ length more
+    → IsDecodedTo at s out → BlockAnswers at s out more answer
+    → MatchResult (decode_of s) (λ bytes. (answer ≡ true) × (more ≡ bytes)) (λ _. answer ≡ false)
+blocks_all s out more at true sized last before match =
+    let read = blocks_more s out more at true (omega arith) before match refl in
+    let digits = take_all (2 * (at + 16)) s (omega arith) in
+    let bytes = take_all (at + 16) more (omega arith) in
+    let is : decode_of s ≡ Ok more = decode_of-even s (omega arith) ∙ rw (digits, bytes) at read in
+    rw is (refl, refl)
+blocks_all s out more at false sized last before match =
+    rw (decode_of-even s (omega arith))
+    (match_err (decode_pairs 0 s) _ _ (blocks_refused s out more at false (omega arith) before match refl) refl)

@@ -1,9 +1,8 @@
 //! Decoding hexadecimal digits into bytes.
 
-ghost use Rattle.std.specs.Prelude.{◌≡◌, ◌*◌, ◌/◌, ◌<◌, ◌≤◌, length, IfOk, OnErr, MatchResult, true, false};
+ghost use Rattle.std.specs.Prelude.{◌≡◌, ◌*◌, ◌/◌, ◌<◌, length, IfOk, OnErr, MatchResult, true, false};
 ghost use Rattle.std.specs.Prelude.{vec_capacity};
 ghost use Rattle.hex.specs.Hex.{decode_of};
-ghost use Rattle.mold_digits.specs.Digits.{IsDecodedTo};
 
 mod block;
 
@@ -35,20 +34,22 @@ fn decode_into(digits: &[u8], out: &mut [u8]) -> bool
     ensures { MatchResult (decode_of digits.now)
         (λ bytes. (result ≡ true) × (out.new ≡ bytes)) (λ _. result ≡ false) }
 {
-    decode_blocks(digits, out) && decode_rest(digits, out.len() / LANES * LANES, out)
+    if out.len() < LANES {
+        decode_few(digits, out)
+    } else {
+        decode_blocks(digits, out)
+    }
 }
 
-// Decodes the remaining digits one by one, from byte `from` on. It checks for a bad digit once, at the end,
-// since a branch for each digit would cost more than the rest of the loop.
-fn decode_rest(digits: &[u8], from: usize, out: &mut [u8]) -> bool
-    requires sized { length digits.now ≡ 2 * length out.old }
-    requires within { from ≤ length out.old }
-    requires front { IsDecodedTo from digits.now out.old }
+// Decodes the digits one by one. It checks for a bad digit once, at the end, since a branch for each digit would cost
+// more than the rest of the loop.
+fn decode_few(digits: &[u8], out: &mut [u8]) -> bool
+    requires { length digits.now ≡ 2 * length out.old }
     ensures { MatchResult (decode_of digits.now)
         (λ bytes. (result ≡ true) × (out.new ≡ bytes)) (λ _. result ≡ false) }
 {
     let mut seen = 0u8;
-    'bytes: for i in from..out.len() {
+    'bytes: for i in 0..out.len() {
         let high = digit_value(digits[2 * i]);
         let low = digit_value(digits[2 * i + 1]);
         seen |= high | low;

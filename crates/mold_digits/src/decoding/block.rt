@@ -1,9 +1,8 @@
 //! Decoding thirty-two digits at once.
 
-ghost use Rattle.std.specs.Prelude.{◌≡◌, ◌++◌, ◌+◌, ◌*◌, ◌/◌, ◌≤◌, length, map, take, true, false, IsErr, MatchResult};
+ghost use Rattle.std.specs.Prelude.{◌≡◌, ◌++◌, ◌+◌, ◌*◌, ◌≤◌, length, map, take, true, false, MatchResult};
 ghost use Rattle.std.specs.Simd.Lanes.{chunk, zip2};
-ghost use Rattle.hex.specs.Hex.{decode_pairs};
-ghost use Rattle.mold_digits.specs.Digits.{IsDecodedTo};
+ghost use Rattle.hex.specs.Hex.{decode_of, decode_pairs};
 ghost use Rattle.mold_digits.specs.Lanes.{any_large, pair_byte, reading};
 
 use crate::lanes::{
@@ -11,19 +10,21 @@ use crate::lanes::{
 };
 use std::simd::prelude::*;
 
-/// Fills the start of `out` with the bytes of the digits, as far as whole vectors go. Returns whether all of
-/// these digits are valid.
+/// Fills `out`, which has room for at least sixteen bytes, with the bytes of the digits. Returns whether all of them
+/// are digits. If the last bytes do not fill a vector, the last vector overlaps the one before it.
 pub fn decode_blocks(digits: &[u8], out: &mut [u8]) -> bool
-    requires { length digits.now ≡ 2 * length out.old }
-    ensures whole { result ≡ true → IsDecodedTo (length out.old / 16 * 16) digits.now out.new }
-    ensures refused { result ≡ false → IsErr (decode_pairs 0 digits.now) }
+    requires sized { length digits.now ≡ 2 * length out.old }
+    requires enough { 16 ≤ length out.old }
+    ensures { MatchResult (decode_of digits.now)
+        (λ bytes. (result ≡ true) × (out.new ≡ bytes)) (λ _. result ≡ false) }
 {
-    'whole: for block in 0..out.len() / LANES {
+    let blocks = (out.len() - 1) / LANES;
+    'whole: for block in 0..blocks {
         if !decode_block(digits, block * LANES, out) {
             return false;
         }
     }
-    true
+    decode_block(digits, out.len() - LANES, out)
 }
 
 // Writes sixteen bytes from offset `offset` on. Returns whether all of their digits are valid.

@@ -1,9 +1,11 @@
-use Rattle.std.proofs.Common.{arith}
+use Rattle.std.proofs.Common.{arith, refl}
+use Rattle.hex.specs.Hex.{decode_pairs}
 use Rattle.mold_digits.proofs.DecodingLemmas.{read_all, read_more, read_none}
-use Rattle.mold_digits.proofs.decoding.decode_rest.Goals as goal
+use Rattle.mold_digits.proofs.decoding.decode_few.Goals as goal
 
 pub bytes-init : goal.bytes-init
-bytes-init c = read_none _ _ _ c.requires.front
+unfolding decode_pairs
+bytes-init c = read_none _ _ _ refl
 
 pub bytes-preserved : goal.bytes-preserved
 bytes-preserved c =

@@ -1,5 +1,5 @@
 use Rattle.mold_digits.proofs.DecodingLemmas.{IsReadTo}
-use Rattle.mold_digits.proofs.decoding.decode_rest.Given as goal
+use Rattle.mold_digits.proofs.decoding.decode_few.Given as goal
 
 abbrev pub invariant-bytes : goal.invariant-bytes
 invariant-bytes l = IsReadTo l.digits l.out l.i l.seen
