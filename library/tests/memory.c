@@ -1,7 +1,7 @@
 /* Counts the bytes that the library holds: a listener's batch, a publisher, a server of a journal and a checker, with
  * messages of 8, 40 and 1,400 bytes, and a listener's store. tests/library compares the output with docs/LIBRARY.md.
  *
- *     cd library/tests && cc -std=c99 memory.c ../out/libmold.a -o memory && ./memory 18 8 8 8 55 16 1024
+ *     cd library/tests && cc -std=c99 memory.c ../out/libmold.a -o memory && ./memory 10 8 8 8 55 16 1024
  *
  * The arguments are the figures of LIBRARY: the bytes for each message besides its own, of a batch, a publisher, a
  * server and a checker; the bytes for each run of a checker, and for each missing range; and the bytes for everything

@@ -1,5 +1,7 @@
 -- How parts of a buffer represent messages.
-use Rattle.std.specs.Prelude.{ℕ, ◌-◌, ◌≤◌, List, [], ◌∷◌, take, drop, map}
+use Rattle.std.specs.Prelude.{ℕ, ◌≤◌, List, length}
+use Rattle.mold_messages.specs.Offsets.{pieces, IsRising, start_at}
+use Rattle.mold_messages.specs.declared.parts.TheConstants.{SPACING}
 
 -- A list of messages that are parts of some bytes.
 pub record Marked : Type 0 where
@@ -10,24 +12,14 @@ pub record Marked : Type 0 where
   -- All bytes, including those that belong to no message.
   pub bytes : List ℕ
 
--- The bytes between the two offsets of the span.
-abbrev pub part_of : ℕ × ℕ → List ℕ → List ℕ
-part_of span bytes = take (span.1 - span.0) (drop span.0 bytes)
+-- The last of the offsets, or 0 if there is none.
+abbrev pub end_of : List ℕ → ℕ
+end_of ends = start_at 0 ends (length ends)
 
--- The bytes of each span, in order.
-abbrev pub parts : List (ℕ × ℕ) → List ℕ → List (List ℕ)
-parts spans bytes = map (λ span. part_of span bytes) spans
+-- The messages that end at these offsets, each after `SPACING` other bytes, are within `total` bytes.
+abbrev pub AreWithin : List ℕ → ℕ → Type 0
+AreWithin ends total = IsRising SPACING 0 ends (end_of ends) × (end_of ends ≤ total)
 
--- The offset at which the last span ends, or `from` if there is none.
-unfoldable pub end_of : ℕ → List (ℕ × ℕ) → ℕ
-end_of from [] = from
-end_of from (span ∷ spans) = end_of span.1 spans
-
--- The spans are in order between offset `from` and offset `total`, and they do not overlap.
-unfoldable pub AreWithin : ℕ → List (ℕ × ℕ) → ℕ → Type 0
-AreWithin from [] total = from ≤ total
-AreWithin from (span ∷ spans) total = (from ≤ span.0) × (span.0 ≤ span.1) × AreWithin span.1 spans total
-
--- The list of messages that these spans of the bytes represent.
-abbrev pub marked_by : List (ℕ × ℕ) → List ℕ → Marked
-marked_by spans bytes = record { messages = parts spans bytes; end = end_of 0 spans; bytes = bytes }
+-- The list of messages that these offsets and bytes represent.
+abbrev pub marked_by : List ℕ → List ℕ → Marked
+marked_by ends bytes = record { messages = pieces SPACING 0 ends bytes; end = end_of ends; bytes = bytes }

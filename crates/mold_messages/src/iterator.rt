@@ -1,4 +1,4 @@
-//! The iterator over the messages of a `MessageList`.
+//! The iterator over the messages of a list.
 
 use crate::part::part;
 use std::marker::Model;
@@ -7,7 +7,9 @@ use std::marker::Model;
 /// as long as the list is borrowed.
 #[derive(Debug, Drop)]
 pub struct MessageIterator<'a> {
-    // The offset of the next message.
+    // The number of bytes before each message that belong to none.
+    spacing: usize,
+    // The offset at which the previous message ends.
     start: usize,
     // The offsets at which the remaining messages end.
     ends: &'a [usize],
@@ -21,20 +23,30 @@ impl<'a> Model for MessageIterator<'a> {
 
     ghost Value = { List (List ℕ) };
 
-    ghost view = { λ m. pieces m.start m.ends.now m.bytes.now };
+    ghost view = { λ m. pieces m.spacing m.start m.ends.now m.bytes.now };
 
-    ghost invariant = { λ m. IsRising m.start m.ends.now (length m.bytes.now) };
+    ghost invariant = { λ m. IsRising m.spacing m.start m.ends.now (length m.bytes.now) };
 }
 
 impl<'a> MessageIterator<'a> {
     ghost use Rattle.std.specs.Prelude.{◌≡◌, length};
     ghost use Rattle.mold_messages.specs.Offsets.{pieces, IsRising};
 
-    pub(crate) fn new(start: usize, ends: &'a [usize], bytes: &'a [u8]) -> MessageIterator<'a>
-        requires { IsRising start ends.now (length bytes.now) }
-        ensures { result ≡ pieces start ends.entry.now bytes.entry.now }
+    pub(crate) fn new(
+        spacing: usize,
+        start: usize,
+        ends: &'a [usize],
+        bytes: &'a [u8],
+    ) -> MessageIterator<'a>
+        requires { IsRising spacing start ends.now (length bytes.now) }
+        ensures { result ≡ pieces spacing start ends.entry.now bytes.entry.now }
     {
-        MessageIterator { start, ends, bytes }
+        MessageIterator {
+            spacing,
+            start,
+            ends,
+            bytes,
+        }
     }
 }
 
@@ -49,7 +61,7 @@ impl<'a> Iterator for MessageIterator<'a> {
 
     fn next(&mut self) -> Option<&'a [u8]> {
         let (end, ends) = self.ends.split_first()?;
-        let message = part(self.bytes, self.start, *end);
+        let message = part(self.bytes, self.start + self.spacing, *end);
         self.start = *end;
         self.ends = ends;
         Some(message)

@@ -3,11 +3,10 @@
 
 mod iterator;
 mod list;
+mod offsets;
 mod part;
-mod part_iterator;
 mod parts;
 
 pub use iterator::MessageIterator;
 pub use list::MessageList;
-pub use part_iterator::PartIterator;
-pub use parts::PartList;
+pub use parts::{PartList, SPACING};

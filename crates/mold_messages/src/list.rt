@@ -4,21 +4,12 @@ ghost use Rattle.std.specs.Prelude.{◌≡◌, ◌-◌, ◌<◌, ◌≤◌, ◌+
 ghost use Rattle.std.specs.Prelude.{OnErr, ◌==◌};
 ghost use Rattle.std.specs.Option.{option_copied};
 ghost use Rattle.mold_messages.specs.Listed.{byte_count, extended, HasRoom, KeepsRoom};
-ghost use Rattle.mold_messages.specs.Offsets.{start_at};
 
 use crate::iterator::MessageIterator;
+use crate::offsets::offset_of;
 use crate::part::part;
 use std::alloc::{AllocError, Global};
 use std::marker::Model;
-
-// Returns the offset at which the message at index `i` starts. If `i` is the number of messages, it returns
-// the offset at which the last one ends.
-fn offset_of(ends: &[usize], i: usize) -> usize
-    requires { i ≤ length ends.now }
-    ensures { result ≡ start_at 0 ends.now i }
-{
-    if i == 0 { 0 } else { ends[i - 1] }
-}
 
 /// Messages of any lengths, joined in one buffer. A message takes its bytes and 8 more for the offset at
 /// which it ends. Only `push`, `extend_last` and `reserve` allocate. They mostly allocate more than is
@@ -39,12 +30,12 @@ impl Model for MessageList {
     ghost Value = { Listed };
 
     ghost view = { λ l. record {
-      messages = pieces 0 l.ends.items l.bytes.items;
+      messages = pieces 0 0 l.ends.items l.bytes.items;
       message_room = vec_capacity l.ends;
       byte_room = vec_capacity l.bytes;
     } };
 
-    ghost invariant = { λ l. IsRising 0 l.ends.items (length l.bytes.items) };
+    ghost invariant = { λ l. IsRising 0 0 l.ends.items (length l.bytes.items) };
 }
 
 impl MessageList {
@@ -112,7 +103,7 @@ impl MessageList {
     pub fn iter(&self) -> MessageIterator<'_>
         ensures { result ≡ self.now.messages }
     {
-        MessageIterator::new(0, &self.ends, &self.bytes)
+        MessageIterator::new(0, 0, &self.ends, &self.bytes)
     }
 
     /// Returns an iterator over the messages from index `i` on, in order, without visiting the earlier ones. It is
@@ -122,7 +113,7 @@ impl MessageList {
     {
         let first = self.ends.len().min(i);
         let start = offset_of(&self.ends, first);
-        MessageIterator::new(start, &self.ends[first..], &self.bytes)
+        MessageIterator::new(0, start, &self.ends[first..], &self.bytes)
     }
 
     /// Makes room for `messages` more messages with `bytes` bytes in total. It fails if an allocation fails,

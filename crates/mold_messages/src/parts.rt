@@ -1,24 +1,17 @@
 //! A list of messages in a buffer whose bytes are copied in larger pieces.
 
-ghost use Rattle.std.specs.Prelude.{◌≡◌, ◌+◌, ◌-◌, ◌<◌, ◌≤◌, ◌^◌, ◌++◌, ◌∷◌, [], length, take, drop, slice_get, IfOk, min};
-ghost use Rattle.std.specs.Prelude.{OnOk, OnErr, ◌==◌, if◌then◌else◌};
+ghost use Rattle.std.specs.Prelude.{◌≡◌, ◌+◌, ◌-◌, ◌<◌, ◌≤◌, ◌^◌, ◌++◌, ◌∷◌, [], length, take, drop, slice_get, IfOk};
+ghost use Rattle.std.specs.Prelude.{min, replicate, OnOk, OnErr, ◌==◌, if◌then◌else◌};
 ghost use Rattle.std.specs.Option.{option_copied};
-ghost use Rattle.mold_messages.specs.Parts.{end_of};
 
+use crate::iterator::MessageIterator;
+use crate::offsets::offset_of;
 use crate::part::part;
-use crate::part_iterator::PartIterator;
 use std::alloc::{AllocError, Global};
 use std::marker::Model;
 
-// Returns the offset at which the last part ends, or 0 if there is no part.
-fn end_after(spans: &[(usize, usize)]) -> usize
-    ensures { result ≡ end_of 0 spans.now }
-{
-    match spans.last() {
-        Some(span) => span.1,
-        None => 0,
-    }
-}
+/// The number of bytes before each message of a `PartList` that belong to no message.
+pub const SPACING: usize = 2;
 
 // Room that a list lacked: a number of messages, and a number of bytes.
 #[derive(Clone, Copy, Debug)]
@@ -38,13 +31,13 @@ fn room_beyond(is_lacking: bool, room: usize, used: usize) -> usize
     }
 }
 
-/// Messages of any lengths as parts of one buffer, in order, with other bytes between them. The bytes of many
-/// messages are copied at once, and each message is then marked where it is. A message takes its bytes and 16
-/// more for the two offsets. The list keeps its memory until it is dropped.
+/// Messages of any lengths as parts of one buffer, in order, with `SPACING` other bytes before each of them. The bytes
+/// of many messages are copied at once, and each message is then marked where it ends. A message takes its bytes and 10
+/// more: the bytes before it, and 8 for the offset at which it ends. The list keeps its memory until it is dropped.
 #[derive(Debug, Drop)]
 pub struct PartList {
-    // The offsets at which each message starts and ends in the bytes.
-    spans: Vec<(usize, usize)>,
+    // The offset at which each message ends in the bytes.
+    ends: Vec<usize>,
     bytes: Vec<u8>,
     // The room that was lacking when `take_back` was last called.
     lacking: Room,
@@ -56,9 +49,9 @@ impl Model for PartList {
 
     ghost Value = { Marked };
 
-    ghost view = { λ l. marked_by l.spans.items l.bytes.items };
+    ghost view = { λ l. marked_by l.ends.items l.bytes.items };
 
-    ghost invariant = { λ l. AreWithin 0 l.spans.items (length l.bytes.items) };
+    ghost invariant = { λ l. AreWithin l.ends.items (length l.bytes.items) };
 }
 
 impl PartList {
@@ -67,7 +60,7 @@ impl PartList {
         ensures { result ≡ record { messages = []; end = 0; bytes = [] } }
     {
         PartList {
-            spans: Vec::new(alloc),
+            ends: Vec::new(alloc),
             bytes: Vec::new(alloc),
             lacking: Room {
                 messages: 0,
@@ -80,14 +73,14 @@ impl PartList {
     pub fn len(&self) -> usize
         ensures { result ≡ length self.now.messages }
     {
-        self.spans.len()
+        self.ends.len()
     }
 
     /// Returns whether the list has no message.
     pub fn is_empty(&self) -> bool
         ensures { result ≡ (length self.now.messages == 0) }
     {
-        self.spans.is_empty()
+        self.ends.is_empty()
     }
 
     /// Returns the message at index `i`, counted from 0, or `None` if there are at most `i` messages. It
@@ -95,22 +88,24 @@ impl PartList {
     pub fn get(&self, i: usize) -> Option<&[u8]>
         ensures { option_copied result ≡ slice_get self.now.messages i }
     {
-        if i >= self.spans.len() {
+        if i >= self.ends.len() {
             return None;
         }
-        let (start, end) = self.spans[i];
+        let start = offset_of(&self.ends, i) + SPACING;
+        let end = offset_of(&self.ends, i + 1);
         Some(part(&self.bytes, start, end))
     }
 
     /// Returns an iterator over the messages, in order.
-    pub fn iter(&self) -> PartIterator<'_>
+    pub fn iter(&self) -> MessageIterator<'_>
         ensures { result ≡ self.now.messages }
     {
-        PartIterator::new(&self.spans, &self.bytes)
+        let end = offset_of(&self.ends, self.ends.len());
+        MessageIterator::new(SPACING, 0, &self.ends, &self.bytes[..end])
     }
 
-    /// Appends bytes to the buffer and returns the offset at which they start; `mark` makes a message of some of them.
-    /// It fails if an allocation fails, and then nothing changes.
+    /// Appends bytes to the buffer and returns the offset at which they start; `mark` makes messages of them. It
+    /// fails if an allocation fails, and then nothing changes.
     // Inlined, like `mark`: both are called for each packet that a receiver delivers. Without inlining, they
     // return their results through memory.
     #[inline(always)]
@@ -126,42 +121,55 @@ impl PartList {
         Ok(begin)
     }
 
-    /// Appends a message that consists of the bytes from offset `start` up to, but not including, offset `end`. It must
-    /// not start before the end of the last message. The call fails if an allocation fails, and then nothing changes.
+    /// Appends a message that ends at offset `end`. It starts `SPACING` bytes after the end of the last message. The
+    /// call fails if an allocation fails. Then no message is appended, and the bytes after the last one are discarded.
     // Inlined for the same reason as `append`.
     #[inline(always)]
-    pub fn mark(&mut self, start: usize, end: usize) -> Result<(), AllocError>
-        requires behind { self.old.end ≤ start }
-        requires ordered { start ≤ end }
+    pub fn mark(&mut self, end: usize) -> Result<(), AllocError>
+        requires apart { self.old.end + SPACING ≤ end }
         requires within { end ≤ length self.old.bytes }
         ensures added { OnOk result (self.new ≡ record {
-          messages = self.old.messages ++ take (end - start) (drop start self.old.bytes) ∷ [];
+          messages = self.old.messages ++ take (end - (self.old.end + SPACING))
+              (drop (self.old.end + SPACING) self.old.bytes) ∷ [];
           end = end;
           bytes = self.old.bytes;
         }) }
-        ensures same { OnErr result (self.new ≡ self.old) }
+        ensures cut { OnErr result (self.new ≡ record self.old { bytes = take self.old.end self.old.bytes }) }
     {
-        self.spans.reserve(1)?;
-        self.spans.push((start, end)).unwrap();
+        if let Err(error) = self.ends.reserve(1) {
+            self.cut();
+            return Err(error);
+        }
+        self.ends.push(end).unwrap();
         Ok(())
     }
 
-    /// Appends a message. It fails if an allocation fails, and then nothing changes.
+    // Discards the bytes after the last message.
+    fn cut(&mut self)
+        ensures { self.new ≡ record self.old { bytes = take self.old.end self.old.bytes } }
+    {
+        let end = offset_of(&self.ends, self.ends.len());
+        self.bytes.truncate(end);
+    }
+
+    /// Appends a message, with zeros before it. No bytes may follow the last message. The call fails if an allocation
+    /// fails, and then nothing changes.
     pub fn push(&mut self, message: &[u8]) -> Result<(), AllocError>
+        requires { self.old.end ≡ length self.old.bytes }
         ensures added { OnOk result (self.new ≡ record {
           messages = self.old.messages ++ message.now ∷ [];
-          end = length self.old.bytes + length message.now;
-          bytes = self.old.bytes ++ message.now;
+          end = length self.old.bytes + SPACING + length message.now;
+          bytes = self.old.bytes ++ replicate SPACING 0 ++ message.now;
         }) }
         ensures same { OnErr result (self.new ≡ self.old) }
     {
-        let start = self.append(message)?;
-        let end = self.bytes.len();
-        let marked = self.mark(start, end);
-        if marked.is_err() {
-            self.bytes.truncate(start);
+        self.append(&[0; SPACING])?;
+        if let Err(error) = self.append(message) {
+            self.cut();
+            return Err(error);
         }
-        marked
+        let end = self.bytes.len();
+        self.mark(end)
     }
 
     /// Keeps the first `keep` messages, or all if there are fewer, and discards the bytes after the last of them. The
@@ -169,10 +177,10 @@ impl PartList {
     pub fn truncate(&mut self, keep: usize)
         ensures messages { self.new.messages ≡ take keep self.old.messages }
         ensures bytes { self.new.bytes ≡ take self.new.end self.old.bytes }
+        ensures whole { self.new.end ≡ length self.new.bytes }
     {
-        self.spans.truncate(keep);
-        let end = end_after(&self.spans);
-        self.bytes.truncate(end);
+        self.ends.truncate(keep);
+        self.cut();
     }
 
     /// Discards messages as `truncate` does, after a call that failed for memory. The list remembers a lower bound of
@@ -180,11 +188,12 @@ impl PartList {
     pub fn take_back(&mut self, keep: usize)
         ensures messages { self.new.messages ≡ take keep self.old.messages }
         ensures bytes { self.new.bytes ≡ take self.new.end self.old.bytes }
+        ensures whole { self.new.end ≡ length self.new.bytes }
     {
-        let is_full = self.spans.len() == self.spans.capacity();
+        let is_full = self.ends.len() == self.ends.capacity();
         self.truncate(keep);
         self.lacking = Room {
-            messages: room_beyond(is_full, self.spans.capacity(), self.spans.len()),
+            messages: room_beyond(is_full, self.ends.capacity(), self.ends.len()),
             bytes: room_beyond(!is_full, self.bytes.capacity(), self.bytes.len()),
         };
     }
@@ -194,7 +203,7 @@ impl PartList {
     pub fn make_room(&mut self) -> Result<(), AllocError>
         ensures { self.new ≡ self.old }
     {
-        self.spans.reserve(self.lacking.messages)?;
+        self.ends.reserve(self.lacking.messages)?;
         self.bytes.reserve(self.lacking.bytes)
     }
 
@@ -202,7 +211,7 @@ impl PartList {
     pub fn clear(&mut self)
         ensures { self.new ≡ record { messages = []; end = 0; bytes = [] } }
     {
-        self.spans.clear();
+        self.ends.clear();
         self.bytes.clear();
     }
 }
@@ -210,11 +219,11 @@ impl PartList {
 impl<'a> IntoIterator for &'a PartList {
     type Item = &'a [u8];
 
-    type IntoIter = PartIterator<'a>;
+    type IntoIter = MessageIterator<'a>;
 
     ghost into_iter_gives = { λ s r. r ≡ s.now.messages };
 
-    fn into_iter(self) -> PartIterator<'a> {
+    fn into_iter(self) -> MessageIterator<'a> {
         self.iter()
     }
 }

@@ -60,7 +60,8 @@ abbrev pub IsNextInWord : List ℕ → ℕ → Option ℕ → Type 0
 IsNextInWord words from None = AreClear words from (64 * (from / 64 + 1))
 IsNextInWord words from (Some bit) = IsNextSet words from bit
 
--- It is the first bit from bit `from` on and below bit `to` that is `bit`, which is 0 or 1. It is `to` if there is none.
+-- It is the first bit from bit `from` on and below bit `to` that is `bit`, which is 0 or 1. It is `to` if there is
+-- none.
 pub record IsFirstBit (words : List ℕ) (from to bit at : ℕ) : Type 0 where
   pub after : from ≤ at
   pub within : at ≤ to

@@ -1,6 +1,7 @@
 //! The arbiter of line A and line B: one receiver and a report for each line.
 
-ghost use Rattle.std.specs.Prelude.{◌≡◌, ◌-◌, ◌<◌, ◌≤◌, length, max, None, Some, IfOk, IfErr, IfNone, IfSome, OnOk, OnErr};
+ghost use Rattle.std.specs.Prelude.{◌≡◌, ◌-◌, ◌<◌, ◌≤◌, length, max, None, Some, IfOk, IfErr};
+ghost use Rattle.std.specs.Prelude.{IfNone, IfSome, OnOk, OnErr};
 ghost use Rattle.mold_receiver.specs.Arbiter.{HasArbitrated, HasRefused, report_on};
 ghost use Rattle.mold_receiver.specs.Batch.{Follows, followed_by};
 ghost use Rattle.mold_receiver.specs.Origin.{line_of};
@@ -153,7 +154,8 @@ impl Arbiter {
         requires ahead { self.old.view.next < to }
         requires missing { AreMissing self.old.view to }
         requires follows { Follows batch.old to }
-        ensures skipped { OnOk result (self.new ≡ record { view = skipped self.old.view to; reports = self.old.reports }) }
+        ensures skipped { OnOk result
+            (self.new ≡ record { view = skipped self.old.view to; reports = self.old.reports }) }
         ensures handed { OnOk result (batch.new ≡ followed_by batch.old to (skipped_run self.old.view to)) }
         ensures count { IfOk result (λ count. count ≡ length (skipped_run self.old.view to)) }
         ensures needed { OnErr result (0 < length (skipped_run self.old.view to)) }

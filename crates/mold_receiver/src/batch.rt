@@ -13,7 +13,7 @@ ghost use Rattle.mold_wire.specs.Block.{blocks as packed};
 
 use crate::run::Run;
 use crate::segment::length_at;
-use mold_messages::{PartIterator, PartList};
+use mold_messages::{MessageIterator, PartList};
 use mold_wire::{Blocks, LENGTH_BYTES};
 use std::alloc::{AllocError, Global};
 use std::marker::Model;
@@ -24,20 +24,21 @@ use std::marker::Model;
 pub struct Batch {
     // The number of the first message, if there is one.
     first: u64,
+    // The messages, each after two bytes: its length field, or zeros. No bytes follow the last message.
     list: PartList,
     // The number from which a run was last refused for memory, or 0.
     refused: u64,
 }
 
 impl Model for Batch {
-    ghost use Rattle.std.specs.Prelude.{◌+◌, ◌<◌, ◌^◌, length};
+    ghost use Rattle.std.specs.Prelude.{◌≡◌, ◌+◌, ◌<◌, ◌^◌, length};
     ghost use Rattle.mold_receiver.specs.Batch.{Handed, handed_from};
 
     ghost Value = { Handed };
 
     ghost view = { λ b. handed_from b.first b.list.messages };
 
-    ghost invariant = { λ b. b.first + length b.list.messages < 2 ^ 64 };
+    ghost invariant = { λ b. (b.first + length b.list.messages < 2 ^ 64) × (b.list.end ≡ length b.list.bytes) };
 }
 
 impl Batch {
@@ -97,7 +98,7 @@ impl Batch {
     }
 
     /// Returns an iterator over the messages in order.
-    pub fn iter(&self) -> PartIterator<'_>
+    pub fn iter(&self) -> MessageIterator<'_>
         ensures { result ≡ self.now.messages }
     {
         self.list.iter()
@@ -178,8 +179,8 @@ impl Batch {
         mark_blocks(&mut self.list, begin, blocks)
     }
 
-    /// Appends the messages of a run. The first of them has the number `next`. All their bytes are copied at once. If an
-    /// allocation fails, it returns an error, and the batch may end with some of the messages.
+    /// Appends the messages of a run. The first of them has the number `next`. All their bytes are copied at once. If
+    /// an allocation fails, it returns an error, and the batch may end with some of the messages.
     pub(crate) fn push_run(&mut self, next: u64, run: Run<'_>) -> Result<(), AllocError>
         requires follows { Follows self.old next }
         requires counted { next + length (messages_in run) < 2 ^ 64 }
@@ -198,50 +199,51 @@ impl Batch {
 impl<'a> IntoIterator for &'a Batch {
     type Item = &'a [u8];
 
-    type IntoIter = PartIterator<'a>;
+    type IntoIter = MessageIterator<'a>;
 
     ghost into_iter_gives = { λ s r. r ≡ s.now.messages };
 
     /// Returns an iterator over the messages, in order.
-    fn into_iter(self) -> PartIterator<'a> {
+    fn into_iter(self) -> MessageIterator<'a> {
         self.iter()
     }
 }
 
-// Appends to the list the messages whose blocks start at the offset `begin`.
+// Appends to the list the messages whose blocks are its last bytes, from the offset `begin` on.
 #[inline(always)]
 fn mark_blocks(list: &mut PartList, begin: usize, blocks: &Blocks<'_>) -> Result<(), AllocError>
-    requires behind { list.old.end ≤ begin }
+    requires begins { list.old.end ≡ begin }
+    requires within { begin ≤ length list.old.bytes }
     requires fits { length list.old.bytes < 2 ^ 64 }
     requires there { drop begin list.old.bytes ≡ packed blocks.now }
     ensures added { OnOk result (list.new.messages ≡ list.old.messages ++ blocks.now) }
     ensures grew { OnErr result (HasMore list.old.messages list.new.messages blocks.now) }
+    ensures whole { list.new.end ≡ length list.new.bytes }
 {
     let mut at = begin;
     for message in blocks.iter() {
-        let start = at + LENGTH_BYTES;
-        at = start + message.len();
-        list.mark(start, at)?;
+        at += LENGTH_BYTES + message.len();
+        list.mark(at)?;
     }
     Ok(())
 }
 
-// Appends to the list the messages of a run whose bytes start at the offset `begin` of the list.
+// Appends to the list the messages of a run whose bytes are its last, from the offset `begin` on.
 fn mark_run(list: &mut PartList, begin: usize, run: Run<'_>) -> Result<(), AllocError>
-    requires behind { list.old.end ≤ begin }
+    requires begins { list.old.end ≡ begin }
+    requires within { begin ≤ length list.old.bytes }
     requires fits { length list.old.bytes < 2 ^ 64 }
     requires there { drop begin list.old.bytes ≡ run.bytes.now }
     requires whole { IsWhole run }
     ensures added { OnOk result (list.new.messages ≡ list.old.messages ++ messages_in run.entry) }
     ensures grew { OnErr result (HasMore list.old.messages list.new.messages (messages_in run.entry)) }
+    ensures whole { list.new.end ≡ length list.new.bytes }
 {
     let mut at = 0;
     let mut left = run.count;
     while left > 0 {
-        let start = at + LENGTH_BYTES;
-        let end = start + length_at(run.bytes, at);
-        list.mark(begin + start, begin + end)?;
-        at = end;
+        at += LENGTH_BYTES + length_at(run.bytes, at);
+        list.mark(begin + at)?;
         left -= 1;
     }
     Ok(())

@@ -29,7 +29,7 @@ pub use batch::Batch;
 pub use error::ReceiverError;
 pub use gap::Gap;
 pub use line::{Line, LineReport};
-pub use mold_messages::PartIterator;
+pub use mold_messages::MessageIterator;
 pub use mold_rule::{Refusal, Refusal as Refused};
 pub use mold_wire::{MAX_WIDE_WINDOW, MAX_WINDOW};
 pub use origin::Origin;

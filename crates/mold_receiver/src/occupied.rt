@@ -314,8 +314,8 @@ impl Occupied {
         is_bit_set(&self.levels.bits, ring_index(self.head, self.count, slot))
     }
 
-    /// Returns the first slot from slot `from` on whose flag is `set`, or the number of flags if there is none. It reads
-    /// at most 28 words if `set` is true, otherwise one word for each 64 flags that it passes.
+    /// Returns the first slot from slot `from` on whose flag is `set`, or the number of flags if there is none. It
+    /// reads at most 28 words if `set` is true, otherwise one word for each 64 flags that it passes.
     pub(crate) fn first_from(&self, from: usize, set: bool) -> usize
         requires { from ≤ length self.now }
         ensures { IsFirstFlag self.now from set result }

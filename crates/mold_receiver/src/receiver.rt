@@ -366,7 +366,8 @@ impl Receiver {
         self.slots.segments()
     }
 
-    /// Returns the window, 1 to `MAX_WIDE_WINDOW`: the receiver stores messages with numbers below `next` plus the window.
+    /// Returns the window, 1 to `MAX_WIDE_WINDOW`: the receiver stores messages with numbers below `next` plus the
+    /// window.
     pub fn window(&self) -> u32
         ensures window { result ≡ self.now.window }
         ensures range { IsWideWindow self.now.window }
@@ -393,10 +394,10 @@ impl Receiver {
         })
     }
 
-    /// Gives up the messages from `next` to just below `to`, all of which must be missing: `next_missing` returns the end
-    /// of the gap at `next`. The stored messages from `to` on, up to the first missing one, are appended to `batch`, and `next` then comes
-    /// after them. Returns how many they are. If an allocation fails, it returns an error, and the receiver and the
-    /// batch are unchanged. The batch must be empty or end just before `to`.
+    /// Gives up the messages from `next` to just below `to`, all of which must be missing: `next_missing` returns the
+    /// end of the gap at `next`. The stored messages from `to` on, up to the first missing one, are appended to
+    /// `batch`, and `next` then comes after them. Returns how many they are. If an allocation fails, it returns an
+    /// error, and the receiver and the batch are unchanged. The batch must be empty or end just before `to`.
     pub fn skip(&mut self, to: u64, batch: &mut Batch) -> Result<u32, AllocError>
         requires ahead { self.old.next < to }
         requires missing { AreMissing self.old to }
@@ -415,9 +416,9 @@ impl Receiver {
         Ok((end - start) as u32)
     }
 
-    /// Returns the first gap at or above the number `from`, or the rest of a gap if `from` is in it. Numbers below `next`
-    /// are not missing. Returns `None` if no message from `from` to just below `known` is missing. It skips 64 stored
-    /// messages, or any number of missing ones, in a step.
+    /// Returns the first gap at or above the number `from`, or the rest of a gap if `from` is in it. Numbers below
+    /// `next` are not missing. Returns `None` if no message from `from` to just below `known` is missing. It skips 64
+    /// stored messages, or any number of missing ones, in a step.
     pub fn next_missing(&self, from: u64) -> Option<Gap>
         ensures some { IfSome result (λ gap. IsNextGap self.now (max from self.now.next) gap) }
         ensures none { IfNone result (HasNoGap self.now (max from self.now.next)) }

@@ -1,6 +1,7 @@
 //! The ring of places. A slot is empty or has the place of its message.
 
-ghost use Rattle.std.specs.Prelude.{◌≡◌, ◌+◌, ◌<◌, ◌≤◌, ◌^◌, ◌++◌, ◌∷◌, [], length, drop, replicate, slice_set, IfOk, None, Some};
+ghost use Rattle.std.specs.Prelude.{◌≡◌, ◌+◌, ◌<◌, ◌≤◌, ◌^◌, ◌++◌, ◌∷◌, [], length, drop, replicate};
+ghost use Rattle.std.specs.Prelude.{slice_set, IfOk, None, Some};
 ghost use Rattle.mold_receiver.specs.Places.{place_at};
 ghost use Rattle.mold_receiver.specs.Ring.{index_of, placed};
 ghost use Rattle.mold_wire.specs.Block.{blocks as packed};

@@ -97,7 +97,8 @@ impl Shelf {
 
     // Returns whether the slot exists and has this place.
     fn is_at(&self, slot: usize, segment: u32, start: usize) -> bool
-        ensures same { IsTrue result ↔ (place_at self.now.ring slot ≡ Some (record { segment = segment; start = start })) }
+        ensures same { IsTrue result ↔
+            (place_at self.now.ring slot ≡ Some (record { segment = segment; start = start })) }
         ensures small { IsTrue result → start < 2 ^ 32 }
     {
         match self.ring.get(slot) {

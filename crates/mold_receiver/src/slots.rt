@@ -1,6 +1,7 @@
 //! The slots of the store, as the receiver uses them.
 
-ghost use Rattle.std.specs.Prelude.{◌≡◌, ◌↔◌, IsTrue, ◌+◌, ◌^◌, ◌<◌, ◌≤◌, ◌++◌, length, drop, replicate, IfOk, IfNone, IfSome, OnOk, OnErr, None};
+ghost use Rattle.std.specs.Prelude.{◌≡◌, ◌↔◌, IsTrue, ◌+◌, ◌^◌, ◌<◌, ◌≤◌, ◌++◌, length, drop, replicate, IfOk};
+ghost use Rattle.std.specs.Prelude.{IfNone, IfSome, OnOk, OnErr, None};
 ghost use Rattle.std.specs.Option.{option_copied};
 ghost use Rattle.mold_receiver.specs.Keeping.{filled, fresh};
 ghost use Rattle.mold_receiver.specs.Run.{IsRunAt};

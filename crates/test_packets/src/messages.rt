@@ -1,6 +1,6 @@
 //! Lists of messages.
 
-ghost use Rattle.std.specs.Prelude.{◌≡◌};
+ghost use Rattle.std.specs.Prelude.{◌≡◌, []};
 
 use crate::comparisons::{same_message, same_size};
 use mold_messages::{MessageList, PartList};
@@ -157,12 +157,12 @@ fn a_thousand_messages_are_pushed(rt: HostRuntime) -> Result<(), Fail> {
 
 // `AB` and `C`, each after its length, and an empty message.
 fn push_parts(rt: &impl Abort, list: &mut PartList) -> Result<(), AllocError>
-    requires { list.old.end ≡ 0 }
+    requires { list.old ≡ record { messages = []; end = 0; bytes = [] } }
 {
     let offset = list.append(b"\0\x02AB\0\x01C")?;
     same_size(rt, offset, 0);
-    list.mark(2, 4)?;
-    list.mark(6, 7)?;
+    list.mark(4)?;
+    list.mark(7)?;
     list.push(b"")
 }
 

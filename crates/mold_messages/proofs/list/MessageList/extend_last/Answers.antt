@@ -27,7 +27,7 @@ some_last : (c : After-len-last) → 0 < length c.self.inside.ends.items
 some_last c =
     let f = c.self.inside in
     some_places c.args.self.now f.ends.items f.bytes.items _ (ap (λ (l : Listed). l.messages) c.self.view_is)
-    c.requires (length-pieces 0 f.ends.items f.bytes.items)
+    c.requires (length-pieces 0 0 f.ends.items f.bytes.items)
 
 pub overflow_sub-last : goal.overflow_sub-last
 overflow_sub-last c =

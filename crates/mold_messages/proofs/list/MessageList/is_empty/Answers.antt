@@ -7,6 +7,6 @@ pub returns : goal.returns
 returns c =
     let f = c.self.inside in
     let same : f.ends.len ≡ length c.args.self.now.messages =
-    omega (arith, length-pieces 0 f.ends.items f.bytes.items, ap (λ (l : Listed). length l.messages) c.self.view_is)
+    omega (arith, length-pieces 0 0 f.ends.items f.bytes.items, ap (λ (l : Listed). length l.messages) c.self.view_is)
     in
     c.is_empty.ensures ∙ ap (λ (n : ℕ). n == 0) same

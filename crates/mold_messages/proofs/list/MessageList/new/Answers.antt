@@ -8,5 +8,5 @@ invariant_of-result c = rw (c.new.ensures.items, c.new-2.ensures.items) refl
 
 pub returns : goal.returns
 returns c =
-    let none : pieces 0 c.new.result.items c.new-2.result.items ≡ [] = unfold pieces in rw c.new.ensures.items refl in
+    let none : pieces 0 0 c.new.result.items c.new-2.result.items ≡ [] = unfold pieces in rw c.new.ensures.items refl in
     search (rules, none)

@@ -9,7 +9,7 @@ returns-in_err-reserve-clause-succeeds c =
     let f = c.self.inside in
     subst (λ (l : Listed). HasRoom l 1 (length c.args.message.now) → IsOk c.from_residual.result) c.self.view_is
     (λ room. absurd
-    (omega (arith, room.messages, c.in_err-reserve.ensures.full, length-pieces 0 f.ends.items f.bytes.items)))
+    (omega (arith, room.messages, c.in_err-reserve.ensures.full, length-pieces 0 0 f.ends.items f.bytes.items)))
 
 pub returns-in_err-extend_from_slice-clause-succeeds : goal.returns-in_err-extend_from_slice-clause-succeeds
 returns-in_err-extend_from_slice-clause-succeeds c =

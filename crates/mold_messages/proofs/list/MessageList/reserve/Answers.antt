@@ -11,12 +11,12 @@ returns-in_err-reserve-clause-succeeds c =
     let f = c.self.inside in
     subst (λ (l : Listed). HasRoom l c.args.messages c.args.bytes → IsOk c.from_residual.result) c.self.view_is
     (λ room. absurd
-    (omega (arith, room.messages, c.in_err-reserve.ensures.full, length-pieces 0 f.ends.items f.bytes.items)))
+    (omega (arith, room.messages, c.in_err-reserve.ensures.full, length-pieces 0 0 f.ends.items f.bytes.items)))
 
 pub returns-clause-room : goal.returns-clause-room
 returns-clause-room c =
     let f = c.self.inside in
-    let rising : IsRising 0 c.reserve.new.self.items (length c.reserve-2.new.self.items) =
+    let rising : IsRising 0 0 c.reserve.new.self.items (length c.reserve-2.new.self.items) =
     rw (c.in_ok-reserve.ensures.items, c.reserve-2.ensures.items) c.self.invariant
     in
     on_ok_weaker c.reserve-2.result
@@ -24,7 +24,7 @@ returns-clause-room c =
       messages = omega (
         arith,
         c.in_ok-reserve.ensures.ok,
-        length-pieces 0 c.reserve.new.self.items
+        length-pieces 0 0 c.reserve.new.self.items
             c.reserve-2.new.self.items,
       );
       bytes = omega (arith, room, joined_all c.reserve.new.self.items c.reserve-2.new.self.items rising);

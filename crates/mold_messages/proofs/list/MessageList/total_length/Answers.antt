@@ -19,6 +19,6 @@ returns-clause-few c =
       arith,
       c.as_slice-ends.type_inv,
       c.as_slice-ends.ensures.len,
-      length-pieces 0 f.ends.items f.bytes.items,
+      length-pieces 0 0 f.ends.items f.bytes.items,
       ap (λ (l : Listed). length l.messages) c.self.view_is,
     )

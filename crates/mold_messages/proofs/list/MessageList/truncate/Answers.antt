@@ -28,4 +28,8 @@ returns-else-keep-len c =
     let f = c.self.inside in
     ap (λ (t : List (List ℕ)). record c.args.self.now { messages = t })
     (sym (take_all c.args.keep c.args.self.now.messages
-    (omega (arith, length-pieces 0 f.ends.items f.bytes.items, ap (λ (l : Listed). length l.messages) c.self.view_is))))
+    (omega (
+      arith,
+      length-pieces 0 0 f.ends.items f.bytes.items,
+      ap (λ (l : Listed). length l.messages) c.self.view_is,
+    ))))

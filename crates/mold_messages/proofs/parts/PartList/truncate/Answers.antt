@@ -1,27 +1,28 @@
-use Rattle.std.proofs.Common.{ℕ, ◌∙◌, ap, take}
+use Rattle.std.proofs.Common.{◌≤◌, length, ap, sym, ◌∙◌}
+use Rattle.std.proofs.lemmas.List.{length-take-le}
 use Rattle.mold_messages.specs.Parts.{Marked, end_of}
-use Rattle.mold_messages.proofs.PartLemmas.{cut_parts}
+use Rattle.mold_messages.proofs.PartLemmas.{parts_fewer, within_fewer}
 use Rattle.mold_messages.proofs.parts.PartList.truncate.Goals as goal
 
 pub invariant_of-self : goal.invariant_of-self
 invariant_of-self c =
     let f = c.self.inside in
-    (cut_parts f.spans.items f.bytes.items c.args.keep c.end_after-end.result c.truncate.new.self.items
-    c.truncate-2.new.self.items c.self.invariant c.truncate.ensures.items
-    (c.end_after-end.ensures ∙ ap (end_of 0) c.deref.ensures.value) c.truncate-2.ensures.items).within
+    within_fewer f.ends.items (length f.bytes.items) c.args.keep c.truncate.new.self.items c.self.invariant
+    c.truncate.ensures.items
 
 pub returns-clause-messages : goal.returns-clause-messages
 returns-clause-messages c =
     let f = c.self.inside in
-    (cut_parts f.spans.items f.bytes.items c.args.keep c.end_after-end.result c.truncate.new.self.items
-    c.truncate-2.new.self.items c.self.invariant c.truncate.ensures.items
-    (c.end_after-end.ensures ∙ ap (end_of 0) c.deref.ensures.value) c.truncate-2.ensures.items).messages
-    ∙ ap (λ (m : Marked). take c.args.keep m.messages) c.self.view_is
+    ap (λ (m : Marked). m.messages) c.cut.ensures
+    ∙ parts_fewer f.ends.items f.bytes.items c.args.keep c.truncate.new.self.items c.args.self.now c.self.view_is
+    c.truncate.ensures.items
 
-pub returns-clause-bytes : goal.returns-clause-bytes
-returns-clause-bytes c =
+pub returns-clause-whole : goal.returns-clause-whole
+returns-clause-whole c =
     let f = c.self.inside in
-    let stops = c.end_after-end.ensures ∙ ap (end_of 0) c.deref.ensures.value in
-    c.truncate-2.ensures.items
-    ∙ ap (λ (n : ℕ). take n f.bytes.items) stops
-    ∙ ap (λ (m : Marked). take (end_of 0 c.truncate.new.self.items) m.bytes) c.self.view_is
+    let ends = c.truncate.new.self.items in
+    let fits : end_of ends ≤ length f.bytes.items =
+    (within_fewer f.ends.items (length f.bytes.items) c.args.keep ends c.self.invariant c.truncate.ensures.items).1 in
+    ap (λ (m : Marked). m.end) c.cut.ensures
+    ∙ sym (length-take-le (end_of ends) f.bytes.items fits)
+    ∙ sym (ap (λ (m : Marked). length m.bytes) c.cut.ensures)
