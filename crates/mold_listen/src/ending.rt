@@ -71,12 +71,12 @@ fn push_stop(outgoing: &mut Outgoing, number: u64) -> Result<(), AllocError>
     ensures prints { Begins outgoing.old.text outgoing.new.text }
     ensures keeps { KeepsSide outgoing.old outgoing.new }
 {
-    let words = [
+    let line = [
         Word::Text(b"refused"),
         Word::Text(b"Empty"),
         Word::Number(number),
     ];
-    outgoing.push_note(&words)
+    outgoing.push_note(&line)
 }
 
 // Appends the mark of the end if the format has one and the listener has finished.
