@@ -9,8 +9,10 @@ _mold_options() {
     sim) printf '%s ' --session --limit --server-limit --window --receivers --burst ;;
     publish) printf '%s ' --session --limit --a --b --journal --beats --ends --blocks --end-at-empty ;;
     serve) printf '%s ' --journal --limit --burst --bind --turns --live ;;
-    listen) printf '%s ' --session --next --window --a --b --server --burst --turns --live --report --blocks ;;
-    loop) printf '%s ' --session --limit --server-limit --window --burst --drop-a --drop-b --turns --report --blocks ;;
+    listen) printf '%s ' --session --next --window --a --b --server --burst --turns --live --report --blocks \
+        --end-at-empty ;;
+    loop) printf '%s ' --session --limit --server-limit --window --burst --drop-a --drop-b --turns --report \
+        --blocks --end-at-empty ;;
     upgrade) printf '%s ' --journal --to --close ;;
     dump) printf '%s ' --journal --from --count --blocks --end-at-empty ;;
     esac

@@ -149,6 +149,7 @@ def calls_over_ports():
     return [
         Call("loop", loop, LINES, devices=responds),
         Call("loop --blocks", [*loop, "--blocks"], b"\0\2AB\0\0", devices=responds),
+        Call("loop, to an empty block", [*loop, "--blocks", "--end-at-empty"], b"\0\2AB\0\0", devices=responds),
         Call("publish", publish, MESSAGES, {}, ("new",), receive_lines, published, 0, sends),
         Call("publish over a file", publish, MESSAGES, existing, ("new",), receive_lines, published, 0, sends),
         Call("serve", serve, b"", {"old": OLD}, (), request_messages, (udp_peers.REQUESTING,), 0, responds),

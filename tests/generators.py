@@ -227,7 +227,8 @@ def loop(chance):
     options |= {"window": chance.choice(WINDOWS), "burst": chance.choice(BURSTS)}
     options |= {name: chance.choice([0, 1, 2, 2, 3, 1000]) for name in ("drop-a", "drop-b")}
     options["turns"] = chance.choice([1, 2, 1000, 1000])
-    return maybe_reporting(chance, in_some_form(chance, options, chance.choice([3, 12, 40]), ("lines", "blocks")))
+    forms = ("lines", "blocks", "blocks to empty")
+    return maybe_reporting(chance, in_some_form(chance, options, chance.choice([3, 12, 40]), forms))
 
 
 def numbered(chance, value):
@@ -459,10 +460,8 @@ def words(chance):
     if command in ("listen", "loop") and has(chance, 0.3):
         drawn.append("--report")
     form = "lines"
-    if command in ("pack", "publish", "dump"):
+    if command in ("pack", "publish", "listen", "loop", "dump"):
         form = chance.choice(sorted(FLAGS))
-    if command in ("loop", "listen"):
-        form = chance.choice(["lines", "blocks"])
     drawn += FLAGS[form]
     return Case({"command": command, "values": values, "form": form}, [], drawn)
 
@@ -482,7 +481,7 @@ def listen(chance):
         drawn = damaged(chance, drawn) if has(chance, 0.1) else drawn
         items.append((chance.choice([b"a", b"a", b"b", b"b", b"answer"]), drawn))
         view = view_after(view, *items[-1]) or view
-    form = chance.choice(["lines", "blocks"])
+    form = chance.choice(["lines", "blocks", "blocks to empty"])
     case = case_of(chance, options, items, form=form)
     case.arguments += FLAGS[form]
     return maybe_reporting(chance, maybe_live(chance, case))

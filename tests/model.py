@@ -571,17 +571,27 @@ class Listener:
         return text_of([*self.output, *(self.report_lines() if is_reported else []), line]), status
 
 
-def apart(text):
-    """The text of a listener that prints blocks, which are on standard output, and its text on standard error. The
-    given text is that of a listener that prints lines."""
+def empty_number(line):
+    """The number of an empty message, if the line is that of one."""
+    number, _, digits = line.partition(b" ")
+    return number if number.isdigit() and digits == b"-" else None
+
+
+def apart(text, status, form):
+    """The text of a listener that prints blocks, which are on standard output, its status, and its text on standard
+    error. The given text and status are those of a listener that prints lines. If an empty block marks the end, an
+    empty message ends the text."""
     printed, notes = [], []
     for line in text.splitlines():
         number, _, digits = line.partition(b" ")
-        if number.isdigit():
-            printed.append(b"" if digits == b"-" else bytes.fromhex(digits.decode()))
-        else:
+        if not number.isdigit():
             notes.append(line + b"\n")
-    return blocks(printed), b"".join(notes)
+        elif form == "blocks to empty" and empty_number(line):
+            return blocks(printed), 2, b"".join([*notes, b"refused Empty " + number + b"\n"])
+        else:
+            printed.append(b"" if digits == b"-" else bytes.fromhex(digits.decode()))
+    mark = [b""] if form == "blocks to empty" and not status else []
+    return blocks(printed + mark), status, b"".join(notes)
 
 
 def listen(view, datagrams, is_reported, form):
@@ -591,8 +601,7 @@ def listen(view, datagrams, is_reported, form):
     for way, datagram in datagrams:
         listener.take(way, datagram)
     text, status = listener.text(is_reported)
-    printed, errors = (text, b"") if form == "lines" else apart(text)
-    return printed, status, errors
+    return (text, status, b"") if form == "lines" else apart(text, status, form)
 
 
 # loop
@@ -606,8 +615,7 @@ def is_sent(drop, number):
 def loop(session, limits, window, burst, drops, turns, is_reported, some_bytes, form="lines"):
     """The text, the status, and the text on standard error."""
     text, status = loop_text(session, limits, window, burst, drops, turns, is_reported, some_bytes, form)
-    printed, errors = (text, b"") if form == "lines" else apart(text)
-    return printed, status, errors
+    return (text, status, b"") if form == "lines" else apart(text, status, form)
 
 
 def loop_text(session, limits, window, burst, drops, turns, is_reported, some_bytes, form):

@@ -124,9 +124,12 @@ def request_from_server(command, requests, own):
 class Listening:
     """A listener that is fed datagrams one by one, and then brought to its end."""
 
-    def __init__(self, process, own, view):
+    def __init__(self, process, own, view, form):
         self.feed = Feed(process, own)
         self.view = view
+        self.form = form
+        # Whether it was given an empty message that it cannot print. It then ends, and is sent nothing more.
+        self.stopped = False
         # The view at the last call of `check_requests`.
         self.before = view
         # The datagrams that it was fed, with their ways.
@@ -140,7 +143,9 @@ class Listening:
 
     def record(self, way, datagram):
         self.sent.append((way, datagram))
-        self.view = model.take(self.view, datagram, [])
+        printed = []
+        self.view = model.take(self.view, datagram, printed)
+        self.stopped = self.form == "blocks to empty" and any(model.empty_number(it.encode()) for it in printed)
 
     def check_requests(self):
         """Receives requests. Each has to be the expected one now or before the last datagram."""
@@ -161,6 +166,8 @@ class Listening:
 
     def send(self, way, datagram):
         """Sends a datagram on a line or as a response."""
+        if self.stopped:
+            return
         if way != b"answer":
             self.record(way, datagram)
             self.feed.send(datagram, LINE_A if way == b"a" else LINE_B)
@@ -182,7 +189,7 @@ class Listening:
 
     def bring_to_end(self):
         """Sends the missing messages and the end of session."""
-        while self.view.wanted():
+        while self.view.wanted() and not self.stopped:
             first, count = self.view.next, min(self.view.wanted().count, MOST_MESSAGES)
             messages = tuple(b"%d" % (it % 10) for it in range(first, first + count))
             self.send(b"a", model.encoding(model.Packet("data", self.view.session, first, messages)))
@@ -190,13 +197,14 @@ class Listening:
             self.send(b"b", model.encoding(model.Packet("end", self.view.session, self.view.known)))
 
 
-def feed_listener(command, view, items, own):
-    """The outcome of `listen`, which starts with this view, and the `Listening` with what it was sent."""
+def feed_listener(command, view, form, items, own):
+    """The outcome of `listen`, which starts with this view and prints messages in this form, and the `Listening` with
+    what it was sent."""
     arrived(own)
     ports = {"a": LINE_A, "b": LINE_B, "server": OWN}
     addresses = [f"--{name}={own_host()}:{port}" for name, port in ports.items()]
     with processes.running([*command, *addresses, "--turns", "1000000"]) as process:
-        listening = Listening(process, own, view)
+        listening = Listening(process, own, view, form)
         if await_ports(process, [LINE_A, LINE_B]):
             for way, datagram in items:
                 if generators.view_after(listening.view, way, datagram):

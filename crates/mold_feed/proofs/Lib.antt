@@ -9,5 +9,7 @@ pub mod OpeningLemmas
 pub mod PublishedLemmas
 pub mod SameBytesLemmas
 pub mod SentLemmas
+pub mod StopLemmas
+pub mod ToEmptyLemmas
 pub mod ServedLemmas
 pub mod SessionLawLemmas

@@ -1,5 +1,5 @@
 -- What a listener prints of an input of lines, by what it prints of the messages of these lines.
-use Rattle.std.proofs.Common.{◌≡◌, ℕ, ◌+◌, ◌≤◌, Bool, false, List, ◌++◌, length, take, Option, Result, arith, ap}
+use Rattle.std.proofs.Common.{◌≡◌, ℕ, ◌+◌, ◌≤◌, Bool, false, List, ◌++◌, length, take, Option, None, Result, arith, ap}
 use Rattle.std.proofs.Common.{subst, sym, ◌∙◌}
 use Rattle.std.specs.Io.KnownBytes.{Appends}
 use Rattle.std.proofs.lemmas.Bool.{false_from_ne_true, false≢true}
@@ -53,7 +53,7 @@ module _ {E : Type 0} {reporting : Bool} {first : ℕ} {result : Result ℕ E} {
   prints_lines spelled prints =
       let many : length lines ≡ length journal.messages = spelled_length lines journal.messages spelled in
       let same : handed_text Lines first (between journal.messages first prints.next)
-      ++ closing_text Lines reporting prints.reports prints.finished prints.next prints.known prints.failures
+      ++ closing_text Lines reporting prints.reports None prints.finished prints.next prints.known prints.failures
       ≡ lines_text first (between lines first prints.next)
       ++ closing_lines reporting prints.reports prints.finished prints.next prints.known prints.failures =
       ap (λ (text : List ℕ). text
@@ -110,7 +110,7 @@ module _ {E : Type 0} {reporting : Bool} {first : ℕ} {result : Result ℕ E} {
       let unfinished : prints.finished ≡ false =
       false_from_ne_true prints.finished (λ over. false≢true (sym unclosed ∙ prints.closed over)) in
       let same : handed_text Lines first (between journal.messages first prints.next)
-      ++ closing_text Lines reporting prints.reports prints.finished prints.next prints.known prints.failures
+      ++ closing_text Lines reporting prints.reports None prints.finished prints.next prints.known prints.failures
       ≡ lines_text first (between lines first prints.next)
       ++ closing_lines reporting prints.reports false prints.next prints.known prints.failures =
       ap (λ (text : List ℕ). text

@@ -175,7 +175,7 @@ text_between lines messages first next spelled =
 
 -- ---- printed lines
 
-same_parts : {X : Type 0} (x y : X) (xs ys : List X) → x ∷ xs ≡ y ∷ ys → (x ≡ y) × (xs ≡ ys)
+pub same_parts : {X : Type 0} (x y : X) (xs ys : List X) → x ∷ xs ≡ y ∷ ys → (x ≡ y) × (xs ≡ ys)
 same_parts x y xs ys same = (cc, cc)
 
 -- the messages among printed lines are printed one after the other

@@ -16,11 +16,14 @@ use Rattle.mold_session.specs.Truthful.{IsTrueDatagram}
 use Rattle.mold_wire.specs.Request.{request_spelling}
 use Rattle.mold_wire.specs.declared.request.Request.{Request}
 use Rattle.mold_feed.specs.Received.{GivesOnly, Gives, HasFinished, HasListened, CanReceive, ReceivesOnly, IsReceived, IsHarmless}
-use Rattle.mold_feed.specs.Received.{PrintedLine, printed_lines_text}
-use Rattle.mold_listen.specs.Listening.{Asking, Progress, ListenerState, asked, ends_at, with_next_receipt, receive_responses, with_receipt, is_finished}
+use Rattle.mold_feed.specs.Received.{PrintedLine, printable_lines, printed_lines_text}
+use Rattle.mold_listen.specs.Listening.{Asking, Progress, ListenerState, asked, ends_at, with_next_receipt, receive_responses, with_receipt, is_finished, is_over}
 use Rattle.mold_listen.specs.Listening.{after_lines, listening, missed, receives, turn, turn_asked}
 use Rattle.mold_turns.specs.Runs.{run}
-use Rattle.mold_listen.specs.Text.{handed_text}
+use Rattle.mold_listen.specs.Text.{handed_text, printable}
+use Rattle.mold_input.specs.declared.message_format.MessageFormat.{MessageFormat}
+use Rattle.mold_receiver.specs.Store.{Message}
+use Rattle.mold_feed.proofs.StopLemmas.{printable-handing, stop_said}
 use Rattle.mold_feed.proofs.PrintedLineLemmas.{refused-weaker, text-handing}
 use Rattle.mold_feed.proofs.TakingLemmas.{HasHeard, HearingLaws, IsSound, MayCome, last_number, nothing_received}
 use Rattle.mold_feed.proofs.TakingLemmas.{taken_received, then_received}
@@ -66,8 +69,8 @@ module _ (journal : JournalState) (Plain : Type 0) (Good : List ℕ → Type 0) 
       Gives Good receipt → HasHeard journal Plain Good e (with_receipt line (cut MAX_LIMIT receipt) e)
   receipt_received line (Datagram from bytes) e sound gives =
       taken_received journal Plain Good laws may line (take MAX_LIMIT bytes) e sound gives
-  receipt_received line Quiet e sound gives = nothing_received journal Plain Good e e sound refl refl refl
-  receipt_received line Failure e sound gives = nothing_received journal Plain Good e (missed e) sound refl refl refl
+  receipt_received line Quiet e sound gives = nothing_received journal Plain Good e e sound refl refl refl refl
+  receipt_received line Failure e sound gives = nothing_received journal Plain Good e (missed e) sound refl refl refl refl
 
   pub port_received : {P : Type 0} (line : Option Line) (port : Port P) (e : Progress) → IsSound journal e →
       GivesOnly Good port → HasHeard journal Plain Good e (with_next_receipt line port e)
@@ -80,7 +83,7 @@ module _ (journal : JournalState) (Plain : Type 0) (Good : List ℕ → Type 0) 
       HeardAnswers journal Plain Good s.progress (receive_responses count s)
   unfolding receive_responses
   after_responses zero s sound gives = record {
-    received = nothing_received journal Plain Good s.progress s.progress sound refl refl refl;
+    received = nothing_received journal Plain Good s.progress s.progress sound refl refl refl refl;
     gives = gives;
   }
   after_responses (suc count) s sound gives =
@@ -95,11 +98,11 @@ module _ (journal : JournalState) (Plain : Type 0) (Good : List ℕ → Type 0) 
       IsSound journal s.progress → GivesOnly Good s.port →
       HeardAnswers journal Plain Good s.progress (asked wish server burst fails s)
   asked_received None server burst fails s sound gives = record {
-    received = nothing_received journal Plain Good s.progress s.progress sound refl refl refl;
+    received = nothing_received journal Plain Good s.progress s.progress sound refl refl refl refl;
     gives = gives;
   }
   asked_received (Some request) server burst true s sound gives = record {
-    received = nothing_received journal Plain Good s.progress (missed s.progress) sound refl refl refl;
+    received = nothing_received journal Plain Good s.progress (missed s.progress) sound refl refl refl refl;
     gives = gives;
   }
   asked_received (Some request) server burst false s sound gives =
@@ -135,7 +138,7 @@ module _ (journal : JournalState) (Plain : Type 0) (Good : List ℕ → Type 0) 
       HeardTurns journal Plain Good s.progress (run (listening server burst) choices s)
   unfolding run
   run_received server burst [] s sound gives = record {
-    received = nothing_received journal Plain Good s.progress s.progress sound refl refl refl;
+    received = nothing_received journal Plain Good s.progress s.progress sound refl refl refl refl;
     gives = gives;
   }
   run_received {P} server burst (fails ∷ more) s sound gives =
@@ -143,7 +146,7 @@ module _ (journal : JournalState) (Plain : Type 0) (Good : List ℕ → Type 0) 
       let end : ListenerState P = run (listening server burst) more after in
       let one = turn_received server burst fails s sound gives in
       let rest = run_received server burst more after one.received.sound one.gives in
-      either_received journal Plain Good s.progress (is_finished after.progress) after end one
+      either_received journal Plain Good s.progress (is_over after.progress) after end one
       (record {
         received = then_received journal Plain Good s.progress after.progress end.progress sound one.received rest.received;
         gives = rest.gives;
@@ -192,7 +195,7 @@ pub run_listened : {P : Type 0} → HearingLaws → (journal : JournalState) (se
     (start : ListenerState P) → IsHonest start.progress.arbitration.view journal.messages journal.closed →
     start.progress.arbitration.view.session ≡ journal.session → ReceivesOnly (IsHarmless journal) start →
     HasListened start.progress.outgoing.format journal (CanReceive start) start.progress.arbitration.view.next
-    start.progress.outgoing.text
+    start.progress.outgoing.stopped start.progress.outgoing.text
     (run (listening server burst) choices start).progress
 run_listened {P} laws journal server burst choices start honest session hears =
     let Good : List ℕ → Type 0 = Both (IsHarmless journal) (CanReceive start) in
@@ -204,6 +207,13 @@ run_listened {P} laws journal server burst choices start honest session hears =
       kept = done.format;
       printed_lines = done.printed_lines;
       text = done.text;
+      stop =
+          done.stop
+          ∙ stop_said start.progress.outgoing.format start.progress.outgoing.stopped done.printed_lines
+          start.progress.arbitration.view.next
+          (between journal.messages start.progress.arbitration.view.next
+          (run (listening server burst) choices start).progress.arbitration.view.next)
+          done.handed;
       refused = refused-weaker Good (CanReceive start) journal.session (λ bytes good. good.1) done.printed_lines done.refused;
       from = done.from;
       to = last_number journal (run (listening server burst) choices start).progress done.sound;
@@ -218,19 +228,24 @@ pub run_plain : {P : Type 0} → HearingLaws → (journal : JournalState) (serve
     start.progress.arbitration.view.session ≡ journal.session → ReceivesOnly (IsTrueDatagram journal) start →
     (run (listening server burst) choices start).progress.outgoing.text
     ≡ start.progress.outgoing.text ++ handed_text start.progress.outgoing.format start.progress.arbitration.view.next
+    (printable start.progress.outgoing.format start.progress.outgoing.stopped
     (between journal.messages start.progress.arbitration.view.next
-    (run (listening server burst) choices start).progress.arbitration.view.next)
+    (run (listening server burst) choices start).progress.arbitration.view.next))
 run_plain {P} laws journal server burst choices start honest session hears =
     let front : List ℕ = start.progress.outgoing.text in
     let from : ℕ = start.progress.arbitration.view.next in
+    let format : MessageFormat = start.progress.outgoing.format in
+    let stopped : Option ℕ = start.progress.outgoing.stopped in
+    let messages : List Message =
+    between journal.messages from (run (listening server burst) choices start).progress.arbitration.view.next in
     let done : HasHeard journal (Unit {0}) (IsTrueDatagram journal) start.progress (run (listening server burst) choices start).progress =
     (run_received journal (Unit {0}) (IsTrueDatagram journal) laws
     (record { harmless = λ bytes told. inl told; told = λ is_plain bytes told. told }) server burst choices start
     (record { honest = honest; session = session }) hears).received in
     done.text
-    ∙ ap (λ (l : List PrintedLine). front ++ printed_lines_text start.progress.outgoing.format l) (done.plain tt)
-    ∙ ap (λ (l : List ℕ). front ++ l) (text-handing start.progress.outgoing.format from
-    (between journal.messages from (run (listening server burst) choices start).progress.arbitration.view.next))
+    ∙ ap (λ (l : List PrintedLine). front ++ printed_lines_text format (printable_lines format stopped l)) (done.plain tt)
+    ∙ ap (λ (l : List PrintedLine). front ++ printed_lines_text format l) (printable-handing format stopped from messages)
+    ∙ ap (λ (l : List ℕ). front ++ l) (text-handing format from (printable format stopped messages))
 
 pub ends_so : (ended : Option ℕ) (next : ℕ) → ends_at ended next ≡ true → ended ≡ Some next
 ends_so None next is = absurd (false≢true is)

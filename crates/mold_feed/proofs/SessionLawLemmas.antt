@@ -1,10 +1,10 @@
 -- From the messages that are published to what a listener prints, by the laws of publishing, serving and listening.
-use Rattle.std.proofs.Common.{◌≡◌, ℕ, ◌+◌, ◌≤◌, Bool, true, List, [], ◌∷◌, ◌++◌, length, Option}
+use Rattle.std.proofs.Common.{◌≡◌, ℕ, ◌+◌, ◌≤◌, Bool, true, List, [], ◌∷◌, ◌++◌, length, Option, None}
 use Rattle.std.proofs.Common.{Result, inl, inr, sym, ap, subst, ◌∙◌}
 use Rattle.std.specs.List.{AllByRecursion}
 use Rattle.mold_devices.specs.declared.fault.CommandFault.{CommandFault}
 use Rattle.mold_feed.specs.Received.{Gives, GivesOnly, HasFinished, HasListened, CanReceive, ReceivesOnly, IsFed, IsHarmless, IsForeign}
-use Rattle.mold_feed.specs.Received.{PrintsMessages, PrintsMessagesAmong}
+use Rattle.mold_feed.specs.Received.{PrintsMessages, PrintsMessagesAmong, published_text}
 use Rattle.mold_listen.specs.Listening.{ListenerState, beginning, is_finished, listened_lines, listening, status}
 use Rattle.mold_input.specs.Entries.{InputEntries}
 use Rattle.mold_input.specs.declared.message_format.MessageFormat.{MessageFormat}
@@ -12,7 +12,7 @@ use Rattle.mold_send.specs.PublishLoop.{PublishRun}
 use Rattle.mold_turns.specs.Runs.{Ran, run}
 use Rattle.mold_feed.specs.Sent.{AllSent, IsCopy, IsOpening, IsPublished, IsSent, IsServed}
 use Rattle.mold_serve.specs.Serving.{ResponderState, Service, serving}
-use Rattle.mold_listen.specs.Text.{handed_text}
+use Rattle.mold_listen.specs.Text.{handed_text, printable}
 use Rattle.mold_feed.proofs.MessagesPrintedLemmas.{HasCome, has_come, prints_among, prints_messages}
 use Rattle.mold_feed.proofs.OpeningLemmas.{OpeningLaws, begins_at, begins_honest, begins_in, left_by, left_session}
 use Rattle.mold_feed.proofs.SentLemmas.{sent_one}
@@ -43,15 +43,16 @@ pub record FeedLaws (P : Type 0) : Type 0 where
       IsHonest start.progress.arbitration.view journal.messages journal.closed →
       start.progress.arbitration.view.session ≡ journal.session → ReceivesOnly (IsHarmless journal) start →
       HasListened start.progress.outgoing.format journal (CanReceive start) start.progress.arbitration.view.next
-      start.progress.outgoing.text
+      start.progress.outgoing.stopped start.progress.outgoing.text
       (run (listening server burst) choices start).progress
   pub plain : (journal : JournalState) (server : P) (burst : ℕ) (choices : List Bool) (start : ListenerState P) →
       IsHonest start.progress.arbitration.view journal.messages journal.closed →
       start.progress.arbitration.view.session ≡ journal.session → ReceivesOnly (IsTrueDatagram journal) start →
       (run (listening server burst) choices start).progress.outgoing.text
       ≡ start.progress.outgoing.text ++ handed_text start.progress.outgoing.format start.progress.arbitration.view.next
+      (printable start.progress.outgoing.format start.progress.outgoing.stopped
       (between journal.messages start.progress.arbitration.view.next
-      (run (listening server burst) choices start).progress.arbitration.view.next)
+      (run (listening server burst) choices start).progress.arbitration.view.next))
   pub finished : (journal : JournalState) (server : P) (burst : ℕ) (choices : List Bool) (start : ListenerState P) →
       IsHonest start.progress.arbitration.view journal.messages journal.closed →
       start.progress.arbitration.view.session ≡ journal.session → ReceivesOnly (IsHarmless journal) start →
@@ -156,9 +157,9 @@ module _ {P : Type 0} (laws : FeedLaws P) (limit : ℕ) (journal : JournalState)
       next = ending.progress.arbitration.view.next
 
       has_received : ReceivesOnly (IsHarmless (left_by journal input)) start →
-          HasListened format (left_by journal input) (CanReceive start) first [] ending.progress
+          HasListened format (left_by journal input) (CanReceive start) first None [] ending.progress
       has_received hears =
-          subst (λ (n : ℕ). HasListened format (left_by journal input) (CanReceive start) n [] ending.progress) at_first
+          subst (λ (n : ℕ). HasListened format (left_by journal input) (CanReceive start) n None [] ending.progress) at_first
           (laws.received (left_by journal input) server burst ran.choices start honest in_session hears)
 
       has_finished : ReceivesOnly (IsHarmless (left_by journal input)) start → is_finished ending.progress ≡ true →
@@ -178,10 +179,10 @@ module _ {P : Type 0} (laws : FeedLaws P) (limit : ℕ) (journal : JournalState)
           (λ bytes modeled. inl modeled) start hears
 
       text_received : ReceivesOnly (IsTrueDatagram (left_by journal input)) start →
-          ending.progress.outgoing.text ≡ handed_text format first (between (left_by journal input).messages first next)
+          ending.progress.outgoing.text ≡ published_text format (left_by journal input) first next
       text_received hears =
           laws.plain (left_by journal input) server burst ran.choices start honest in_session hears
-          ∙ ap (λ (n : ℕ). handed_text format n (between (left_by journal input).messages n next)) at_first
+          ∙ ap (λ (n : ℕ). published_text format (left_by journal input) n next) at_first
 
       comes_to : ReceivesOnly (IsHarmless (left_by journal input)) start →
           HasCome format reporting (left_by journal input) first ending result old new

@@ -20,7 +20,6 @@ use Rattle.mold_rule.specs.declared.refusal.Refusal.TheVariants.{Malformed, Wron
 use Rattle.mold_session.specs.Answer.{between}
 use Rattle.mold_session.specs.Journal.{JournalState}
 use Rattle.mold_session.specs.Truthful.{IsTrueDatagram}
-use Rattle.mold_text.specs.Text.{refusal_words, refused_line}
 use Rattle.mold_wire.specs.Block.{IsBytes}
 use Rattle.mold_wire.specs.Fault.{FaultAt}
 use Rattle.mold_wire.specs.Packet.{Spells, messages_of, top_of}
@@ -29,14 +28,16 @@ use Rattle.mold_wire.specs.Truth.{IsTruePacket, published_at}
 use Rattle.mold_wire.specs.declared.error.DecodeError.{DecodeError}
 use Rattle.mold_wire.specs.declared.packet.Packet.{Packet}
 use Rattle.mold_wire.specs.declared.session.Session.{Session}
-use Rattle.mold_feed.specs.Received.{IsHarmless, IsReason, IsForeign, RefusesForeign, PrintedLine, Refuses, handed_of, printed_lines_text}
+use Rattle.mold_feed.specs.Received.{IsHarmless, IsReason, IsForeign, RefusesForeign, PrintedLine, Refuses, handed_of, printable_lines}
+use Rattle.mold_feed.specs.Received.{printed_lines_text}
 use Rattle.mold_input.specs.declared.message_format.MessageFormat.{MessageFormat}
 use Rattle.mold_listen.specs.Listening.{Progress, taken}
-use Rattle.mold_turns.specs.Outgoing.{note_text}
-use Rattle.mold_listen.specs.Text.{handed_text, taking_text}
+use Rattle.mold_listen.specs.Text.{handed_text, printable, stop_after, taking_stop, taking_text}
 use Rattle.mold_feed.proofs.PrintedLineLemmas.{between_none, counted_joined, handed_between, handed_of-append}
 use Rattle.mold_feed.proofs.PrintedLineLemmas.{handed_of-handing, handing, handing-append, numbered-append}
 use Rattle.mold_feed.proofs.PrintedLineLemmas.{refused-append, refused-handing, text-append, text-handing}
+use Rattle.mold_feed.proofs.StopLemmas.{lines_stop, none_printable, none_stops, printable-append, printable-handing}
+use Rattle.mold_feed.proofs.StopLemmas.{refusal_stops, refusal_text, stop-append, stop-handing}
 
 -- the laws of the receiver and of the packets about a received datagram
 pub record HearingLaws : Type 0 where
@@ -62,7 +63,11 @@ pub record IsSound (journal : JournalState) (e : Progress) : Type 0 where
 -- the two next numbers, and that refuse bytes which may be received. If `Plain` holds, it refused nothing.
 pub record HasHeard (journal : JournalState) (Plain : Type 0) (Good : List ℕ → Type 0) (old new : Progress) : Type 0 where
   pub printed_lines : List PrintedLine
-  pub text : new.outgoing.text ≡ old.outgoing.text ++ printed_lines_text old.outgoing.format printed_lines
+  pub text : new.outgoing.text
+      ≡ old.outgoing.text
+      ++ printed_lines_text old.outgoing.format
+      (printable_lines old.outgoing.format old.outgoing.stopped printed_lines)
+  pub stop : new.outgoing.stopped ≡ lines_stop old.outgoing.format old.outgoing.stopped printed_lines
   pub format : new.outgoing.format ≡ old.outgoing.format
   pub refused : AllByRecursion (RefusesForeign Good journal.session) printed_lines
   pub from : old.arbitration.view.next ≤ new.arbitration.view.next
@@ -145,13 +150,17 @@ module _ (journal : JournalState) (Plain : Type 0) (Good : List ℕ → Type 0) 
   -- nothing is printed
   pub nothing_received : (old new : Progress) → IsSound journal old → new.arbitration.view ≡ old.arbitration.view →
       new.outgoing.text ≡ old.outgoing.text → new.outgoing.format ≡ old.outgoing.format →
-      HasHeard journal Plain Good old new
+      new.outgoing.stopped ≡ old.outgoing.stopped → HasHeard journal Plain Good old new
   unfolding handing
-  nothing_received old new sound same text format =
+  nothing_received old new sound same text format stopped =
       let next : new.arbitration.view.next ≡ old.arbitration.view.next = ap (λ (v : View). v.next) same in
       record {
         printed_lines = [];
-        text = text ∙ sym (append-nil old.outgoing.text);
+        text =
+            text ∙ sym (append-nil old.outgoing.text)
+            ∙ ap (λ (l : List PrintedLine). old.outgoing.text ++ printed_lines_text old.outgoing.format l)
+            (sym (none_printable old.outgoing.format old.outgoing.stopped));
+        stop = stopped ∙ sym (none_stops old.outgoing.format old.outgoing.stopped);
         format = format;
         refused = tt;
         from = omega (arith, next);
@@ -163,12 +172,16 @@ module _ (journal : JournalState) (Plain : Type 0) (Good : List ℕ → Type 0) 
   -- messages are delivered, and each is the published one with its number
   messages_received : (old new : Progress) (messages : List Message) → IsSound journal old →
       new.arbitration.view.next ≡ old.arbitration.view.next + length messages →
-      new.outgoing.text ≡ old.outgoing.text ++ handed_text old.outgoing.format old.arbitration.view.next messages →
+      new.outgoing.text
+      ≡ old.outgoing.text
+      ++ handed_text old.outgoing.format old.arbitration.view.next
+      (printable old.outgoing.format old.outgoing.stopped messages) →
+      new.outgoing.stopped ≡ stop_after old.outgoing.format old.outgoing.stopped old.arbitration.view.next messages →
       new.outgoing.format ≡ old.outgoing.format →
       ((i : ℕ) (m : Message) → slice_get messages i ≡ Some m →
       published_at journal.messages (old.arbitration.view.next + i) ≡ Some m) → IsSound journal new →
       HasHeard journal Plain Good old new
-  messages_received old new messages sound next text format each after =
+  messages_received old new messages sound next text stopped format each after =
       let from : ℕ = old.arbitration.view.next in
       let piece : messages ≡ between journal.messages from new.arbitration.view.next =
       handed_between journal.messages messages from new.arbitration.view.next (first_number journal old sound)
@@ -177,7 +190,12 @@ module _ (journal : JournalState) (Plain : Type 0) (Good : List ℕ → Type 0) 
         printed_lines = handing from messages;
         text =
             text
-            ∙ ap (λ (l : List ℕ). old.outgoing.text ++ l) (sym (text-handing old.outgoing.format from messages));
+            ∙ ap (λ (l : List ℕ). old.outgoing.text ++ l)
+            (sym
+            (ap (printed_lines_text old.outgoing.format)
+            (printable-handing old.outgoing.format old.outgoing.stopped from messages)
+            ∙ text-handing old.outgoing.format from (printable old.outgoing.format old.outgoing.stopped messages)));
+        stop = stopped ∙ sym (stop-handing old.outgoing.format old.outgoing.stopped from messages);
         format = format;
         refused = refused-handing Good journal.session from messages;
         from = omega (arith, next);
@@ -195,16 +213,30 @@ module _ (journal : JournalState) (Plain : Type 0) (Good : List ℕ → Type 0) 
       let last : ℕ = new.arbitration.view.next in
       let low : 1 ≤ first = first_number journal old sound in
       let within : middle ≤ length journal.messages + 1 = last_number journal mid before.sound in
+      let format : MessageFormat = old.outgoing.format in
+      let front : List PrintedLine = printable_lines format old.outgoing.stopped before.printed_lines in
+      let rest : List PrintedLine =
+      printable_lines format (lines_stop format old.outgoing.stopped before.printed_lines) behind.printed_lines in
       record {
         printed_lines = before.printed_lines ++ behind.printed_lines;
         text =
             behind.text
-            ∙ ap (λ (f : MessageFormat). mid.outgoing.text ++ printed_lines_text f behind.printed_lines) before.format
-            ∙ ap (λ (l : List ℕ). l ++ printed_lines_text old.outgoing.format behind.printed_lines) before.text
-            ∙ append_assoc old.outgoing.text (printed_lines_text old.outgoing.format before.printed_lines)
-            (printed_lines_text old.outgoing.format behind.printed_lines)
+            ∙ ap (λ (f : MessageFormat). mid.outgoing.text
+            ++ printed_lines_text f (printable_lines f mid.outgoing.stopped behind.printed_lines)) before.format
+            ∙ ap (λ (s : Option ℕ). mid.outgoing.text
+            ++ printed_lines_text format (printable_lines format s behind.printed_lines)) before.stop
+            ∙ ap (λ (l : List ℕ). l ++ printed_lines_text format rest) before.text
+            ∙ append_assoc old.outgoing.text (printed_lines_text format front) (printed_lines_text format rest)
             ∙ ap (λ (l : List ℕ). old.outgoing.text ++ l)
-            (sym (text-append old.outgoing.format before.printed_lines behind.printed_lines));
+            (sym
+            (ap (printed_lines_text format)
+            (printable-append format old.outgoing.stopped before.printed_lines behind.printed_lines)
+            ∙ text-append format front rest));
+        stop =
+            behind.stop
+            ∙ ap (λ (f : MessageFormat). lines_stop f mid.outgoing.stopped behind.printed_lines) before.format
+            ∙ ap (λ (s : Option ℕ). lines_stop format s behind.printed_lines) before.stop
+            ∙ sym (stop-append format old.outgoing.stopped before.printed_lines behind.printed_lines);
         format = behind.format ∙ before.format;
         refused =
             refused-append Good journal.session before.printed_lines behind.printed_lines before.refused behind.refused;
@@ -240,7 +272,9 @@ module _ (journal : JournalState) (Plain : Type 0) (Good : List ℕ → Type 0) 
         ap (λ (r : Reception). r.view.next) rule.taken
         ∙ ap (λ (r : Reception). v.next + length r.handed) (sym rule.taken) in
         messages_received e (taken line bytes e) took.reception.handed sound (ap (λ (w : View). w.next) view ∙ next)
-        (ap (λ (t : Result Reception Refusal). e.outgoing.text ++ taking_text e.outgoing.format v.next t) took.received)
+        (ap (λ (t : Result Reception Refusal).
+        e.outgoing.text ++ taking_text e.outgoing.format e.outgoing.stopped v.next t) took.received)
+        (ap (taking_stop e.outgoing.format e.outgoing.stopped v.next) took.received)
         refl took.handed
         (record {
           honest = subst (λ (w : View). IsHonest w journal.messages journal.closed) (sym view) took.honest;
@@ -264,9 +298,12 @@ module _ (journal : JournalState) (Plain : Type 0) (Good : List ℕ → Type 0) 
           printed_lines = Refuses bytes why ∷ [];
           text =
               ap (λ (t : Result Reception Refusal).
-              e.outgoing.text ++ taking_text e.outgoing.format e.arbitration.view.next t) is
+              e.outgoing.text ++ taking_text e.outgoing.format e.outgoing.stopped e.arbitration.view.next t) is
               ∙ ap (λ (l : List ℕ). e.outgoing.text ++ l)
-              (sym (append-nil (note_text e.outgoing.format (refused_line (refusal_words why)))));
+              (sym (refusal_text e.outgoing.format e.outgoing.stopped bytes why));
+          stop =
+              ap (taking_stop e.outgoing.format e.outgoing.stopped e.arbitration.view.next) is
+              ∙ sym (refusal_stops e.outgoing.format e.outgoing.stopped bytes why);
           format = refl;
           refused = ((good, strange, reason), tt);
           from = omega (arith, next);

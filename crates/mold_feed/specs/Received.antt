@@ -1,12 +1,14 @@
 -- What a listener's ports may give, and what the listener prints of it.
 use Rattle.std.specs.Prelude.{◌≡◌, ◌⊎◌, ⊤, ℕ, ◌+◌, ◌≤◌, Bool, true, false, nat_le, ◌&&◌, if◌then◌else◌}
-use Rattle.std.specs.Prelude.{List, [], ◌∷◌, ◌++◌, codes, decimal, length, map, take, Option, Result, IfOk}
+use Rattle.std.specs.Prelude.{List, [], ◌∷◌, ◌++◌, codes, decimal, length, map, take, Option, None, Some, Result}
+use Rattle.std.specs.Prelude.{IfOk}
 use Rattle.std.specs.Io.KnownBytes.{Appends}
 use Rattle.std.specs.List.{AllByRecursion, Contains, flat_map}
 use Rattle.mold_devices.specs.Devices.{AppendsPrefix}
+use Rattle.mold_input.specs.BlocksToEmpty.{IsNotEmpty}
 use Rattle.mold_input.specs.Entries.{InputEntries}
 use Rattle.mold_input.specs.declared.message_format.MessageFormat.{MessageFormat}
-use Rattle.mold_input.specs.declared.message_format.MessageFormat.TheVariants.{Lines}
+use Rattle.mold_input.specs.declared.message_format.MessageFormat.TheVariants.{Lines, Blocks, BlocksToEmpty}
 use Rattle.mold_ports.specs.Ports.{Port, Receipt, Datagram, Quiet, Failure}
 use Rattle.mold_publish.specs.Publishing.{refused_text}
 use Rattle.mold_publish.specs.declared.message_refusal.MessageRefusal.{MessageRefusal}
@@ -20,7 +22,7 @@ use Rattle.mold_session.specs.Journal.{JournalState}
 use Rattle.mold_session.specs.Truthful.{IsTrueDatagram}
 use Rattle.mold_text.specs.Line.{line_of}
 use Rattle.mold_text.specs.Text.{refusal_words, refused_line}
-use Rattle.mold_wire.specs.Block.{IsBytes, blocks}
+use Rattle.mold_wire.specs.Block.{IsBytes, block, blocks}
 use Rattle.mold_wire.specs.Fault.{FaultAt}
 use Rattle.mold_wire.specs.Packet.{Spells}
 use Rattle.mold_wire.specs.Truth.{AreForeign}
@@ -29,7 +31,8 @@ use Rattle.mold_wire.specs.declared.packet.Packet.{Packet}
 use Rattle.mold_wire.specs.declared.session.Session.{Session}
 use Rattle.mold_listen.specs.Listening.{Progress, ListenerState}
 use Rattle.mold_feed.specs.Sent.{IsSent}
-use Rattle.mold_listen.specs.Text.{finished_line, handed_text, message_text, open_line, reports_text}
+use Rattle.mold_listen.specs.Text.{end_note, end_status, end_text, finished_line, handed_text, message_text, open_line}
+use Rattle.mold_listen.specs.Text.{printable, reports_text, stop_after}
 use Rattle.mold_turns.specs.Outgoing.{note_text}
 use Rattle.mold_wire.specs.declared.limits.TheConstants.{MAX_LIMIT}
 
@@ -90,6 +93,22 @@ printed_line format (Refuses bytes why) = note_text format (refused_line (refusa
 abbrev pub printed_lines_text : MessageFormat → List PrintedLine → List ℕ
 printed_lines_text format printed_lines = flat_map (printed_line format) printed_lines
 
+-- Of these lines, those before the first one that delivers an empty message.
+unfoldable pub lines_to_empty : List PrintedLine → List PrintedLine
+lines_to_empty [] = []
+lines_to_empty (Handed number [] ∷ printed_lines) = []
+lines_to_empty (Handed number (byte ∷ bytes) ∷ printed_lines) =
+    Handed number (byte ∷ bytes) ∷ lines_to_empty printed_lines
+lines_to_empty (Refuses bytes why ∷ printed_lines) = Refuses bytes why ∷ lines_to_empty printed_lines
+
+-- Of these lines, those that are printed. If an empty block marks the end, an empty message cannot be printed, and nor
+-- is anything after it. `stopped` is the number of an earlier empty message, if there was one.
+abbrev pub printable_lines : MessageFormat → Option ℕ → List PrintedLine → List PrintedLine
+printable_lines Lines stopped printed_lines = printed_lines
+printable_lines Blocks stopped printed_lines = printed_lines
+printable_lines BlocksToEmpty None printed_lines = lines_to_empty printed_lines
+printable_lines BlocksToEmpty (Some empty) printed_lines = []
+
 -- The messages that the printed lines deliver, each with its number.
 abbrev pub handed_of : List PrintedLine → List (ℕ × Message)
 handed_of [] = []
@@ -110,14 +129,20 @@ RefusesForeign Came session (Handed number message) = ⊤
 RefusesForeign Came session (Refuses bytes why) = Came bytes × IsForeign session bytes × IsReason session bytes why
 
 -- The state of a listener that started at message `first` with the text `before`, and is still honest. It has since
--- printed the published messages from `first` to just below its next number in this format, and maybe refusals.
--- Refused bytes satisfy `Came` and do not encode a packet of the session.
+-- printed the published messages from `first` to just below its next number in this format, and maybe refusals. In the
+-- format `BlocksToEmpty` it printed those before the first empty message. Refused bytes satisfy `Came` and do not
+-- encode a packet of the session. `stopped` is the number of an empty message before which printing had stopped at the
+-- start, if it had.
 pub record HasListened (format : MessageFormat) (journal : JournalState) (Came : List ℕ → Type 0) (first : ℕ)
-    (before : List ℕ) (e : Progress) : Type 0 where
+    (stopped : Option ℕ) (before : List ℕ) (e : Progress) : Type 0 where
   pub kept : e.outgoing.format ≡ format
-  -- the lines printed since the start
+  -- the messages delivered and the bytes refused since the start
   pub printed_lines : List PrintedLine
-  pub text : e.outgoing.text ≡ before ++ printed_lines_text format printed_lines
+  -- those that can be printed are printed
+  pub text : e.outgoing.text ≡ before ++ printed_lines_text format (printable_lines format stopped printed_lines)
+  -- printing stopped before the first empty message, if there is one
+  pub stop : e.outgoing.stopped
+      ≡ stop_after format stopped first (between journal.messages first e.arbitration.view.next)
   -- each refusal is of received bytes that do not encode a packet of the session
   pub refused : AllByRecursion (RefusesForeign Came journal.session) printed_lines
   pub from : first ≤ e.arbitration.view.next
@@ -162,10 +187,22 @@ abbrev pub closing_lines : Bool → LineReports → Bool → ℕ → ℕ → ℕ
 closing_lines reporting reports finished next known failures =
     reports_text reporting reports known ++ closing_line finished next known failures
 
--- The last lines of a listener on standard output. There are none if it prints blocks.
-abbrev pub closing_text : MessageFormat → Bool → LineReports → Bool → ℕ → ℕ → ℕ → List ℕ
-closing_text format reporting reports finished next known failures =
-    note_text format (closing_lines reporting reports finished next known failures)
+-- What a listener prints on standard output after the messages: among lines its last lines, in the format
+-- `BlocksToEmpty` the mark of the end if it has finished. `stopped` is the number of the empty message before which
+-- printing stopped, if it stopped.
+abbrev pub closing_text : MessageFormat → Bool → LineReports → Option ℕ → Bool → ℕ → ℕ → ℕ → List ℕ
+closing_text format reporting reports stopped finished next known failures =
+    end_text format stopped finished (end_note stopped (closing_lines reporting reports finished next known failures))
+
+-- The number of the first of the journal's messages from `first` to `next - 1` that cannot be printed in this format,
+-- if there is one. Only in the format `BlocksToEmpty` a message cannot be printed: an empty one.
+abbrev pub stop_between : MessageFormat → JournalState → ℕ → ℕ → Option ℕ
+stop_between format journal first next = stop_after format None first (between journal.messages first next)
+
+-- The text of the journal's messages from `first` to `next - 1` in this format, as far as they can be printed.
+abbrev pub published_text : MessageFormat → JournalState → ℕ → ℕ → List ℕ
+published_text format journal first next =
+    handed_text format first (printable format None (between journal.messages first next))
 
 -- The text of those printed lines that deliver a message.
 abbrev pub messages_text : MessageFormat → List PrintedLine → List ℕ
@@ -176,7 +213,8 @@ messages_text format (Refuses bytes why ∷ printed_lines) = messages_text forma
 
 -- What a listener that started at message `first` has written to standard output: the journal's messages from there to
 -- `next - 1` in this format, and its last lines. With status 0 the session is closed and all of its messages are
--- printed. After a fault, a prefix of such a text is written.
+-- printed. With status 2, which only the format `BlocksToEmpty` has, those before the first empty one are printed.
+-- After a fault, a prefix of such a text is written.
 pub record PrintsMessages {E : Type 0} (format : MessageFormat) (reporting : Bool) (journal : JournalState)
     (first : ℕ) (result : Result ℕ E) (old new : Option (List ℕ)) : Type 0 where
   -- the number of the next message to deliver
@@ -199,13 +237,12 @@ pub record PrintsMessages {E : Type 0} (format : MessageFormat) (reporting : Boo
   -- a listener that has finished printed every message
   pub all : finished ≡ true → next ≡ length journal.messages + 1
   -- after a success, the whole text is written
-  pub text : IfOk result (λ status. (status ≡ closing_status finished) × Appends old new
-      (handed_text format first (between journal.messages first next)
-      ++ closing_text format reporting reports finished next known failures))
+  pub text : IfOk result (λ status. (status ≡ end_status (stop_between format journal first next) finished)
+      × Appends old new (published_text format journal first next
+      ++ closing_text format reporting reports (stop_between format journal first next) finished next known failures))
   -- in any case, a prefix of the text is written
-  pub front : AppendsPrefix old new
-      (handed_text format first (between journal.messages first next)
-      ++ closing_text format reporting reports finished next known failures)
+  pub front : AppendsPrefix old new (published_text format journal first next
+      ++ closing_text format reporting reports (stop_between format journal first next) finished next known failures)
 
 -- What a listener that started at message `first` has written to standard output, if its ports may also give foreign
 -- bytes. Such bytes do not encode a packet of the session. The text is as for `PrintsMessages`, but among lines of
@@ -221,12 +258,13 @@ pub record PrintsMessagesAmong {E : Type 0} (format : MessageFormat) (reporting 
   pub failures : ℕ
   -- what was received on lines A and B
   pub reports : LineReports
-  -- what was printed before the last lines
+  -- what was printed before the last lines, as far as it can be printed
   pub printed_lines : List PrintedLine
   -- each refusal is of received bytes that do not encode a packet of the session
   pub refused : AllByRecursion (RefusesForeign Came journal.session) printed_lines
   -- without the refusals, the text is that of the published messages
-  pub messages : messages_text format printed_lines ≡ handed_text format first (between journal.messages first next)
+  pub messages : messages_text format (printable_lines format None printed_lines)
+      ≡ published_text format journal first next
   pub from : first ≤ next
   pub to : next ≤ length journal.messages + 1
   pub ahead : next ≤ known
@@ -236,12 +274,12 @@ pub record PrintsMessagesAmong {E : Type 0} (format : MessageFormat) (reporting 
   -- a listener that has finished printed every message
   pub all : finished ≡ true → next ≡ length journal.messages + 1
   -- after a success, the whole text is written
-  pub text : IfOk result (λ status. (status ≡ closing_status finished) × Appends old new
-      (printed_lines_text format printed_lines
-      ++ closing_text format reporting reports finished next known failures))
+  pub text : IfOk result (λ status. (status ≡ end_status (stop_between format journal first next) finished)
+      × Appends old new (printed_lines_text format (printable_lines format None printed_lines)
+      ++ closing_text format reporting reports (stop_between format journal first next) finished next known failures))
   -- in any case, a prefix of the text is written
-  pub front : AppendsPrefix old new
-      (printed_lines_text format printed_lines ++ closing_text format reporting reports finished next known failures)
+  pub front : AppendsPrefix old new (printed_lines_text format (printable_lines format None printed_lines)
+      ++ closing_text format reporting reports (stop_between format journal first next) finished next known failures)
 
 -- What a listener that started at line `first` has written: the published lines from there to `next - 1`, each after
 -- its number, the requested reports, and its last line. With status 0 it has printed all lines. After a fault, a prefix
@@ -287,6 +325,55 @@ pub record PrintsBlocks {E : Type 0} (journal : JournalState) (first : ℕ) (res
   -- in any case, a prefix of the blocks is written
   pub front : AppendsPrefix old new (blocks (between journal.messages first next))
 
+-- The first of the messages is empty.
+abbrev pub BeginsEmpty : List Message → Type 0
+BeginsEmpty [] = ⊥
+BeginsEmpty ([] ∷ messages) = ⊤
+BeginsEmpty ((byte ∷ bytes) ∷ messages) = ⊥
+
+-- What a listener with this status has written, if it prints blocks up to an empty one. It printed `messages`, and not
+-- the `others` after them, up to `next - 1`.
+--
+-- - With status 0 the session is closed, all of its messages are printed, and an empty block follows them.
+-- - With status 1 all messages up to `next - 1` are printed.
+-- - With status 2 the message after the printed ones is empty.
+abbrev pub WritesToEmpty : JournalState → ℕ → List Message → List Message → Option (List ℕ) → Option (List ℕ) → ℕ →
+    Type 0
+WritesToEmpty journal next messages others old new status =
+    ((status ≡ 0) × (others ≡ []) × (journal.closed ≡ true) × (next ≡ length journal.messages + 1)
+    × Appends old new (blocks messages ++ block []))
+    ⊎ ((status ≡ 1) × (others ≡ []) × Appends old new (blocks messages))
+    ⊎ ((status ≡ 2) × BeginsEmpty others × Appends old new (blocks messages))
+
+-- What a listener that prints blocks up to an empty one, and that started at message `first`, has written to standard
+-- output: blocks of the journal's messages from there on, and at the end of the session an empty block. No block of a
+-- message is empty. After a fault, a prefix of such blocks is written.
+pub record PrintsToEmpty {E : Type 0} (journal : JournalState) (first : ℕ) (result : Result ℕ E)
+    (old new : Option (List ℕ)) : Type 0 where
+  -- the number of the next message to deliver
+  pub next : ℕ
+  pub from : first ≤ next
+  pub to : next ≤ length journal.messages + 1
+  -- the messages that are printed: those before the first empty one
+  pub messages : List Message
+  pub filled : AllByRecursion IsNotEmpty messages
+  -- the messages after them
+  pub others : List Message
+  pub parts : between journal.messages first next ≡ messages ++ others
+  pub text : IfOk result (λ status. WritesToEmpty journal next messages others old new status)
+  -- in any case, a prefix of the blocks and the empty block is written
+  pub front : AppendsPrefix old new (blocks messages ++ block [])
+
+-- The bytes of an input were written up to its mark of the end, which is its first empty block, with the mark.
+pub record WritesToMark (input : List ℕ) (old new : Option (List ℕ)) : Type 0 where
+  -- the messages before the mark
+  pub messages : List Message
+  pub filled : AllByRecursion IsNotEmpty messages
+  -- the bytes after the mark
+  pub rest : List ℕ
+  pub parts : input ≡ blocks messages ++ block [] ++ rest
+  pub written : Appends old new (blocks messages ++ block [])
+
 -- What a listener that started at line `first` has written, if line `refused_at` is refused. Its text is as for
 -- `PrintsLines`. Both `next` and `known` are at most `refused_at`. The status is 1, since the session has no end. After
 -- a fault, a prefix of such a text is written.
@@ -313,7 +400,7 @@ pub record PrintsOpen {E : Type 0} (reporting : Bool) (lines : List (List ℕ)) 
 
 -- What a loop of publisher, server and listener has written to standard output, if its listener started at message
 -- `first` and the entry after these messages is refused. In this format its text is the messages from `first` to
--- `next - 1`, and after lines also the line of the refusal. The status is 2. After a fault, a prefix of such a text is
+-- `next - 1`, as far as they can be printed, and after lines also the line of the refusal. The status is 2. After a fault, a prefix of such a text is
 -- written.
 pub record PrintsMessagesRefused {E : Type 0} (format : MessageFormat) (messages : List Message)
     (why : MessageRefusal) (first : ℕ) (result : Result ℕ E) (old new : Option (List ℕ)) : Type 0 where
@@ -323,11 +410,11 @@ pub record PrintsMessagesRefused {E : Type 0} (format : MessageFormat) (messages
   pub to : next ≤ length messages + 1
   -- after a success, the whole text is written
   pub text : IfOk result (λ status. (status ≡ 2) × Appends old new
-      (handed_text format first (between messages first next)
+      (handed_text format first (printable format None (between messages first next))
       ++ note_text format (refused_text (length messages + 1) why)))
   -- in any case, a prefix of the text is written
   pub front : AppendsPrefix old new
-      (handed_text format first (between messages first next)
+      (handed_text format first (printable format None (between messages first next))
       ++ note_text format (refused_text (length messages + 1) why))
 
 -- What a loop of publisher, server and listener has written, if its listener started at line `first` and line

@@ -5,6 +5,7 @@ use Rattle.std.specs.Prelude.{Option, Some, Result, Ok, Err}
 use Rattle.std.specs.List.{AllByRecursion, Contains}
 use Rattle.mold_devices.specs.declared.fault.CommandFault.{CommandFault}
 use Rattle.mold_input.specs.Blocks.{block_entries}
+use Rattle.mold_input.specs.BlocksToEmpty.{to_empty_entries}
 use Rattle.mold_input.specs.Entries.{Entry, InputEntries, line_entry}
 use Rattle.mold_input.specs.declared.input_kind.InputKind.TheVariants.{Lines, Blocks}
 use Rattle.mold_ports.specs.Ports.{Port}
@@ -34,6 +35,10 @@ lines_input lines = record { kind = Lines; entries = map line_entry lines }
 -- The input of message blocks that has these bytes.
 abbrev pub blocks_input : List ℕ → InputEntries
 blocks_input bytes = record { kind = Blocks; entries = block_entries bytes }
+
+-- The input of message blocks up to the first empty one that has these bytes.
+abbrev pub to_empty_input : List ℕ → InputEntries
+to_empty_input bytes = record { kind = Blocks; entries = to_empty_entries bytes }
 
 -- The journal is closed, and its messages are the entries, in order.
 pub record HasMessages (entries : List Entry) (journal : JournalState) : Type 0 where

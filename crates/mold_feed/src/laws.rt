@@ -9,18 +9,18 @@ ghost use Rattle.std.specs.List.{AllByRecursion};
 ghost use Rattle.mold_devices.specs.declared.fault.CommandFault.{CommandFault};
 ghost use Rattle.mold_feed.specs.Received.{CanReceive, HasFinished, HasListened, IsFed, IsHarmless, PrintsAmong};
 ghost use Rattle.mold_feed.specs.Received.{PrintsBlocks, PrintsLines, PrintsMessages, PrintsMessagesAmong, PrintsOpen};
-ghost use Rattle.mold_feed.specs.Received.{ReceivesOnly, lines_text};
+ghost use Rattle.mold_feed.specs.Received.{PrintsToEmpty, ReceivesOnly, WritesToMark, lines_text};
 ghost use Rattle.mold_input.specs.Entries.{InputEntries, line_entry};
 ghost use Rattle.mold_input.specs.declared.message_format.MessageFormat.{MessageFormat};
-ghost use Rattle.mold_input.specs.declared.message_format.MessageFormat.TheVariants.{Blocks, Lines};
+ghost use Rattle.mold_input.specs.declared.message_format.MessageFormat.TheVariants.{Blocks, BlocksToEmpty, Lines};
 ghost use Rattle.mold_listen.specs.Listening.{Agrees, ListenerState, beginning, is_finished, listened_lines, listening};
 ghost use Rattle.mold_listen.specs.Listening.{status};
 ghost use Rattle.mold_send.specs.PublishLoop.{PublishRun, all_datagrams, left_journal};
 ghost use Rattle.mold_turns.specs.Runs.{Ran, run};
 ghost use Rattle.mold_feed.specs.Sent.{AllSent, HasMessages, HasMessagesBefore, IsOpening, IsSent, blocks_input};
-ghost use Rattle.mold_feed.specs.Sent.{lines_input};
+ghost use Rattle.mold_feed.specs.Sent.{lines_input, to_empty_input};
 ghost use Rattle.mold_serve.specs.Serving.{ResponderState, Service, serving};
-ghost use Rattle.mold_listen.specs.Text.{handed_text};
+ghost use Rattle.mold_listen.specs.Text.{handed_text, printable};
 ghost use Rattle.mold_ports.specs.Ports.{Port};
 ghost use Rattle.mold_publish.specs.Publishing.{input_published, lines_published};
 ghost use Rattle.mold_publish.specs.declared.message_refusal.MessageRefusal.{MessageRefusal};
@@ -34,7 +34,7 @@ ghost use Rattle.mold_session.specs.Truthful.{MayAnswer, IsTrueDatagram};
 ghost use Rattle.mold_wire.specs.Block.{IsBytes, blocks};
 ghost use Rattle.mold_wire.specs.Packer.{IsLimit};
 
-use mold_input::laws::blocks_law;
+use mold_input::laws::{blocks_law, blocks_to_empty_law};
 use mold_ports::Datagrams;
 use mold_publish::laws::lines_published_law;
 use mold_receiver::laws::{honest_stays_law, honest_take_law, taken_law};
@@ -89,7 +89,7 @@ pub fn served_law<D: Datagrams>()
 /// sends fail.
 ///
 /// - The listener stays honest. The messages that it prints have consecutive numbers from its first `next` on, and are
-///   the published ones.
+///   the published ones. In the format `BlocksToEmpty` it prints those before the first empty one.
 /// - What it refuses was received, and does not encode a packet of the session.
 /// - If all that its ports give is true of the session, it prints only messages.
 /// - If it has finished, it printed all messages up to the end of the session.
@@ -98,7 +98,7 @@ pub fn listened_law<D: Datagrams>()
         (start : ListenerState D.Peer) → IsHonest start.progress.arbitration.view journal.messages journal.closed →
         start.progress.arbitration.view.session ≡ journal.session → ReceivesOnly (IsHarmless journal) start →
         HasListened start.progress.outgoing.format journal (CanReceive start) start.progress.arbitration.view.next
-        start.progress.outgoing.text
+        start.progress.outgoing.stopped start.progress.outgoing.text
         (run (listening server burst) choices start).progress }
     ensures plain { (journal : JournalState) (server : D.Peer) (burst : ℕ) (choices : List Bool)
         (start : ListenerState D.Peer) → IsHonest start.progress.arbitration.view journal.messages journal.closed →
@@ -106,8 +106,9 @@ pub fn listened_law<D: Datagrams>()
         (run (listening server burst) choices start).progress.outgoing.text
         ≡ start.progress.outgoing.text
         ++ handed_text start.progress.outgoing.format start.progress.arbitration.view.next
+        (printable start.progress.outgoing.format start.progress.outgoing.stopped
         (between journal.messages start.progress.arbitration.view.next
-        (run (listening server burst) choices start).progress.arbitration.view.next) }
+        (run (listening server burst) choices start).progress.arbitration.view.next)) }
     ensures finished { (journal : JournalState) (server : D.Peer) (burst : ℕ) (choices : List Bool)
         (start : ListenerState D.Peer) → IsHonest start.progress.arbitration.view journal.messages journal.closed →
         start.progress.arbitration.view.session ≡ journal.session → ReceivesOnly (IsHarmless journal) start →
@@ -140,6 +141,8 @@ pub fn printed_law()
 ///   entry was refused.
 /// - If its ports also give bytes that do not encode a packet of the session, the same holds for its text of messages.
 ///   Blocks are then the whole text.
+/// - In the format `BlocksToEmpty` an empty block follows all messages if the status is 0, and no other block is empty.
+///   If a delivered message is empty, the listener prints the messages before it, and the status is 2.
 /// - Reports of lines A and B are printed only if they were requested, and only just before the last line.
 pub fn session_law<D: Datagrams>()
     ensures printed { (format : MessageFormat) (reporting : Bool) (limit first window turns burst : ℕ)
@@ -175,6 +178,16 @@ pub fn session_law<D: Datagrams>()
         Ran (listening server burst) turns (beginning Blocks a b requests arbitration) (listened_lines reporting) status
         (Agrees a_left b_left requests_left left) result old new sent →
         PrintsBlocks (left_journal (input_published journal input)) first result old new }
+    ensures to_empty { (reporting : Bool) (limit first window turns burst : ℕ) (journal : JournalState)
+        (input : InputEntries) (server : D.Peer) (a b requests : Port D.Peer) (arbitration : Arbitration)
+        (a_left b_left requests_left : Port D.Peer) (left : Arbitration) (result : Result ℕ CommandFault)
+        (old new : Option (List ℕ)) (sent : List (D.Peer × List ℕ)) → IsOpening journal limit → 1 ≤ first →
+        first ≤ length (left_journal (input_published journal input)).messages + 1 →
+        arbitration.view ≡ fresh journal.session first window →
+        ReceivesOnly (IsFed D.Peer journal limit input) (beginning BlocksToEmpty a b requests arbitration) →
+        Ran (listening server burst) turns (beginning BlocksToEmpty a b requests arbitration) (listened_lines reporting)
+        status (Agrees a_left b_left requests_left left) result old new sent →
+        PrintsToEmpty (left_journal (input_published journal input)) first result old new }
 {
     published_law::<D>();
     served_law::<D>();
@@ -233,8 +246,11 @@ pub fn session_lines_law<D: Datagrams>()
 /// the publisher's input are message blocks. The listener starts at message 1. All datagrams of the session that its
 /// ports give were sent by the publisher or its servers. The ports may also give bytes that do not encode a packet of
 /// the session. A publisher that refused a block leaves the session open, so no listener then has status 0.
+///
+/// `marked` states the same with `--end-at-empty` on both sides. Then the listener has written the bytes that the
+/// publisher read: those up to its first empty block, and that block.
 pub fn same_bytes_law<D: Datagrams>()
-    ensures { (reporting : Bool) (limit window turns burst : ℕ) (journal : JournalState) (input : List ℕ)
+    ensures same { (reporting : Bool) (limit window turns burst : ℕ) (journal : JournalState) (input : List ℕ)
         (server : D.Peer) (a b requests : Port D.Peer) (arbitration : Arbitration)
         (a_left b_left requests_left : Port D.Peer) (left : Arbitration) (result : Result ℕ CommandFault)
         (old new : Option (List ℕ)) (sent : List (D.Peer × List ℕ)) → IsOpening journal limit → IsBytes input →
@@ -243,8 +259,19 @@ pub fn same_bytes_law<D: Datagrams>()
         Ran (listening server burst) turns (beginning Blocks a b requests arbitration) (listened_lines reporting) status
         (Agrees a_left b_left requests_left left) result old new sent →
         result ≡ Ok 0 → Appends old new input }
+    ensures marked { (reporting : Bool) (limit window turns burst : ℕ) (journal : JournalState) (input : List ℕ)
+        (server : D.Peer) (a b requests : Port D.Peer) (arbitration : Arbitration)
+        (a_left b_left requests_left : Port D.Peer) (left : Arbitration) (result : Result ℕ CommandFault)
+        (old new : Option (List ℕ)) (sent : List (D.Peer × List ℕ)) → IsOpening journal limit →
+        IsBytes input → arbitration.view ≡ fresh journal.session 1 window →
+        ReceivesOnly (IsFed D.Peer journal limit (to_empty_input input))
+        (beginning BlocksToEmpty a b requests arbitration) →
+        Ran (listening server burst) turns (beginning BlocksToEmpty a b requests arbitration) (listened_lines reporting)
+        status (Agrees a_left b_left requests_left left) result old new sent →
+        result ≡ Ok 0 → WritesToMark input old new }
 {
     session_law::<D>();
     published_law::<D>();
     blocks_law();
+    blocks_to_empty_law();
 }

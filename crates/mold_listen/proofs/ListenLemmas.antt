@@ -1,60 +1,102 @@
 -- What each step of a listener changes.
-use Rattle.std.proofs.Common.{◌≡◌, ℕ, suc, Bool, true, false, List, [], ◌∷◌, Option, None, Some, Result, zero, ap, append-nil, refl, sym, ◌∙◌}
+use Rattle.std.proofs.Common.{◌≡◌, ℕ, suc, Bool, true, false, List, [], ◌∷◌, ◌++◌, Option, None, Some, Result, zero, ap, append-nil, refl, sym, ◌∙◌}
 use Rattle.std.proofs.lemmas.Result.{on_ok_weaker}
 use Rattle.std.specs.Prelude.{OnOk}
 use Rattle.mold_wire.specs.Request.{request_spelling}
 use Rattle.mold_wire.specs.declared.request.Request.{Request}
 use Rattle.mold_receiver.specs.Arbiter.{Arbitration, HasArbitrated, arbitrates}
 use Rattle.mold_receiver.specs.Batch.{Handed, followed_by}
-use Rattle.mold_receiver.specs.Receive.{receive}
+use Rattle.mold_receiver.specs.Receive.{Reception}
 use Rattle.mold_receiver.specs.Store.{Message}
 use Rattle.mold_receiver.specs.declared.line.Line.{Line}
 use Rattle.mold_receiver.specs.declared.taken.Taken.{Taken}
 use Rattle.mold_input.specs.declared.message_format.MessageFormat.{MessageFormat}
-use Rattle.mold_listen.specs.Text.{handed_text, taking_side, taking_text}
+use Rattle.mold_input.specs.declared.message_format.MessageFormat.TheVariants.{Lines, Blocks, BlocksToEmpty}
+use Rattle.mold_listen.specs.Text.{empty_number, handed_text, messages_to_empty, printable, stop_after, taking_side, taking_stop}
+use Rattle.mold_listen.specs.Text.{taking_text}
+use Rattle.mold_rule.specs.declared.refusal.Refusal.{Refusal}
 use Rattle.mold_ports.specs.Ports.{Port, Receipt, Datagram, Quiet, Failure, cut, next_of, offered, received}
 use Rattle.mold_listen.specs.Listening.{Asking, Progress, HasAsked, asked, asking, progress, with_next_receipt, receive_responses, with_receipt, is_datagram}
-use Rattle.mold_listen.specs.Listening.{receives, taken}
-use Rattle.mold_turns.specs.Outgoing.{OutgoingState, with_both, with_more}
+use Rattle.mold_listen.specs.Listening.{receives, taken, with_handed}
+use Rattle.mold_turns.specs.Outgoing.{OutgoingState, with_both, with_more, with_stop}
 use Rattle.mold_turns.proofs.OutgoingLemmas.{outgoing_is}
 use Rattle.mold_wire.specs.declared.limits.TheConstants.{MAX_LIMIT}
 
+-- no message prints nothing and stops nothing
+no_text : (format : MessageFormat) (stopped : Option ℕ) (number : ℕ) → handed_text format number (printable format stopped []) ≡ []
+unfolding handed_text messages_to_empty
+no_text Lines stopped number = refl
+no_text Blocks stopped number = refl
+no_text BlocksToEmpty None number = refl
+no_text BlocksToEmpty (Some empty) number = refl
+
+no_stop : (format : MessageFormat) (stopped : Option ℕ) (number : ℕ) → stop_after format stopped number [] ≡ stopped
+unfolding empty_number
+no_stop Lines stopped number = refl
+no_stop Blocks stopped number = refl
+no_stop BlocksToEmpty None number = refl
+no_stop BlocksToEmpty (Some empty) number = refl
+
+none_handed : (number : ℕ) (outgoing : OutgoingState) → with_handed number [] outgoing ≡ with_stop outgoing.stopped (with_more [] outgoing)
+none_handed number outgoing =
+    ap (λ (text : List ℕ). with_stop (stop_after outgoing.format outgoing.stopped number []) (with_more text outgoing))
+    (no_text outgoing.format outgoing.stopped number)
+    ∙ ap (λ (stop : Option ℕ). with_stop stop (with_more [] outgoing)) (no_stop outgoing.format outgoing.stopped number)
+
 -- an empty batch that was given messages has these, numbered from the same number on
-batch_text : (format : MessageFormat) (next : ℕ) (messages : List Message) →
-    handed_text format (followed_by (record { first = 0; messages = [] }) next messages).first
-    (followed_by (record { first = 0; messages = [] }) next messages).messages
-    ≡ handed_text format next messages
-unfolding handed_text
-batch_text format next [] = refl
-batch_text format next (message ∷ messages) = refl
+batch_handed : (next : ℕ) (messages : List Message) (outgoing : OutgoingState) →
+    with_handed (followed_by (record { first = 0; messages = [] }) next messages).first
+    (followed_by (record { first = 0; messages = [] }) next messages).messages outgoing
+    ≡ with_handed next messages outgoing
+batch_handed next [] outgoing = none_handed 0 outgoing ∙ sym (none_handed next outgoing)
+batch_handed next (message ∷ messages) outgoing = refl
 
 -- a datagram that is taken prints nothing to standard error
 more_alone : (text : List ℕ) (outgoing : OutgoingState) → with_more text outgoing ≡ with_both text [] outgoing
 more_alone text outgoing =
-    outgoing_is (with_more text outgoing) (with_both text [] outgoing) refl (sym (append-nil outgoing.side)) refl refl
+    outgoing_is (with_more text outgoing) (with_both text [] outgoing) refl (sym (append-nil outgoing.side)) refl refl refl
+
+-- after printing stopped, messages print nothing and stop nothing
+pub stopped_handed : (number : ℕ) (messages : List Message) (outgoing : OutgoingState) → (outgoing.stopped ≡ None → ⊥) →
+    outgoing
+    ≡ with_stop (stop_after BlocksToEmpty outgoing.stopped number messages)
+    (with_more (handed_text BlocksToEmpty number (printable BlocksToEmpty outgoing.stopped messages)) outgoing)
+unfolding handed_text
+stopped_handed number messages outgoing some =
+    outgoing_is outgoing
+    (with_stop (stop_after BlocksToEmpty outgoing.stopped number messages)
+    (with_more (handed_text BlocksToEmpty number (printable BlocksToEmpty outgoing.stopped messages)) outgoing))
+    (text outgoing.stopped some) refl refl refl (stop outgoing.stopped some)
+  where
+    text : (stopped : Option ℕ) → (stopped ≡ None → ⊥) →
+        outgoing.text ≡ outgoing.text ++ handed_text BlocksToEmpty number (printable BlocksToEmpty stopped messages)
+    text None some = absurd (some refl)
+    text (Some empty) some = sym (append-nil outgoing.text)
+
+    stop : (stopped : Option ℕ) → (stopped ≡ None → ⊥) → stopped ≡ stop_after BlocksToEmpty stopped number messages
+    stop None some = absurd (some refl)
+    stop (Some empty) some = refl
 
 -- a datagram was taken, and what it delivers was written
 pub taken_ok : (line : Option Line) (bytes : List ℕ) (old new : Arbitration) (before after : Handed) (t : Taken)
     (outgoing out : OutgoingState) → before ≡ record { first = 0; messages = [] } →
-    HasArbitrated line old bytes before new after t →
-    out ≡ with_more (handed_text outgoing.format after.first after.messages) outgoing →
+    HasArbitrated line old bytes before new after t → out ≡ with_handed after.first after.messages outgoing →
     progress new out ≡ taken line bytes (progress old outgoing)
 taken_ok line bytes old new before after t outgoing out empty has written =
-    let batch : after ≡ followed_by (record { first = 0; messages = [] }) old.view.next has.reception.handed =
-    has.batch ∙ ap (λ (b : Handed). followed_by b old.view.next has.reception.handed) empty in
-    let lines : handed_text outgoing.format after.first after.messages
-    ≡ taking_text outgoing.format old.view.next (receive old.view bytes) =
-    ap (λ (b : Handed). handed_text outgoing.format b.first b.messages) batch
-    ∙ batch_text outgoing.format old.view.next has.reception.handed
-    ∙ ap (taking_text outgoing.format old.view.next) (sym has.received) in
-    let none : [] ≡ taking_side outgoing.format (receive old.view bytes) =
-    ap (taking_side outgoing.format) (sym has.received) in
+    let next : ℕ = old.view.next in
+    let handed : List Message = has.reception.handed in
+    let batch : after ≡ followed_by (record { first = 0; messages = [] }) next handed =
+    has.batch ∙ ap (λ (b : Handed). followed_by b next handed) empty in
+    let text : List ℕ = handed_text outgoing.format next (printable outgoing.format outgoing.stopped handed) in
+    let to : Result Reception Refusal → OutgoingState =
+    λ r. with_stop (taking_stop outgoing.format outgoing.stopped next r)
+    (with_both (taking_text outgoing.format outgoing.stopped next r) (taking_side outgoing.format r) outgoing) in
     ap (λ (a : Arbitration). progress a out) has.arbitration
     ∙ ap (progress (arbitrates line bytes old))
-    (written ∙ ap (λ (l : List ℕ). with_more l outgoing) lines
-    ∙ more_alone (taking_text outgoing.format old.view.next (receive old.view bytes)) outgoing
-    ∙ ap (λ (l : List ℕ). with_both (taking_text outgoing.format old.view.next (receive old.view bytes)) l outgoing)
-    none)
+    (written ∙ ap (λ (b : Handed). with_handed b.first b.messages outgoing) batch
+    ∙ batch_handed next handed outgoing
+    ∙ ap (with_stop (stop_after outgoing.format outgoing.stopped next handed)) (more_alone text outgoing)
+    ∙ ap to (sym has.received))
 
 -- ---- one receive
 

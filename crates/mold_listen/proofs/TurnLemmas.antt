@@ -1,6 +1,6 @@
 -- A turn of a listener, and listening as a loop of turns.
 use Rattle.std.proofs.Common.{◌≡◌, ℕ, zero, suc, Bool, true, false, List, [], ◌∷◌, ◌++◌, Option, None, Some, Result}
-use Rattle.std.proofs.Common.{ap, refl, sym, subst, ◌∙◌, ◌↔◌, eq-eqb, ne_eqb}
+use Rattle.std.proofs.Common.{ap, append-nil, refl, sym, subst, ◌∙◌, ◌↔◌, eq-eqb, ne_eqb}
 use Rattle.std.proofs.lemmas.Result.{on_ok_weaker}
 use Rattle.std.specs.Prelude.{IsErr, IsTrue, OnErr, if◌then◌else◌}
 use Rattle.mold_ports.specs.Ports.{Port, Receipt, Datagram, Quiet, Failure, cut, next_of, offered, received}
@@ -16,14 +16,18 @@ use Rattle.mold_listen.specs.declared.feed_listener.FeedListener.{FeedListener}
 use Rattle.mold_turns.proofs.RunLemmas.{IsBeside, IsLoop, begins_more, begins_trans, begins_whole, none_ok}
 use Rattle.mold_wire.specs.Request.{request_spelling}
 use Rattle.mold_wire.specs.declared.request.Request.{Request}
-use Rattle.mold_listen.specs.Text.{finished_line, open_line, taking_side, taking_text}
-use Rattle.mold_listen.specs.Listening.{Asking, Progress, HasAsked, HasTurned, ListenerState, asked, progress, last_line, listener_status}
-use Rattle.mold_turns.specs.Outgoing.{OutgoingState, said_out, with_fronts, with_note}
+use Rattle.mold_listen.specs.Text.{end_mark, end_note, end_text, finished_line, mark_text, open_line, taking_side, taking_stop}
+use Rattle.mold_listen.specs.Text.{taking_text}
+use Rattle.mold_input.specs.declared.message_format.MessageFormat.{MessageFormat}
+use Rattle.mold_input.specs.declared.message_format.MessageFormat.TheVariants.{Lines, Blocks, BlocksToEmpty}
+use Rattle.mold_listen.specs.Listening.{Asking, Progress, HasAsked, HasTurned, ListenerState, asked, progress, last_line, line_status}
+use Rattle.mold_turns.specs.Outgoing.{OutgoingState, note_side, note_text, said_out, with_both, with_fronts, with_more, with_note}
+use Rattle.mold_turns.specs.Outgoing.{with_stop}
 use Rattle.mold_listen.specs.Listening.{Agrees, IsInNextTurn, IsSame, ends_at, with_next_receipt, receive_responses, with_receipt, is_finished, listened_lines}
 use Rattle.mold_listen.specs.Listening.{listened_side, put_beside, side_text}
 use Rattle.mold_listen.specs.Listening.{after_lines, listening, listener, put_before, receives, status, turn, turn_asked}
 use Rattle.mold_listen.proofs.ListenLemmas.{hearing_sends, stepped}
-use Rattle.mold_turns.proofs.OutgoingLemmas.{both_after, front_twice, fronts_twice, said_front}
+use Rattle.mold_turns.proofs.OutgoingLemmas.{both_after, front_twice, fronts_twice, outgoing_is, said_front}
 use Rattle.mold_wire.specs.declared.limits.TheConstants.{MAX_LIMIT}
 
 -- ---- text put before
@@ -41,9 +45,11 @@ put_both front said s =
 received_both : {P : Type 0} (front said : List ℕ) (line : Option Line) (receipt : Receipt P) (e : Progress) →
     with_receipt line receipt (hearing_both front said e) ≡ hearing_both front said (with_receipt line receipt e)
 received_both front said line (Datagram from bytes) e =
-    ap (progress (with_receipt line (Datagram from bytes) e).arbitration)
+    ap (λ (o : OutgoingState). progress (with_receipt line (Datagram from bytes) e).arbitration
+    (with_stop (taking_stop e.outgoing.format e.outgoing.stopped e.arbitration.view.next
+    (receive e.arbitration.view bytes)) o))
     (both_after front said
-    (taking_text e.outgoing.format e.arbitration.view.next (receive e.arbitration.view bytes))
+    (taking_text e.outgoing.format e.outgoing.stopped e.arbitration.view.next (receive e.arbitration.view bytes))
     (taking_side e.outgoing.format (receive e.arbitration.view bytes)) e.outgoing)
 received_both front said line Quiet e = refl
 received_both front said line Failure e = refl
@@ -94,7 +100,7 @@ received_prints : {P : Type 0} (line : Option Line) (receipt : Receipt P) (e : P
     Begins e.outgoing.text (with_receipt line receipt e).outgoing.text
 received_prints line (Datagram from bytes) e =
     begins_more e.outgoing.text
-    (taking_text e.outgoing.format e.arbitration.view.next (receive e.arbitration.view bytes))
+    (taking_text e.outgoing.format e.outgoing.stopped e.arbitration.view.next (receive e.arbitration.view bytes))
 received_prints line Quiet e = begins_whole e.outgoing.text
 received_prints line Failure e = begins_whole e.outgoing.text
 
@@ -278,18 +284,18 @@ finished_is b v w printer same =
 -- the text for standard error was written, and then a prefix of the text
 pub moved_same : {P : Type 0} (a b requests : Port P) (arbitration : Arbitration) (old mid new : OutgoingState)
     (front : List ℕ) → mid ≡ said_out old → mid.text ≡ front ++ new.text → new.failures ≡ mid.failures →
-    new.side ≡ mid.side → new.format ≡ mid.format →
+    new.side ≡ mid.side → new.format ≡ mid.format → new.stopped ≡ mid.stopped →
     listener a b requests arbitration old
     ≡ put_before front (put_beside old.side (listener a b requests arbitration new))
-moved_same a b requests arbitration old mid new front is parts failures side format =
-    ap (listener a b requests arbitration) (said_front old mid new front is parts failures side format)
+moved_same a b requests arbitration old mid new front is parts failures side format stopped =
+    ap (listener a b requests arbitration) (said_front old mid new front is parts failures side format stopped)
 
 -- ---- the last line
 
-pub finished_status : (e : Progress) → is_finished e ≡ true → 0 ≡ listener_status e
+pub finished_status : (e : Progress) → is_finished e ≡ true → 0 ≡ line_status e
 finished_status e over = ap (λ (b : Bool). if b then 0 else 1) (sym over)
 
-pub open_status : (e : Progress) → is_finished e ≡ false → 1 ≡ listener_status e
+pub open_status : (e : Progress) → is_finished e ≡ false → 1 ≡ line_status e
 open_status e over = ap (λ (b : Bool). if b then 0 else 1) (sym over)
 
 pub finished_last : (a : Arbitration) (old new : OutgoingState) (v : View) (next : ℕ) → is_finished (progress a old) ≡ true →
@@ -312,6 +318,30 @@ open_last a old new v next known over same is_next is_known is =
     (is_known ∙ ap (λ (u : View). u.known) same)
     ∙ ap (λ (b : Bool). with_note (if b then finished_line a.view.next old.failures
     else open_line a.view.next a.view.known old.failures) old) (sym over)
+
+pub none_stopped : (stopped : Option ℕ) → ((number : ℕ) → stopped ≡ Some number → ⊥) → stopped ≡ None
+none_stopped None never = refl
+none_stopped (Some number) never = absurd (never number refl)
+
+-- the last lines without the line of an empty message: the note, and then the mark of the end
+pub marked : (finished : Bool) (note : List ℕ) (o : OutgoingState) → o.stopped ≡ None →
+    with_more (mark_text o.format finished) (with_note note o)
+    ≡ with_both (end_text o.format o.stopped finished (end_note o.stopped note))
+    (note_side o.format (end_note o.stopped note)) o
+marked finished note o none =
+    outgoing_is (with_more (mark_text o.format finished) (with_note note o))
+    (with_both (end_text o.format o.stopped finished (end_note o.stopped note))
+    (note_side o.format (end_note o.stopped note)) o)
+    (texts o.text o.stopped o.format none)
+    (ap (λ (stopped : Option ℕ). o.side ++ note_side o.format (end_note stopped note)) (sym none)) refl refl refl
+  where
+    texts : (text : List ℕ) (stopped : Option ℕ) (format : MessageFormat) → stopped ≡ None →
+        (text ++ note_text format note) ++ mark_text format finished
+        ≡ text ++ end_text format stopped finished (end_note stopped note)
+    texts text (Some empty) format none = let no : ⊥ = cc in absurd no
+    texts text None Lines none = append-nil (text ++ note)
+    texts text None Blocks none = append-nil (text ++ [])
+    texts text None BlocksToEmpty none = ap (λ (t : List ℕ). t ++ end_mark finished) (append-nil text)
 
 -- ---- at the end
 

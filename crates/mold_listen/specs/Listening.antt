@@ -8,13 +8,15 @@ use Rattle.mold_receiver.specs.Wanted.{wanted}
 use Rattle.mold_receiver.specs.declared.line.Line.{Line}
 use Rattle.mold_receiver.specs.declared.line.Line.TheVariants.{A, B}
 use Rattle.mold_input.specs.declared.message_format.MessageFormat.{MessageFormat}
-use Rattle.mold_turns.specs.Outgoing.{OutgoingState, failed_once, note_side, note_text, nothing_in, with_both, with_fronts}
-use Rattle.mold_turns.specs.Outgoing.{with_front}
+use Rattle.mold_turns.specs.Outgoing.{OutgoingState, failed_once, note_side, nothing_in, with_both, with_front, with_fronts}
+use Rattle.mold_turns.specs.Outgoing.{with_more, with_stop}
 use Rattle.mold_turns.specs.Runs.{Begins, Loop}
 use Rattle.mold_listen.specs.declared.feed_listener.FeedListener.{FeedListener}
 use Rattle.mold_wire.specs.Request.{request_spelling}
 use Rattle.mold_wire.specs.declared.request.Request.{Request}
-use Rattle.mold_listen.specs.Text.{finished_line, open_line, reports_text, taking_side, taking_text}
+use Rattle.mold_listen.specs.Text.{end_note, end_status, end_text, finished_line, handed_text, open_line, printable}
+use Rattle.mold_listen.specs.Text.{reports_text, stop_after, taking_side, taking_stop, taking_text}
+use Rattle.mold_receiver.specs.Store.{Message}
 use Rattle.mold_wire.specs.declared.limits.TheConstants.{MAX_LIMIT}
 
 -- An arbiter, and the outgoing text and failures of the listener.
@@ -26,14 +28,22 @@ pub record Progress : Type 0 where
 abbrev pub progress : Arbitration → OutgoingState → Progress
 progress arbitration outgoing = record { arbitration = arbitration; outgoing = outgoing }
 
+-- The outgoing state after messages were delivered. They have consecutive numbers, and the first number is `number`.
+abbrev pub with_handed : ℕ → List Message → OutgoingState → OutgoingState
+with_handed number messages outgoing = with_stop (stop_after outgoing.format outgoing.stopped number messages)
+    (with_more (handed_text outgoing.format number (printable outgoing.format outgoing.stopped messages)) outgoing)
+
 -- The progress after the arbiter took a datagram. It was received on `line`, or as a response if there is no line. The
--- messages that it delivers are printed, or the reason why it is refused.
+-- messages that it delivers are printed, or the reason why it is refused. In the format `BlocksToEmpty` printing stops
+-- before an empty message.
 abbrev pub taken : Option Line → List ℕ → Progress → Progress
 taken line bytes e = record {
   arbitration = arbitrates line bytes e.arbitration;
-  outgoing = with_both
-      (taking_text e.outgoing.format e.arbitration.view.next (receive e.arbitration.view bytes))
-      (taking_side e.outgoing.format (receive e.arbitration.view bytes)) e.outgoing;
+  outgoing = with_stop
+      (taking_stop e.outgoing.format e.outgoing.stopped e.arbitration.view.next (receive e.arbitration.view bytes))
+      (with_both
+      (taking_text e.outgoing.format e.outgoing.stopped e.arbitration.view.next (receive e.arbitration.view bytes))
+      (taking_side e.outgoing.format (receive e.arbitration.view bytes)) e.outgoing);
 }
 
 -- The progress after a send or receive failed.
@@ -165,11 +175,21 @@ ends_at (Some end) next = end == next
 abbrev pub is_finished : Progress → Bool
 is_finished e = ends_at e.arbitration.view.ended e.arbitration.view.next
 
--- The loop of a listener. It ends after the first turn that leaves the listener finished.
+-- Whether a listener ends: printing stopped before an empty message, or it has finished.
+abbrev pub ends_by : Option ℕ → Bool → Bool
+ends_by None finished = finished
+ends_by (Some empty) finished = true
+
+-- Whether the listener ends after a turn that leaves this progress.
+abbrev pub is_over : Progress → Bool
+is_over e = ends_by e.outgoing.stopped (is_finished e)
+
+-- The loop of a listener. It ends after the first turn that leaves the listener finished, or that delivers an empty
+-- message which cannot be printed.
 abbrev pub listening : {P : Type 0} → P → ℕ → Loop Bool (ListenerState P) (P × List ℕ)
 listening server burst = record {
   turn = turn server burst;
-  over = λ s. is_finished s.progress;
+  over = λ s. is_over s.progress;
   text = λ s. s.progress.outgoing.text;
   sent = λ s. s.requests.sent;
 }
@@ -203,18 +223,25 @@ last_line e =
     then finished_line e.arbitration.view.next e.outgoing.failures
     else open_line e.arbitration.view.next e.arbitration.view.known e.outgoing.failures
 
--- The status of a listener: 0 if it has finished, otherwise 1.
+-- The status that belongs to a listener's last line: 0 if it has finished, otherwise 1.
+abbrev pub line_status : Progress → ℕ
+line_status e = if is_finished e then 0 else 1
+
+-- The status of a listener: 2 if printing stopped before an empty message. Otherwise 0 if it has finished, and 1 if not.
 abbrev pub listener_status : Progress → ℕ
-listener_status e = if is_finished e then 0 else 1
+listener_status e = end_status e.outgoing.stopped (is_finished e)
 
--- What a listener prints at its end: the reports of both lines, if they were requested, and then its last line.
+-- What a listener prints at its end apart from messages: the reports of both lines, if they were requested, and then
+-- its last line. If printing stopped before an empty message, it is only the line of that message.
 abbrev pub last_note : Bool → Progress → List ℕ
-last_note reporting e =
-    reports_text reporting e.arbitration.reports e.arbitration.view.known ++ last_line e
+last_note reporting e = end_note e.outgoing.stopped
+    (reports_text reporting e.arbitration.reports e.arbitration.view.known ++ last_line e)
 
--- The last lines of a listener on standard output. There are none after blocks.
+-- What a listener prints on standard output after the messages: among lines its last lines, in the format
+-- `BlocksToEmpty` the mark of the end if it has finished.
 abbrev pub last_lines : Bool → Progress → List ℕ
-last_lines reporting e = note_text e.outgoing.format (last_note reporting e)
+last_lines reporting e =
+    end_text e.outgoing.format e.outgoing.stopped (is_finished e) (last_note reporting e)
 
 -- The last lines of a listener on standard error. There are none if messages are printed as lines.
 abbrev pub last_side : Bool → Progress → List ℕ
@@ -228,7 +255,7 @@ listened_lines reporting s = last_lines reporting s.progress
 abbrev pub listened_side : {P : Type 0} → Bool → ListenerState P → List ℕ
 listened_side reporting s = last_side reporting s.progress
 
--- The status of a listener in the state `s`: 0 if it has finished, otherwise 1.
+-- The status of a listener in the state `s`.
 abbrev pub status : {P : Type 0} → ListenerState P → ℕ
 status s = listener_status s.progress
 

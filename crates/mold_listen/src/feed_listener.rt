@@ -5,8 +5,8 @@ ghost use Rattle.std.specs.Io.KnownBytes.{Appends};
 ghost use Rattle.mold_devices.specs.Faults.{CountsSink};
 ghost use Rattle.mold_input.specs.declared.message_format.MessageFormat.TheVariants.{Lines};
 ghost use Rattle.mold_listen.specs.Listening.{Agrees, HasAsked, HasTurned, IsInNextTurn, IsSame, asking_state};
-ghost use Rattle.mold_listen.specs.Listening.{listened_lines, listened_side, listening, put_before, put_beside};
-ghost use Rattle.mold_listen.specs.Listening.{receive_responses, receives, side_text, state, status};
+ghost use Rattle.mold_listen.specs.Listening.{is_over, listened_lines, listened_side, listening, progress, put_before};
+ghost use Rattle.mold_listen.specs.Listening.{put_beside, receive_responses, receives, side_text, state, status};
 ghost use Rattle.mold_ports.specs.Ports.{received};
 ghost use Rattle.mold_turns.specs.Outgoing.{IsBounded, KeepsSide};
 ghost use Rattle.mold_turns.specs.Runs.{Begins, WrittenInTime};
@@ -156,8 +156,19 @@ impl<'a, D: Datagrams> FeedListener<'a, D> {
         Ok(())
     }
 
-    // Makes at most `options.turns` turns. Stops after the first turn after which the receiver is finished. Text that
-    // is too short for a large write is kept for a later write.
+    // Whether the listener ends after a turn: printing stopped before an empty message, or the receiver is finished.
+    fn is_over(&self) -> bool
+        ensures { result ≡ is_over (progress self.now.arbiter.now self.now.printer.now.outgoing) }
+    {
+        let outgoing = &self.printer.outgoing;
+        match outgoing.stopped {
+            Some(_) => true,
+            None => self.arbiter.receiver().finished(),
+        }
+    }
+
+    // Makes at most `options.turns` turns. Stops after the first turn after which the listener is over. Text that is
+    // too short for a large write is kept for a later write.
     fn take_turns<K: Sink, E: Sink>(
         &mut self,
         options: ListenOptions<D::Peer>,
@@ -187,15 +198,15 @@ impl<'a, D: Datagrams> FeedListener<'a, D> {
     {
         for _turn in 0..options.turns {
             self.write_turn(options, buffer, sink, errors)?;
-            if self.arbiter.receiver().finished() {
+            if self.is_over() {
                 return Ok(());
             }
         }
         Ok(())
     }
 
-    /// Makes the turns, prints the requested reports of the lines and the last line, and returns the status: 0
-    /// finished, 1 open. `buffer` has `MAX_LIMIT` bytes.
+    /// Makes the turns, appends what `push_end` does, writes it, and returns its status. `buffer` has `MAX_LIMIT`
+    /// bytes.
     pub(crate) fn listen<K: Sink, E: Sink>(
         &mut self,
         options: ListenOptions<D::Peer>,

@@ -1,8 +1,8 @@
 //! The text that is printed for delivered messages: lines or blocks.
 
-ghost use Rattle.std.specs.Prelude.{◌≡◌, ◌++◌, ◌+◌, ◌≤◌, length, take, OnErr, OnOk};
+ghost use Rattle.std.specs.Prelude.{◌≡◌, ◌++◌, ◌+◌, ◌≤◌, length, take, IfOk, OnErr, OnOk};
 ghost use Rattle.mold_input.specs.declared.message_format.MessageFormat.TheVariants.{Blocks, BlocksToEmpty, Lines};
-ghost use Rattle.mold_listen.specs.Text.{handed_text};
+ghost use Rattle.mold_listen.specs.Text.{empty_number, handed_text, messages_to_empty};
 ghost use Rattle.mold_wire.specs.Block.{be16, block};
 
 use mold_receiver::Batch;
@@ -73,8 +73,6 @@ fn push_block(out: &mut Vec<u8>, message: &[u8]) -> Result<(), AllocError>
 pub(crate) fn push_blocks(out: &mut Vec<u8>, batch: &Batch) -> Result<(), AllocError>
     ensures text { OnOk result
         (out.new.items ≡ out.old.items ++ handed_text Blocks batch.now.first batch.now.messages) }
-    ensures marked { OnOk result
-        (out.new.items ≡ out.old.items ++ handed_text BlocksToEmpty batch.now.first batch.now.messages) }
     ensures kept { OnErr result (take (length out.old.items) out.new.items ≡ out.old.items) }
 {
     let (Some(first), Some(after)) = (batch.first(), batch.after()) else {
@@ -86,4 +84,27 @@ pub(crate) fn push_blocks(out: &mut Vec<u8>, batch: &Batch) -> Result<(), AllocE
         }
     }
     Ok(())
+}
+
+/// Appends the block of each message of the batch, up to the first empty message. Returns the number of that message,
+/// or `None` if no message is empty. An error means out of memory; the bytes after the former text are then
+/// meaningless.
+pub(crate) fn push_to_empty(out: &mut Vec<u8>, batch: &Batch) -> Result<Option<u64>, AllocError>
+    ensures text { OnOk result (out.new.items ≡ out.old.items
+        ++ handed_text BlocksToEmpty batch.now.first (messages_to_empty batch.now.messages)) }
+    ensures empty { IfOk result (λ empty. empty ≡ empty_number batch.now.first batch.now.messages) }
+    ensures kept { OnErr result (take (length out.old.items) out.new.items ≡ out.old.items) }
+{
+    let (Some(first), Some(after)) = (batch.first(), batch.after()) else {
+        return Ok(None);
+    };
+    for number in first..after {
+        if let Some(message) = batch.get((number - first) as usize) {
+            if message.is_empty() {
+                return Ok(Some(number));
+            }
+            push_block(out, message)?;
+        }
+    }
+    Ok(None)
 }

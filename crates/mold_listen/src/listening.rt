@@ -4,7 +4,7 @@ ghost use Rattle.std.specs.Prelude.{◌≡◌, true, IfOk, OnErr, OnOk};
 ghost use Rattle.mold_devices.specs.Faults.{CountsSink};
 ghost use Rattle.mold_input.specs.declared.message_format.MessageFormat.TheVariants.{Lines};
 ghost use Rattle.mold_turns.specs.Sides.{CountsSinks, RanBeside};
-ghost use Rattle.mold_listen.specs.Listening.{Agrees, IsInNextTurn, beginning, progress, last_line, listener_status};
+ghost use Rattle.mold_listen.specs.Listening.{Agrees, IsInNextTurn, beginning, progress, last_line, line_status};
 ghost use Rattle.mold_listen.specs.Listening.{listened_lines, listened_side, listening, side_text, status};
 ghost use Rattle.mold_turns.specs.Outgoing.{KeepsSide, with_note};
 ghost use Rattle.mold_turns.specs.Runs.{Begins, WrittenInTime};
@@ -61,7 +61,7 @@ fn push_open(outgoing: &mut Outgoing, next: u64, known: u64) -> Result<(), Alloc
 /// of failed sends and receives. If it has not finished, the line also has the known top. Returns the status: 0
 /// finished, 1 open. An error means out of memory.
 pub fn push_last(arbiter: &Arbiter, outgoing: &mut Outgoing) -> Result<u8, AllocError>
-    ensures status { IfOk result (λ status. status ≡ listener_status (progress arbiter.now outgoing.old)) }
+    ensures status { IfOk result (λ status. status ≡ line_status (progress arbiter.now outgoing.old)) }
     ensures line { OnOk result
         (outgoing.new ≡ with_note (last_line (progress arbiter.now outgoing.old)) outgoing.old) }
     ensures prints { Begins outgoing.old.text outgoing.new.text }
@@ -86,6 +86,11 @@ pub fn push_last(arbiter: &Arbiter, outgoing: &mut Outgoing) -> Result<u8, Alloc
 ///
 /// In the format `Lines` all text is written to `sink`. Otherwise `sink` gets the blocks and nothing else, and
 /// refusals, reports and the last line are written to `errors`.
+///
+/// In the format `BlocksToEmpty` an empty block follows the last message once the receiver has finished. An empty
+/// message cannot be printed then: the loop ends after the turn that delivers it. Neither it nor a later message is
+/// printed. In place of reports and last line, the line `refused Empty NUMBER` is written to `errors`, and the status
+/// is 2.
 ///
 /// A failed send or receive is counted, and the loop continues. After a fault, a prefix of each text is written.
 pub fn listen_loop<D: Datagrams, K: Sink, E: Sink>(

@@ -1,31 +1,47 @@
 //! The text that a listener still has to print.
 
 ghost use Rattle.std.specs.Prelude.{◌≡◌, length, take, OnErr, OnOk};
-ghost use Rattle.mold_listen.specs.Listening.{progress, taken};
-ghost use Rattle.mold_listen.specs.Text.{handed_text};
-ghost use Rattle.mold_turns.specs.Outgoing.{KeepsSide, nothing_in, with_more, with_note};
+ghost use Rattle.mold_input.specs.declared.message_format.MessageFormat.TheVariants.{BlocksToEmpty};
+ghost use Rattle.mold_listen.specs.Listening.{progress, taken, with_handed};
+ghost use Rattle.mold_listen.specs.Text.{handed_text, printable, stop_after};
+ghost use Rattle.mold_turns.specs.Outgoing.{KeepsSide, nothing_in, with_more, with_note, with_stop};
 ghost use Rattle.mold_turns.specs.Runs.{Begins};
 ghost use Rattle.mold_receiver.specs.Origin.{line_of};
 ghost use Rattle.mold_text.specs.Text.{refusal_words, refused_line};
 
-use crate::handed::{push_blocks, push_lines};
+use crate::handed::{push_blocks, push_lines, push_to_empty};
 use mold_input::MessageFormat;
 use mold_receiver::{Arbiter, Batch, Origin, Refusal};
 use mold_text::{Word, push_refusal};
 use mold_turns::Outgoing;
 use std::alloc::{AllocError, Global};
 
-// Appends a line or a block for each message of the batch.
+// Appends the blocks of the batch up to its first empty message, and notes the number of that message. If printing
+// stopped earlier, appends nothing.
+fn print_to_empty(outgoing: &mut Outgoing, batch: &Batch) -> Result<(), AllocError>
+    ensures handed { OnOk result (outgoing.new
+        ≡ with_stop (stop_after BlocksToEmpty outgoing.old.stopped batch.now.first batch.now.messages)
+        (with_more (handed_text BlocksToEmpty batch.now.first
+        (printable BlocksToEmpty outgoing.old.stopped batch.now.messages)) outgoing.old)) }
+    ensures kept { OnErr result (take (length outgoing.old.text) outgoing.new.text ≡ outgoing.old.text) }
+    ensures keeps { KeepsSide outgoing.old outgoing.new }
+{
+    if outgoing.stopped.is_none() {
+        outgoing.stopped = push_to_empty(&mut outgoing.text, batch)?;
+    }
+    Ok(())
+}
+
+// Appends a line or a block for each message of the batch that can be printed.
 fn print_handed(outgoing: &mut Outgoing, batch: &Batch) -> Result<(), AllocError>
-    ensures text { OnOk result (outgoing.new
-        ≡ with_more (handed_text outgoing.old.format batch.now.first batch.now.messages) outgoing.old) }
+    ensures text { OnOk result (outgoing.new ≡ with_handed batch.now.first batch.now.messages outgoing.old) }
     ensures kept { OnErr result (take (length outgoing.old.text) outgoing.new.text ≡ outgoing.old.text) }
     ensures keeps { KeepsSide outgoing.old outgoing.new }
 {
     match outgoing.format() {
         MessageFormat::Lines => push_lines(&mut outgoing.text, batch),
         MessageFormat::Blocks => push_blocks(&mut outgoing.text, batch),
-        MessageFormat::BlocksToEmpty => push_blocks(&mut outgoing.text, batch),
+        MessageFormat::BlocksToEmpty => print_to_empty(outgoing, batch),
     }
 }
 
@@ -67,7 +83,8 @@ impl Printer {
     }
 
     /// Gives the arbiter a datagram. Appends the messages that it delivers, or the reason why the datagram is refused.
-    /// An error means out of memory; the bytes after the former text are then meaningless.
+    /// In the format `BlocksToEmpty` an empty message and the messages after it are not appended: see
+    /// `Outgoing::stopped`. An error means out of memory; the bytes after the former text are then meaningless.
     pub(crate) fn take(
         &mut self,
         arbiter: &mut Arbiter,

@@ -19,7 +19,7 @@ use Rattle.mold_turns.proofs.RunLemmas.{begins_behind, begins_more, begins_trans
 use Rattle.mold_listen.proofs.TurnLemmas.{hearing_both}
 use Rattle.mold_listen.specs.Listening.{Progress, progress}
 use Rattle.mold_turns.proofs.OutgoingLemmas.{fronts_twice}
-use Rattle.mold_turns.specs.Outgoing.{OutgoingState, note_side, note_text}
+use Rattle.mold_turns.specs.Outgoing.{OutgoingState, note_side}
 use Rattle.mold_loop.specs.Looping.{LineState, LoopRun, Outcome, LeftOut, Sent, Pass}
 use Rattle.mold_loop.specs.Looping.{goes_out, lines_after, loop_lines, loop_note, loop_side, loop_side_text}
 use Rattle.mold_loop.specs.Looping.{loop_status, loop_text, passing}
@@ -114,6 +114,12 @@ note_front : (reporting : Bool) (journal : JournalState) (refused : Option Messa
 note_front reporting journal None front said e = refl
 note_front reporting journal (Some why) front said e = refl
 
+lines_front : (reporting : Bool) (journal : JournalState) (refused : Option MessageRefusal) (front said : List ℕ)
+    (e : Progress) →
+    loop_lines reporting journal refused (hearing_both front said e) ≡ loop_lines reporting journal refused e
+lines_front reporting journal None front said e = refl
+lines_front reporting journal (Some why) front said e = refl
+
 status_front : (refused : Option MessageRefusal) (front said : List ℕ) (e : Progress) →
     loop_status refused (hearing_both front said e) ≡ loop_status refused e
 status_front None front said e = refl
@@ -138,8 +144,8 @@ end_is {P} a b to published server passes choices lines mid rounds now front sai
 text_is : (reporting : Bool) (published : PublishedInput) (front said : List ℕ) (e : Progress) →
     loop_text reporting published (hearing_both front said e) ≡ front ++ loop_text reporting published e
 text_is reporting published front said e =
-    ap (λ (l : List ℕ). (front ++ e.outgoing.text) ++ note_text e.outgoing.format l)
-    (note_front reporting published.journal published.refused front said e)
+    ap (λ (l : List ℕ). (front ++ e.outgoing.text) ++ l)
+    (lines_front reporting published.journal published.refused front said e)
     ∙ append_assoc front e.outgoing.text (loop_lines reporting published.journal published.refused e)
 
 side_is : (reporting : Bool) (published : PublishedInput) (front said : List ℕ) (e : Progress) →

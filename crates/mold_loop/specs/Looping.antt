@@ -14,7 +14,7 @@ use Rattle.mold_receiver.specs.declared.line.Line.TheVariants.{A, B}
 use Rattle.mold_session.specs.Journal.{JournalState}
 use Rattle.mold_session.specs.Publisher.{PublisherState}
 use Rattle.mold_session.specs.Server.{ServerState}
-use Rattle.mold_listen.specs.Listening.{Progress, with_next_receipt, progress, last_note, listener_status}
+use Rattle.mold_listen.specs.Listening.{Progress, with_next_receipt, progress, last_lines, last_note, listener_status}
 use Rattle.mold_turns.specs.Outgoing.{OutgoingState, failed_once, note_side, note_text, with_fronts}
 use Rattle.mold_loop.specs.Passing.{all_routed, routed}
 use Rattle.mold_send.specs.PublishLoop.{data_after, left_journal}
@@ -222,15 +222,18 @@ abbrev pub rounds_made : {P : Type 0} → Option MessageRefusal → P → Servic
 rounds_made None to service choices s = run (repairing to service) choices s
 rounds_made (Some why) to service choices s = s
 
--- What a loop prints at its end: the last lines of a listener or, if an entry is refused, the line that reports the
--- refusal.
+-- What a loop prints at its end apart from messages: the last lines of a listener or, if an entry is refused, the line
+-- that reports the refusal.
 abbrev pub loop_note : Bool → JournalState → Option MessageRefusal → Progress → List ℕ
 loop_note reporting journal None e = last_note reporting e
 loop_note reporting journal (Some why) e = refused_text (length journal.messages + 1) why
 
--- The last lines of a loop on standard output. There are none after blocks.
+-- What a loop prints on standard output after the messages. Among lines these are its last lines. In the format
+-- `BlocksToEmpty` it is the mark of the end if no entry is refused and the listener has finished.
 abbrev pub loop_lines : Bool → JournalState → Option MessageRefusal → Progress → List ℕ
-loop_lines reporting journal refused e = note_text e.outgoing.format (loop_note reporting journal refused e)
+loop_lines reporting journal None e = last_lines reporting e
+loop_lines reporting journal (Some why) e =
+    note_text e.outgoing.format (refused_text (length journal.messages + 1) why)
 
 -- The last lines of a loop on standard error. There are none if messages are printed as lines.
 abbrev pub loop_side : Bool → JournalState → Option MessageRefusal → Progress → List ℕ

@@ -113,6 +113,9 @@ pub(crate) fn print_last<K: Sink, E: Sink>(
 /// - The listener's printer has the format in which messages are printed. In the format `Lines` all text is written to
 ///   `sink`. Otherwise `sink` gets the blocks and nothing else, and refusals, reports and the last line are written to
 ///   `errors`.
+/// - In the format `BlocksToEmpty` an empty block follows the last message if the status is 0. An empty message cannot be
+///   printed then. Neither it nor a later message is printed, but the loop goes on. At its end the line
+///   `refused Empty NUMBER` replaces the reports and the last line, and the status is 2.
 /// - A refused entry ends the publication. The delivered messages stay printed, and the refusal follows them. There are
 ///   no reports and no last line, and the status is 2. Of an input of blocks, all messages before the entry are sent.
 ///   Of an input of lines, the last datagram is not sent.

@@ -1,12 +1,13 @@
 -- Lemmas from the messages that a loop publishes to what it prints, if its ports give only what it sent.
-use Rattle.std.proofs.Common.{◌≡◌, ℕ, ◌+◌, ◌≤◌, Bool, true, false, List, [], ◌∷◌, ◌++◌, length, map, take, Option, None, Some}
+use Rattle.std.proofs.Common.{◌≡◌, ℕ, ◌+◌, ◌≤◌, Bool, true, false, List, [], ◌∷◌, ◌++◌, length, map, Option, None, Some}
 use Rattle.std.proofs.Common.{Ok, Result, inl, refl, sym, ap, subst, ◌∙◌, arith}
 use Rattle.std.specs.Prelude.{IfOk}
 use Rattle.std.specs.Io.KnownBytes.{Appends}
 use Rattle.std.specs.List.{AllByRecursion}
 use Rattle.std.proofs.lemmas.Result.{IfOk-weaker}
 use Rattle.mold_devices.specs.Devices.{AppendsPrefix}
-use Rattle.mold_feed.specs.Received.{GivesOnly, PrintsMessages, PrintsMessagesRefused, PrintedLine, printed_lines_text}
+use Rattle.mold_feed.specs.Received.{GivesOnly, PrintsMessages, PrintsMessagesRefused, PrintedLine, printable_lines}
+use Rattle.mold_feed.specs.Received.{printed_lines_text, published_text, stop_between}
 use Rattle.mold_listen.specs.Listening.{Asking, Progress, ListenerState, last_lines, listener_status, missed}
 use Rattle.mold_loop.specs.Looping.{Failed, LeftOut, LineState, LoopRun, Outcome, Pass, Sent, IsPortAfter}
 use Rattle.mold_loop.specs.Looping.{after_line_if, after_routes, lines_after, loop_end, loop_lines, loop_status, loop_text, offered_by}
@@ -22,10 +23,11 @@ use Rattle.mold_loop.specs.Repairing.{RepairState, missed_more, repaired, repair
 use Rattle.mold_turns.specs.Runs.{run}
 use Rattle.mold_feed.specs.Sent.{AllSent, IsOpening}
 use Rattle.mold_serve.specs.Serving.{ResponderState, Service, serve_turn, service_of, serving}
-use Rattle.mold_listen.specs.Text.{handed_text}
+use Rattle.mold_listen.specs.Text.{handed_text, printable, stop_after}
 use Rattle.mold_loop.specs.declared.loop_parts.Drops.{Drops}
 use Rattle.mold_loop.specs.declared.loop_parts.Routes.{Routes}
 use Rattle.mold_feed.proofs.PrintedLineLemmas.{text-handing}
+use Rattle.mold_feed.proofs.StopLemmas.{printable-handing, stop_said}
 use Rattle.mold_feed.proofs.TakingLemmas.{HasHeard, HearingLaws, IsSound, MayCome, last_number, nothing_received}
 use Rattle.mold_feed.proofs.TakingLemmas.{then_received}
 use Rattle.mold_feed.proofs.ReceivedTurnLemmas.{after_responses, ends_so, port_received, rest_gives}
@@ -180,6 +182,12 @@ outcome_format LeftOut outgoing = refl
 outcome_format Failed outgoing = refl
 outcome_format Sent outgoing = refl
 
+outcome_stopped : (outcome : Outcome) (outgoing : OutgoingState) →
+    (outgoing_after outcome outgoing).stopped ≡ outgoing.stopped
+outcome_stopped LeftOut outgoing = refl
+outcome_stopped Failed outgoing = refl
+outcome_stopped Sent outgoing = refl
+
 module _ (journal : JournalState) (Plain : Type 0) (Good : List ℕ → Type 0) (laws : HearingLaws)
     (may : MayCome journal Plain Good) where
   -- ---- one pass
@@ -187,7 +195,7 @@ module _ (journal : JournalState) (Plain : Type 0) (Good : List ℕ → Type 0) 
   line_received : {P : Type 0} (receives : Bool) (line : Line) (port : Port P) (e : Progress) → IsSound journal e →
       GivesOnly Good port → HasHeard journal Plain Good e (after_line_if receives line port e)
   line_received true line port e sound gives = port_received journal Plain Good laws may (Some line) port e sound gives
-  line_received false line port e sound gives = nothing_received journal Plain Good e e sound refl refl refl
+  line_received false line port e sound gives = nothing_received journal Plain Good e e sound refl refl refl refl
 
   after_lines : {P : Type 0} (lines : Routes) (s : LineState P) → IsSound journal s.progress → GivesOnly Good s.a →
       GivesOnly Good s.b → HeardLines journal Plain Good s.progress (after_routes lines s)
@@ -210,7 +218,9 @@ module _ (journal : JournalState) (Plain : Type 0) (Good : List ℕ → Type 0) 
       outcome_text pass.b (outgoing_after pass.a s.progress.outgoing) ∙ outcome_text pass.a s.progress.outgoing in
       let format : mid.progress.outgoing.format ≡ s.progress.outgoing.format =
       outcome_format pass.b (outgoing_after pass.a s.progress.outgoing) ∙ outcome_format pass.a s.progress.outgoing in
-      let offers = nothing_received journal Plain Good s.progress mid.progress sound refl same format in
+      let stopped : mid.progress.outgoing.stopped ≡ s.progress.outgoing.stopped =
+      outcome_stopped pass.b (outgoing_after pass.a s.progress.outgoing) ∙ outcome_stopped pass.a s.progress.outgoing in
+      let offers = nothing_received journal Plain Good s.progress mid.progress sound refl same format stopped in
       let hears = after_lines (sent_by pass) mid offers.sound on_a on_b in
       record {
         received =
@@ -223,7 +233,7 @@ module _ (journal : JournalState) (Plain : Type 0) (Good : List ℕ → Type 0) 
   passes_received : {P : Type 0} (a b : P) (passes : List Pass) (s : LineState P) → IsSound journal s.progress →
       GivesOnly Good s.a → GivesOnly Good s.b → HasHeard journal Plain Good s.progress (lines_after a b passes s).progress
   unfolding run
-  passes_received a b [] s sound on_a on_b = nothing_received journal Plain Good s.progress s.progress sound refl refl refl
+  passes_received a b [] s sound on_a on_b = nothing_received journal Plain Good s.progress s.progress sound refl refl refl refl
   passes_received {P} a b (pass ∷ passes) s sound on_a on_b =
       let after : LineState P = passed a b pass s in
       let one = pass_received a b pass s sound on_a on_b in
@@ -238,7 +248,7 @@ module _ (journal : JournalState) (Plain : Type 0) (Good : List ℕ → Type 0) 
       let tally = (served service fails s).tally in
       let mid : Progress = missed_more tally.outgoing.failures s.progress in
       let before : Asking P = record { port = s.requests; progress = mid } in
-      let same = nothing_received journal Plain Good s.progress mid sound refl refl refl in
+      let same = nothing_received journal Plain Good s.progress mid sound refl refl refl refl in
       let answers = after_responses journal Plain Good laws may tally.answered before same.sound gives in
       record {
         received =
@@ -250,11 +260,11 @@ module _ (journal : JournalState) (Plain : Type 0) (Good : List ℕ → Type 0) 
       (s : RepairState P) → IsSound journal s.progress → GivesOnly Good s.requests →
       HeardRounds journal Plain Good s.progress (requested wish to service choice s)
   requested_received None to service choice s sound gives = record {
-    received = nothing_received journal Plain Good s.progress s.progress sound refl refl refl;
+    received = nothing_received journal Plain Good s.progress s.progress sound refl refl refl refl;
     gives = gives;
   }
   requested_received (Some request) to service (true, fails) s sound gives = record {
-    received = nothing_received journal Plain Good s.progress (missed s.progress) sound refl refl refl;
+    received = nothing_received journal Plain Good s.progress (missed s.progress) sound refl refl refl refl;
     gives = gives;
   }
   requested_received (Some request) to service (false, fails) s sound gives =
@@ -271,7 +281,7 @@ module _ (journal : JournalState) (Plain : Type 0) (Good : List ℕ → Type 0) 
       IsSound journal s.progress → GivesOnly Good s.requests →
       HasHeard journal Plain Good s.progress (run (repairing to service) choices s).progress
   unfolding run round
-  rounds_received to service [] s sound gives = nothing_received journal Plain Good s.progress s.progress sound refl refl refl
+  rounds_received to service [] s sound gives = nothing_received journal Plain Good s.progress s.progress sound refl refl refl refl
   rounds_received {P} to service (choice ∷ choices) s sound gives =
       let after : RepairState P = round to service choice s in
       let one = requested_received (wanted s.progress.arbitration.view) to service choice s sound gives in
@@ -284,7 +294,7 @@ module _ (journal : JournalState) (Plain : Type 0) (Good : List ℕ → Type 0) 
       HasHeard journal Plain Good s.progress (rounds_made refused to service choices s).progress
   made_received None to service choices s sound gives = rounds_received to service choices s sound gives
   made_received (Some why) to service choices s sound gives =
-      nothing_received journal Plain Good s.progress s.progress sound refl refl refl
+      nothing_received journal Plain Good s.progress s.progress sound refl refl refl refl
 
 -- ---- the whole loop
 
@@ -372,7 +382,7 @@ module _ {P : Type 0} (laws : LoopLaws P) (reporting : Bool) (drops : Drops) (a 
   module _ (first window : ℕ) (least : 1 ≤ first) (most : first ≤ length left.messages + 1)
       (anew : start.progress.arbitration.view ≡ fresh journal.session first window)
       (format : MessageFormat) (blank : start.progress.outgoing.text ≡ [])
-      (in_format : start.progress.outgoing.format ≡ format) where
+      (in_format : start.progress.outgoing.format ≡ format) (unstopped : start.progress.outgoing.stopped ≡ None) where
     begins : start.progress.arbitration.view.next ≡ first
     begins = begins_at laws.opening limit journal input opening first window least most start.progress.arbitration anew
 
@@ -392,16 +402,34 @@ module _ {P : Type 0} (laws : LoopLaws P) (reporting : Bool) (drops : Drops) (a 
     within : end.arbitration.view.next ≤ length left.messages + 1
     within = last_number left end done.sound
 
-    text_is : end.outgoing.text ≡ handed_text format first (between left.messages first end.arbitration.view.next)
+    text_is : end.outgoing.text ≡ published_text format left first end.arbitration.view.next
     text_is =
         let next : ℕ = end.arbitration.view.next in
+        let here : ℕ = start.progress.arbitration.view.next in
         done.text
-        ∙ ap (λ (f : MessageFormat). start.progress.outgoing.text ++ printed_lines_text f done.printed_lines) in_format
-        ∙ ap (λ (text : List ℕ). text ++ printed_lines_text format done.printed_lines) blank
-        ∙ ap (λ (printed_lines : List PrintedLine). printed_lines_text format printed_lines) (done.plain tt)
-        ∙ text-handing format start.progress.arbitration.view.next
-        (between left.messages start.progress.arbitration.view.next next)
-        ∙ ap (λ (n : ℕ). handed_text format n (between left.messages n next)) begins
+        ∙ ap (λ (f : MessageFormat). start.progress.outgoing.text
+        ++ printed_lines_text f (printable_lines f start.progress.outgoing.stopped done.printed_lines)) in_format
+        ∙ ap (λ (stopped : Option ℕ). start.progress.outgoing.text
+        ++ printed_lines_text format (printable_lines format stopped done.printed_lines)) unstopped
+        ∙ ap (λ (text : List ℕ). text
+        ++ printed_lines_text format (printable_lines format None done.printed_lines)) blank
+        ∙ ap (λ (printed_lines : List PrintedLine). printed_lines_text format (printable_lines format None printed_lines))
+        (done.plain tt)
+        ∙ ap (printed_lines_text format) (printable-handing format None here (between left.messages here next))
+        ∙ text-handing format here (printable format None (between left.messages here next))
+        ∙ ap (λ (n : ℕ). published_text format left n next) begins
+
+    stop_is : end.outgoing.stopped ≡ stop_between format left first end.arbitration.view.next
+    stop_is =
+        let next : ℕ = end.arbitration.view.next in
+        let here : ℕ = start.progress.arbitration.view.next in
+        let messages : List Message = between left.messages here next in
+        done.stop
+        ∙ stop_said start.progress.outgoing.format start.progress.outgoing.stopped done.printed_lines here messages
+        done.handed
+        ∙ ap (λ (f : MessageFormat). stop_after f start.progress.outgoing.stopped here messages) in_format
+        ∙ ap (λ (stopped : Option ℕ). stop_after format stopped here messages) unstopped
+        ∙ ap (λ (n : ℕ). stop_between format left n next) begins
 
     -- if an entry is refused
 
@@ -417,15 +445,15 @@ module _ {P : Type 0} (laws : LoopLaws P) (reporting : Bool) (drops : Drops) (a 
 
       -- the last lines and the status are those of the refusal
       all_is : loop_text reporting published end
-          ≡ handed_text format first (between published_messages first next)
+          ≡ handed_text format first (printable format None (between published_messages first next))
           ++ note_text format (refused_text (length published_messages + 1) why)
       all_is =
           ap (λ (text : List ℕ). text ++ loop_lines reporting published.journal published.refused end) text_is
-          ∙ ap (λ (messages : List Message). handed_text format first (between messages first next)
+          ∙ ap (λ (messages : List Message). handed_text format first (printable format None (between messages first next))
           ++ loop_lines reporting published.journal published.refused end) same
-          ∙ ap (λ (r : Option MessageRefusal). handed_text format first (between published_messages first next)
+          ∙ ap (λ (r : Option MessageRefusal). handed_text format first (printable format None (between published_messages first next))
           ++ loop_lines reporting published.journal r end) refused
-          ∙ ap (λ (f : MessageFormat). handed_text format first (between published_messages first next)
+          ∙ ap (λ (f : MessageFormat). handed_text format first (printable format None (between published_messages first next))
           ++ note_text f (refused_text (length published_messages + 1) why)) (done.format ∙ in_format)
 
       two_is : loop_status published.refused end ≡ 2
@@ -460,6 +488,7 @@ module _ {P : Type 0} (laws : LoopLaws P) (reporting : Bool) (drops : Drops) (a 
       comes : HasCome format reporting left first ending result old new
       comes = record {
         kept = done.format ∙ in_format;
+        stop = stop_is;
         whole =
             IfOk-weaker result _ _
             (λ answer written. (

@@ -5,10 +5,11 @@ ghost use Rattle.std.specs.Prelude.{◌≡◌, ◌+◌, ◌≤◌, Bool, List, [
 ghost use Rattle.std.specs.Io.KnownBytes.{Appends};
 ghost use Rattle.mold_devices.specs.declared.fault.CommandFault.{CommandFault};
 ghost use Rattle.mold_feed.specs.Received.{PrintsLines, PrintsMessages, PrintsMessagesRefused, PrintsRefused};
-ghost use Rattle.mold_feed.specs.Sent.{IsOpening, blocks_input};
+ghost use Rattle.mold_feed.specs.Received.{PrintsToEmpty, WritesToMark};
+ghost use Rattle.mold_feed.specs.Sent.{IsOpening, blocks_input, to_empty_input};
 ghost use Rattle.mold_input.specs.Entries.{InputEntries};
 ghost use Rattle.mold_input.specs.declared.message_format.MessageFormat.{MessageFormat};
-ghost use Rattle.mold_input.specs.declared.message_format.MessageFormat.TheVariants.{Blocks, Lines};
+ghost use Rattle.mold_input.specs.declared.message_format.MessageFormat.TheVariants.{Blocks, BlocksToEmpty, Lines};
 ghost use Rattle.mold_loop.specs.Looping.{LineState, LoopRun};
 ghost use Rattle.mold_loop.specs.Repairing.{RepairState};
 ghost use Rattle.mold_loop.specs.declared.loop_parts.Drops.{Drops};
@@ -22,7 +23,7 @@ ghost use Rattle.mold_session.specs.Server.{IsServer, ServerState};
 ghost use Rattle.mold_wire.specs.Block.{IsBytes};
 
 use mold_feed::laws::{published_law, served_law};
-use mold_input::laws::blocks_law;
+use mold_input::laws::{blocks_law, blocks_to_empty_law};
 use mold_ports::Datagrams;
 use mold_publish::laws::lines_published_law;
 use mold_receiver::laws::{honest_stays_law, honest_take_law, taken_law};
@@ -39,6 +40,11 @@ use mold_wire::laws::reading_law;
 ///   printed all of them.
 /// - `same_bytes`: the input is blocks, and the listener prints blocks from message 1 on. With status 0 the loop has
 ///   written exactly the bytes of its input.
+/// - `marked`: as `same_bytes`, if the input and the output end at an empty block. With status 0 the loop has written
+///   the bytes of its input up to its first empty block, and that block.
+/// - `to_empty`: as `messages`, for a listener that prints blocks up to an empty one. With status 0 an empty block
+///   follows the blocks of all messages, and none of these is empty. If a delivered message is empty, the loop prints
+///   the messages before it, and the status is 2.
 /// - `stopped`: an entry is refused, so no request is made. The loop prints messages before the refused entry. Among
 ///   lines, the refusal follows on standard output.
 /// - `printed`: as `messages`, for an input of lines and a listener that prints lines. The loop prints the published
@@ -58,6 +64,7 @@ pub fn loop_law<D: Datagrams>()
         first ≤ length (left_journal (input_published journal input)).messages + 1 →
         start.progress.arbitration.view ≡ fresh journal.session first window →
         start.progress.outgoing.text ≡ [] → start.progress.outgoing.format ≡ format →
+        start.progress.outgoing.stopped ≡ None →
         OwnPorts start start_left rounds rounds_left →
         LoopRun reporting drops a b to turns limit 0 (input_published journal input) server start rounds result old new
         errors_old errors_new start_left rounds_left →
@@ -69,9 +76,35 @@ pub fn loop_law<D: Datagrams>()
         IsOpening journal limit → IsBytes input → IsServer server → journal.max_message ≤ server.max_message →
         start.progress.arbitration.view ≡ fresh journal.session 1 window →
         start.progress.outgoing.text ≡ [] → start.progress.outgoing.format ≡ Blocks →
+        start.progress.outgoing.stopped ≡ None →
         OwnPorts start start_left rounds rounds_left →
         LoopRun reporting drops a b to turns limit 0 (input_published journal (blocks_input input)) server start rounds
         result old new errors_old errors_new start_left rounds_left → result ≡ Ok 0 → Appends old new input }
+    ensures marked { (reporting : Bool) (drops : Drops) (a b to : D.Peer) (turns limit window : ℕ)
+        (journal : JournalState) (input : List ℕ) (server : ServerState) (start start_left : LineState D.Peer)
+        (rounds rounds_left : RepairState D.Peer) (result : Result ℕ CommandFault)
+        (old new errors_old errors_new : Option (List ℕ)) →
+        IsOpening journal limit → IsBytes input → IsServer server → journal.max_message ≤ server.max_message →
+        start.progress.arbitration.view ≡ fresh journal.session 1 window →
+        start.progress.outgoing.text ≡ [] → start.progress.outgoing.format ≡ BlocksToEmpty →
+        start.progress.outgoing.stopped ≡ None →
+        OwnPorts start start_left rounds rounds_left →
+        LoopRun reporting drops a b to turns limit 0 (input_published journal (to_empty_input input)) server start rounds
+        result old new errors_old errors_new start_left rounds_left → result ≡ Ok 0 → WritesToMark input old new }
+    ensures to_empty { (reporting : Bool) (drops : Drops) (a b to : D.Peer) (turns limit first window : ℕ)
+        (journal : JournalState) (input : InputEntries) (server : ServerState) (start start_left : LineState D.Peer)
+        (rounds rounds_left : RepairState D.Peer) (result : Result ℕ CommandFault)
+        (old new errors_old errors_new : Option (List ℕ)) →
+        IsOpening journal limit → (input_published journal input).refused ≡ None →
+        IsServer server → journal.max_message ≤ server.max_message → 1 ≤ first →
+        first ≤ length (left_journal (input_published journal input)).messages + 1 →
+        start.progress.arbitration.view ≡ fresh journal.session first window →
+        start.progress.outgoing.text ≡ [] → start.progress.outgoing.format ≡ BlocksToEmpty →
+        start.progress.outgoing.stopped ≡ None →
+        OwnPorts start start_left rounds rounds_left →
+        LoopRun reporting drops a b to turns limit 0 (input_published journal input) server start rounds result old new
+        errors_old errors_new start_left rounds_left →
+        PrintsToEmpty (left_journal (input_published journal input)) first result old new }
     ensures stopped { (format : MessageFormat) (reporting : Bool) (drops : Drops) (a b to : D.Peer)
         (turns limit first window : ℕ) (journal : JournalState) (input : InputEntries) (why : MessageRefusal)
         (server : ServerState) (start start_left : LineState D.Peer) (rounds rounds_left : RepairState D.Peer)
@@ -80,6 +113,7 @@ pub fn loop_law<D: Datagrams>()
         1 ≤ first → first ≤ length (input_published journal input).journal.messages + 1 →
         start.progress.arbitration.view ≡ fresh journal.session first window →
         start.progress.outgoing.text ≡ [] → start.progress.outgoing.format ≡ format →
+        start.progress.outgoing.stopped ≡ None →
         OwnPorts start start_left rounds rounds_left →
         LoopRun reporting drops a b to turns limit 0 (input_published journal input) server start rounds result old new
         errors_old errors_new start_left rounds_left →
@@ -92,6 +126,7 @@ pub fn loop_law<D: Datagrams>()
         IsServer server → journal.max_message ≤ server.max_message →
         1 ≤ first → first ≤ length lines + 1 → start.progress.arbitration.view ≡ fresh journal.session first window →
         start.progress.outgoing.text ≡ [] → start.progress.outgoing.format ≡ Lines →
+        start.progress.outgoing.stopped ≡ None →
         OwnPorts start start_left rounds rounds_left →
         LoopRun reporting drops a b to turns limit 0 (lines_published journal lines) server start rounds result old new
         errors_old errors_new start_left rounds_left → PrintsLines reporting lines first result old new }
@@ -103,6 +138,7 @@ pub fn loop_law<D: Datagrams>()
         1 ≤ first → first ≤ length (lines_published journal lines).journal.messages + 1 →
         start.progress.arbitration.view ≡ fresh journal.session first window →
         start.progress.outgoing.text ≡ [] → start.progress.outgoing.format ≡ Lines →
+        start.progress.outgoing.stopped ≡ None →
         OwnPorts start start_left rounds rounds_left →
         LoopRun reporting drops a b to turns limit 0 (lines_published journal lines) server start rounds result old new
         errors_old errors_new start_left rounds_left →
@@ -112,6 +148,7 @@ pub fn loop_law<D: Datagrams>()
     served_law::<D>();
     lines_published_law();
     blocks_law();
+    blocks_to_empty_law();
     honest_stays_law();
     honest_take_law();
     taken_law();

@@ -194,11 +194,12 @@ tally_is port requests same = ap (responder_with port requests) same
 pub wrote : {P : Type 0} (port : Port P) (before : Tally) (left : OutgoingState) (requests : ℕ) (front : List ℕ) →
     before.outgoing.text ≡ front ++ left.text → left.failures ≡ before.outgoing.failures →
     left.side ≡ before.outgoing.side → left.format ≡ before.outgoing.format →
+    left.stopped ≡ before.outgoing.stopped →
     responder_with port requests before ≡ behind front (responder_with port requests (with_outgoing left before))
-wrote port before left requests front parts failures side format =
+wrote port before left requests front parts failures side format stopped =
     tally_is port requests
     (ap (λ (out : OutgoingState). with_outgoing out before)
-    (written_front before.outgoing left front parts failures side format))
+    (written_front before.outgoing left front parts failures side format stopped))
 
 -- the server answers from the same journal, with the same limits
 pub same_service : (journal : JournalState) (server first : ServerState) (answered : ℕ) →

@@ -1,5 +1,5 @@
 -- The text that a loop still has to write, and its count of failed sends and receives.
-use Rattle.std.specs.Prelude.{◌≡◌, ◌<◌, ℕ, ◌+◌, ◌-◌, ◌^◌, min, Bool, true, List, [], ◌++◌, length}
+use Rattle.std.specs.Prelude.{◌≡◌, ◌<◌, ℕ, ◌+◌, ◌-◌, ◌^◌, min, Bool, true, List, [], ◌++◌, length, Option, None}
 use Rattle.mold_devices.specs.Devices.{one_more}
 use Rattle.mold_devices.specs.declared.output.TheConstants.{LARGE}
 use Rattle.mold_input.specs.declared.message_format.MessageFormat.{MessageFormat}
@@ -14,10 +14,13 @@ pub record OutgoingState : Type 0 where
   pub failures : ℕ
   -- the format in which messages are printed
   pub format : MessageFormat
+  -- the number of the empty message before which printing stopped, if it stopped
+  pub stopped : Option ℕ
 
--- The outgoing state at the start, if messages are printed in this format: no text and no failure.
+-- The outgoing state at the start, if messages are printed in this format: no text and no failure, and printing has not
+-- stopped.
 abbrev pub nothing_in : MessageFormat → OutgoingState
-nothing_in format = record { text = []; side = []; failures = 0; format = format }
+nothing_in format = record { text = []; side = []; failures = 0; format = format; stopped = None }
 
 -- The outgoing state at the start, if messages are printed as lines.
 abbrev pub nothing_out : OutgoingState
@@ -43,6 +46,7 @@ with_more more outgoing = record {
   side = outgoing.side;
   failures = outgoing.failures;
   format = outgoing.format;
+  stopped = outgoing.stopped;
 }
 
 -- The state after `more` was appended to the text for standard output, and `beside` to that for standard error.
@@ -52,6 +56,17 @@ with_both more beside outgoing = record {
   side = outgoing.side ++ beside;
   failures = outgoing.failures;
   format = outgoing.format;
+  stopped = outgoing.stopped;
+}
+
+-- The state with this number of the empty message before which printing stopped, or with none.
+abbrev pub with_stop : Option ℕ → OutgoingState → OutgoingState
+with_stop stop outgoing = record {
+  text = outgoing.text;
+  side = outgoing.side;
+  failures = outgoing.failures;
+  format = outgoing.format;
+  stopped = stop;
 }
 
 -- The state after a note was appended.
@@ -66,6 +81,7 @@ with_front front outgoing = record {
   side = outgoing.side;
   failures = outgoing.failures;
   format = outgoing.format;
+  stopped = outgoing.stopped;
 }
 
 -- The state with `front` put before its text for standard output, and `said` before that for standard error.
@@ -75,6 +91,7 @@ with_fronts front said outgoing = record {
   side = said ++ outgoing.side;
   failures = outgoing.failures;
   format = outgoing.format;
+  stopped = outgoing.stopped;
 }
 
 -- The state after the text for standard error was written.
@@ -84,6 +101,7 @@ said_out outgoing = record {
   side = [];
   failures = outgoing.failures;
   format = outgoing.format;
+  stopped = outgoing.stopped;
 }
 
 -- The state after one send or receive failed.
@@ -93,6 +111,7 @@ failed_once outgoing = record {
   side = outgoing.side;
   failures = one_more outgoing.failures;
   format = outgoing.format;
+  stopped = outgoing.stopped;
 }
 
 -- The state after `count` sends or receives failed. The count of failures is at most 18446744073709551615.
@@ -102,6 +121,7 @@ failed_often count outgoing = record {
   side = outgoing.side;
   failures = min (outgoing.failures + count) (2 ^ 64 - 1);
   format = outgoing.format;
+  stopped = outgoing.stopped;
 }
 
 -- The format is the same. If messages are printed as lines, the text for standard error is the same too.

@@ -28,6 +28,9 @@ pub struct Outgoing {
     pub text: Vec<u8>,
     /// The text that is still to be written to standard error. New notes are appended to it.
     pub side: Vec<u8>,
+    /// The number of the empty message before which printing stopped, if it stopped. Only in the format `BlocksToEmpty`
+    /// an empty message stops it, since its block would mark the end.
+    pub stopped: Option<u64>,
     failures: u64,
     format: MessageFormat,
 }
@@ -42,6 +45,7 @@ impl Model for Outgoing {
       side = d.side.items;
       failures = d.failures;
       format = d.format;
+      stopped = d.stopped;
     } };
 }
 
@@ -60,6 +64,7 @@ impl Outgoing {
         Outgoing {
             text: Vec::new(alloc),
             side: Vec::new(alloc),
+            stopped: None,
             failures: 0,
             format,
         }
@@ -157,6 +162,7 @@ impl Outgoing {
         ensures failures { self.new.failures ≡ self.old.failures }
         ensures side { self.new.side ≡ self.old.side }
         ensures format { self.new.format ≡ self.old.format }
+        ensures stopped { self.new.stopped ≡ self.old.stopped }
         ensures front { AppendsPrefix (K.held sink.old) (K.held sink.new) self.old.text }
         ensures fault { IfErr result (λ fault. fault ≡ CommandFault.Write) }
         ensures sink { Counts (K.failed sink.old) (K.failed sink.new) result }
@@ -175,6 +181,7 @@ impl Outgoing {
         ensures failures { self.new.failures ≡ self.old.failures }
         ensures side { self.new.side ≡ self.old.side }
         ensures format { self.new.format ≡ self.old.format }
+        ensures stopped { self.new.stopped ≡ self.old.stopped }
         ensures live { K.live sink.new ≡ K.live sink.old }
     {
         end_with(sink, &mut self.text, len, met)
@@ -189,6 +196,7 @@ impl Outgoing {
         ensures failures { self.new.failures ≡ self.old.failures }
         ensures side { self.new.side ≡ self.old.side }
         ensures format { self.new.format ≡ self.old.format }
+        ensures stopped { self.new.stopped ≡ self.old.stopped }
         ensures front { AppendsPrefix (K.held sink.old) (K.held sink.new) self.old.text }
         ensures fault { IfErr result (λ fault. fault ≡ CommandFault.Write) }
         ensures sink { Counts (K.failed sink.old) (K.failed sink.new) result }

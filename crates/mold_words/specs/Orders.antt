@@ -70,18 +70,9 @@ format_of true false = Some Blocks
 format_of true true = Some BlocksToEmpty
 format_of false true = None
 
--- How the input, or the output of `dump`, encodes messages, if the flags are valid together. Without flags it is lines.
+-- How the input or the output encodes messages, if the flags are valid together. Without flags it is lines.
 unfoldable pub format_in : List Row → Option MessageFormat
 format_in rows = format_of (flag_in (codes "blocks") rows) (flag_in (codes "end-at-empty") rows)
-
--- The format that the flag `--blocks` chooses for the output of `listen`, and for input and output of `loop`.
-abbrev pub output_of : Bool → MessageFormat
-output_of false = Lines
-output_of true = Blocks
-
--- The format in which messages are printed.
-abbrev pub output_in : List Row → MessageFormat
-output_in rows = output_of (flag_in (codes "blocks") rows)
 
 -- The limits of the publisher and of its server, if the server's is at least the publisher's.
 unfoldable pub limits_in : List Row → Option (ℕ × ℕ)
@@ -216,7 +207,8 @@ listen_of rows =
     (λ b. option_and_then
     (λ server. option_and_then
     (λ burst. option_and_then
-    (λ turns. Some (listen_wanted (record {
+    (λ turns. option_and_then
+    (λ output. Some (listen_wanted (record {
       session = session;
       next = next;
       window = window;
@@ -227,8 +219,9 @@ listen_of rows =
       turns = turns;
       live = live_in rows;
       report = report_in rows;
-      output = output_in rows;
+      output = output;
     })))
+    (format_in rows))
     (turns_in rows))
     (burst_in rows))
     (address_in (codes "server") rows))
@@ -248,7 +241,8 @@ loop_of rows =
     (λ burst. option_and_then
     (λ drop_a. option_and_then
     (λ drop_b. option_and_then
-    (λ turns. Some (loop_wanted (record {
+    (λ turns. option_and_then
+    (λ format. Some (loop_wanted (record {
       session = session;
       limit = limits.0;
       server_limit = limits.1;
@@ -258,8 +252,9 @@ loop_of rows =
       drop_b = drop_b;
       turns = turns;
       report = report_in rows;
-      format = output_in rows;
+      format = format;
     })))
+    (format_in rows))
     (turns_in rows))
     (number_in (codes "drop-b") 0 0 1000 rows))
     (number_in (codes "drop-a") 0 0 1000 rows))

@@ -38,14 +38,14 @@ commands =
       (codes "session", Required) ∷ (codes "next", Optional) ∷ (codes "window", Optional)
           ∷ (codes "a", Required) ∷ (codes "b", Required) ∷ (codes "server", Required)
           ∷ (codes "burst", Optional) ∷ (codes "turns", Optional) ∷ (codes "live", Flag)
-          ∷ (codes "report", Flag) ∷ (codes "blocks", Flag) ∷ [],
+          ∷ (codes "report", Flag) ∷ (codes "blocks", Flag) ∷ (codes "end-at-empty", Flag) ∷ [],
     )
     ∷ (
       codes "loop",
       (codes "session", Required) ∷ (codes "limit", Optional) ∷ (codes "server-limit", Optional)
           ∷ (codes "window", Optional) ∷ (codes "burst", Optional) ∷ (codes "drop-a", Optional)
           ∷ (codes "drop-b", Optional) ∷ (codes "turns", Optional) ∷ (codes "report", Flag)
-          ∷ (codes "blocks", Flag) ∷ [],
+          ∷ (codes "blocks", Flag) ∷ (codes "end-at-empty", Flag) ∷ [],
     )
     ∷ (codes "upgrade", (codes "journal", Required) ∷ (codes "to", Required) ∷ (codes "close", Flag) ∷ [])
     ∷ (

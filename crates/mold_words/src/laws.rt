@@ -167,6 +167,8 @@ pub fn serve_taken_law()
 /// `listen --session MKT --a .. --b .. --server ..` is accepted, and asks to print the session `MKT` from message 1
 /// on. The window has 1,024 messages, a request has one response, and there are at most 1,000 turns. `--live` asks to
 /// write text at the end of each turn, `--report` for reports of both lines, and `--blocks` for messages as blocks.
+/// Together with `--end-at-empty` it asks for blocks with an empty block as the mark of the end. `--end-at-empty`
+/// without `--blocks` is refused.
 pub fn listen_taken_law()
     ensures usual { Say
         (codes "listen" ∷ codes "--session" ∷ codes "MKT" ∷ codes "--a" ∷ codes "127.0.0.1:9000"
@@ -232,11 +234,32 @@ pub fn listen_taken_law()
           report = false;
           output = Blocks;
         })) }
+    ensures to_empty { Say
+        (codes "listen" ∷ codes "--end-at-empty" ∷ codes "--blocks" ∷ codes "--session" ∷ codes "MKT"
+        ∷ codes "--a" ∷ codes "0.0.0.0:0" ∷ codes "--b" ∷ codes "0.0.0.0:0" ∷ codes "--server" ∷ codes "0.0.0.0:0"
+        ∷ [])
+        (listen_wanted (record {
+          session = codes "MKT       ";
+          next = 1;
+          window = 1024;
+          a = (0 ∷ 0 ∷ 0 ∷ 0 ∷ [], 0);
+          b = (0 ∷ 0 ∷ 0 ∷ 0 ∷ [], 0);
+          server = (0 ∷ 0 ∷ 0 ∷ 0 ∷ [], 0);
+          burst = 1;
+          turns = 1000;
+          live = false;
+          report = false;
+          output = BlocksToEmpty;
+        })) }
+    ensures no_blocks { order_of
+        (codes "listen" ∷ codes "--end-at-empty" ∷ codes "--session" ∷ codes "MKT" ∷ codes "--a" ∷ codes "0.0.0.0:0"
+        ∷ codes "--b" ∷ codes "0.0.0.0:0" ∷ codes "--server" ∷ codes "0.0.0.0:0" ∷ []) ≡ None }
 {}
 
 /// `loop --session MKT` is accepted, and asks to run the session `MKT` in one process. The limits are 1,400 bytes, the
 /// window is 1,024 messages, a request has one response, and there are at most 1,000 rounds. No packet is left out.
-/// Messages are lines. `--report` asks for reports of both lines, and `--blocks` for messages as blocks.
+/// Messages are lines. `--report` asks for reports of both lines, and `--blocks` for messages as blocks. Together with
+/// `--end-at-empty` it asks for blocks up to an empty one. `--end-at-empty` without `--blocks` is refused.
 pub fn loop_taken_law()
     ensures usual { Say (codes "loop" ∷ codes "--session" ∷ codes "MKT" ∷ [])
         (loop_wanted (record {
@@ -277,6 +300,22 @@ pub fn loop_taken_law()
           report = false;
           format = Blocks;
         })) }
+    ensures to_empty { Say
+        (codes "loop" ∷ codes "--session" ∷ codes "MKT" ∷ codes "--blocks" ∷ codes "--end-at-empty" ∷ [])
+        (loop_wanted (record {
+          session = codes "MKT       ";
+          limit = 1400;
+          server_limit = 1400;
+          window = 1024;
+          burst = 1;
+          drop_a = 0;
+          drop_b = 0;
+          turns = 1000;
+          report = false;
+          format = BlocksToEmpty;
+        })) }
+    ensures no_blocks { order_of
+        (codes "loop" ∷ codes "--session" ∷ codes "MKT" ∷ codes "--end-at-empty" ∷ []) ≡ None }
 {}
 
 /// `upgrade --journal A --to B` is accepted, and asks to write the journal in `A` to `B`. `--close` asks to close the

@@ -4,7 +4,7 @@ ghost use Rattle.std.specs.Prelude.{◌≡◌, ◌≤◌, IfOk, MatchResult, Non
 ghost use Rattle.std.specs.List.{list_all};
 ghost use Rattle.clap.specs.Words.{first_of, found_of, rows_of};
 ghost use Rattle.mold_words.specs.NoOrders.{LacksOrder, LacksValue, is_address};
-ghost use Rattle.mold_words.specs.Orders.{output_in, address_in, burst_in, flag_in, has_no_address, format_in, is_no_address};
+ghost use Rattle.mold_words.specs.Orders.{address_in, burst_in, flag_in, has_no_address, format_in, is_no_address};
 ghost use Rattle.mold_words.specs.Orders.{limit_in};
 ghost use Rattle.mold_words.specs.Orders.{limits_in, live_in, number_in, report_in, session_in, turns_in, window_in};
 ghost use Rattle.mold_words.specs.Values.{is_character};
@@ -166,7 +166,7 @@ pub(crate) fn report_in(options: &ArgMatches<'_>) -> bool
     flag_in(options, "report")
 }
 
-/// Returns how the input, or the output of `dump`, encodes messages. `--end-at-empty` is refused without `--blocks`.
+/// Returns how the input or the output encodes messages. `--end-at-empty` is refused without `--blocks`.
 #[tactic(auto, unfolding(crate::specs::Orders::format_in))]
 pub(crate) fn format_in(options: &ArgMatches<'_>) -> Result<MessageFormat, NoOrder>
     ensures { MatchResult result
@@ -178,16 +178,6 @@ pub(crate) fn format_in(options: &ArgMatches<'_>) -> Result<MessageFormat, NoOrd
         (true, false) => Ok(MessageFormat::Blocks),
         (true, true) => Ok(MessageFormat::BlocksToEmpty),
         (false, true) => Err(NoOrder::EndWithoutBlocks),
-    }
-}
-
-/// Returns the format in which messages are printed.
-pub(crate) fn output_in(options: &ArgMatches<'_>) -> MessageFormat
-    ensures { result ≡ output_in (rows_of (found_of options.now)) }
-{
-    match flag_in(options, "blocks") {
-        false => MessageFormat::Lines,
-        true => MessageFormat::Blocks,
     }
 }
 

@@ -13,8 +13,7 @@ use crate::loop_order::LoopOrder;
 use crate::no_order::NoOrder;
 use crate::options::{
     address_in, burst_in, check_addresses, flag_in, format_in, limit_in, limits_in, live_in,
-    number_in, output_in, report_in, required_in, session_in, string_in, text_in, turns_in,
-    window_in,
+    number_in, report_in, required_in, session_in, string_in, text_in, turns_in, window_in,
 };
 use crate::pack_journal_order::PackJournalOrder;
 use crate::pack_order::PackOrder;
@@ -232,6 +231,7 @@ fn listen_order(options: &ArgMatches<'_>) -> Result<Order, NoOrder>
     let server = address_in(options, "server")?;
     let burst = burst_in(options)?;
     let turns = turns_in(options)?;
+    let format = format_in(options)?;
     Ok(Order::Listen(ListenOrder {
         session,
         next,
@@ -243,7 +243,7 @@ fn listen_order(options: &ArgMatches<'_>) -> Result<Order, NoOrder>
         turns,
         live: live_in(options),
         report: report_in(options),
-        output: output_in(options),
+        output: format,
     }))
 }
 
@@ -260,6 +260,7 @@ fn loop_order(options: &ArgMatches<'_>) -> Result<Order, NoOrder>
     let drop_a = number_in(options, "drop-a", 0, 0, 1000)?;
     let drop_b = number_in(options, "drop-b", 0, 0, 1000)?;
     let turns = turns_in(options)?;
+    let format = format_in(options)?;
     Ok(Order::Loop(LoopOrder {
         session,
         limits,
@@ -269,6 +270,6 @@ fn loop_order(options: &ArgMatches<'_>) -> Result<Order, NoOrder>
         drop_b: drop_b as u32,
         turns,
         report: report_in(options),
-        format: output_in(options),
+        format,
     }))
 }

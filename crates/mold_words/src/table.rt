@@ -131,6 +131,22 @@ const END_AT_EMPTY: OptionRow = OptionRow {
     help: "End the input of --blocks before its first empty block, which must exist",
 };
 
+// Ends the output of blocks with an empty one.
+const END_AT_EMPTY_OUT: OptionRow = OptionRow {
+    name: "end-at-empty",
+    kind: Kind::Flag,
+    help: "End the output of --blocks with an empty block if the session is\n\
+        finished; end with status 2 before an empty message",
+};
+
+// Ends the input of blocks before the first empty one, and their output with an empty one.
+const END_AT_EMPTY_BOTH: OptionRow = OptionRow {
+    name: "end-at-empty",
+    kind: Kind::Flag,
+    help: "End the input of --blocks before its first empty block, and the\n\
+        output with an empty block if the session is finished",
+};
+
 /// The commands, in the order in which help lists them.
 pub static COMMANDS: [CommandRow; 10] = [
     CommandRow {
@@ -287,6 +303,7 @@ pub static COMMANDS: [CommandRow; 10] = [
             LIVE,
             REPORT,
             BLOCKS_OUT,
+            END_AT_EMPTY_OUT,
         ],
         example: "Example:\n  mold listen --session SESSION001 --a 127.0.0.1:9001 --b 127.0.0.1:9002 \\\
             \n    --server 127.0.0.1:9003 --turns 1000000 > received",
@@ -319,6 +336,7 @@ pub static COMMANDS: [CommandRow; 10] = [
             },
             REPORT,
             BLOCKS_BOTH,
+            END_AT_EMPTY_BOTH,
         ],
         example: "Example:\n  printf '4142\\n4344\\n' | mold loop --session SESSION001 --drop-a 1 --drop-b 1",
     },

@@ -65,3 +65,53 @@ finished next 4 failed 1
 fn listen_in_blocks(rt: HostRuntime) -> Result<(), Fail> {
     expect(&rt, &BLOCKS, 0)
 }
+
+// The same, and an empty block at the end.
+const BLOCKS_TO_EMPTY: Case = Case {
+    format: MessageFormat::BlocksToEmpty,
+    text: b"\0\x01A\0\x01B\0\x01C\0\0",
+    ..BLOCKS
+};
+
+#[test]
+fn an_empty_block_ends_a_finished_session(rt: HostRuntime) -> Result<(), Fail> {
+    expect(&rt, &BLOCKS_TO_EMPTY, 0)
+}
+
+// The session is open after its first turn.
+const OPEN_BLOCKS: Case = Case {
+    turns: 1,
+    reporting: false,
+    outcome: Ok(1),
+    text: b"\0\x01A",
+    side: b"open next 2 known 2 failed 0\n",
+    left: [3, 1, 2],
+    requests: &[],
+    ..BLOCKS_TO_EMPTY
+};
+
+#[test]
+fn no_empty_block_ends_an_open_session(rt: HostRuntime) -> Result<(), Fail> {
+    expect(&rt, &OPEN_BLOCKS, 0)
+}
+
+// Messages 2 and 3. The first of them is empty.
+const DATA_EMPTY: Given = Given::Bytes(b"SESSION001\0\0\0\0\0\0\0\x02\0\x02\0\0\0\x01C");
+
+// Message 2 ends the session in the second turn, whose datagram on line B is refused.
+const EMPTY_MESSAGE: Case = Case {
+    a: &[DATA_1, DATA_EMPTY, END_4],
+    b: &[Given::Quiet, Given::Bytes(b"\0"), END_4],
+    responses: &[],
+    outcome: Ok(2),
+    text: b"\0\x01A",
+    side: b"refused Malformed Short 1\nrefused Empty 2\n",
+    left: [1, 1, 0],
+    requests: &[],
+    ..BLOCKS_TO_EMPTY
+};
+
+#[test]
+fn an_empty_message_ends_the_blocks(rt: HostRuntime) -> Result<(), Fail> {
+    expect(&rt, &EMPTY_MESSAGE, 0)
+}

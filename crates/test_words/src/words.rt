@@ -245,14 +245,14 @@ fn arguments_of_serve(rt: HostRuntime) {
     expect_orders(&rt, SERVE);
 }
 
-// The first message, the window, the burst, the turns, `--live`, `--report` and `--blocks`.
+// The first message, the window, the burst, the turns, `--live`, `--report`, and the format of the output.
 const LISTEN: &[OrderLine] = &[(
     "listen --session MKT --next 9223372036854775807 --window 4 --a 127.0.0.1:1 --b \
-            127.0.0.1:2 --server 127.0.0.1:3 --burst 2 --turns 5 --live --report --blocks",
+            127.0.0.1:2 --server 127.0.0.1:3 --burst 2 --turns 5 --live --report --blocks --end-at-empty",
     Values {
         command: "listen",
         session: b"MKT       ",
-        numbers: &[9_223_372_036_854_775_807, 4, 2, 5, 1, 1, 1],
+        numbers: &[9_223_372_036_854_775_807, 4, 2, 5, 1, 1, 2],
         addresses: &[
             Address {
                 host: [127, 0, 0, 1],
@@ -276,14 +276,14 @@ fn arguments_of_listen(rt: HostRuntime) {
     expect_orders(&rt, LISTEN);
 }
 
-// Both limits, the window, the burst, the drops of line A and line B, the turns, `--report` and `--blocks`.
+// Both limits, the window, the burst, the drops of line A and line B, the turns, `--report`, and the format.
 const LOOP: &[OrderLine] = &[(
     "loop --session MKT --limit 64 --server-limit 65 --window 4 --burst 2 --drop-a \
-            3 --drop-b 1000 --turns 5 --report --blocks",
+            3 --drop-b 1000 --turns 5 --report --blocks --end-at-empty",
     Values {
         command: "loop",
         session: b"MKT       ",
-        numbers: &[64, 65, 4, 2, 3, 1000, 5, 1, 1],
+        numbers: &[64, 65, 4, 2, 3, 1000, 5, 1, 2],
         addresses: &[],
         texts: &[],
     },

@@ -1,8 +1,9 @@
-use Rattle.mold_input.specs.declared.message_format.MessageFormat.TheVariants.{Blocks}
+use Rattle.mold_input.specs.declared.message_format.MessageFormat.TheVariants.{Blocks, BlocksToEmpty}
 use Rattle.mold_feed.specs.Received.{CanReceive}
 use Rattle.mold_feed.proofs.BlocksPrintedLemmas.{prints_blocks_among}
 use Rattle.mold_feed.proofs.OpeningLemmas.{OpeningLaws, left_by}
 use Rattle.mold_feed.proofs.SessionLawLemmas.{FeedLaws, session_prints_among, session_prints_messages}
+use Rattle.mold_feed.proofs.ToEmptyLemmas.{prints_to_empty_among}
 use Rattle.mold_feed.proofs.laws.session_law.Given.{Over}
 use Rattle.mold_feed.proofs.laws.session_law.Goals.{After-honest_stays_law}
 use Rattle.mold_feed.proofs.laws.session_law.Goals as goal
@@ -45,3 +46,11 @@ returns-clause-blocks g c =
     prints_blocks_among (CanReceive (beginning Blocks a b requests arbitration)) (left_by journal input)
     (session_prints_among (laws g c) limit journal input opening first window least within arbitration anew Blocks
     reporting burst turns server a b requests _ result old new sent ran hears)
+
+pub returns-clause-to_empty : goal.returns-clause-to_empty
+returns-clause-to_empty g c =
+    λ reporting limit first window turns burst journal input server a b requests arbitration a_left b_left requests_left
+    left result old new sent opening least within anew hears ran.
+    prints_to_empty_among (CanReceive (beginning BlocksToEmpty a b requests arbitration)) (left_by journal input)
+    (session_prints_among (laws g c) limit journal input opening first window least within arbitration anew
+    BlocksToEmpty reporting burst turns server a b requests _ result old new sent ran hears)

@@ -1,4 +1,4 @@
-use Rattle.std.proofs.Common.{◌≡◌, ◌∙◌, ◌+◌, ◌≤◌, List, length, take, None, Option, Some, ap, arith, subst, sym, ℕ}
+use Rattle.std.proofs.Common.{◌≡◌, ◌∙◌, ◌+◌, List, length, take, None, Option, Some, ap, arith, subst, sym, ℕ}
 use Rattle.mold_feed.specs.Received.{CanReceive, PrintsAmong}
 use Rattle.mold_feed.specs.Sent.{IsOpening, lines_input}
 use Rattle.mold_feed.proofs.LinesPrintedLemmas.{all_lines, lines_before, lines_within, prints_lines}

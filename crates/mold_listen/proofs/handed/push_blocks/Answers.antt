@@ -1,11 +1,11 @@
-use Rattle.std.proofs.Common.{arith, ◌≡◌, sym, ◌∙◌, ap, ◌++◌, ◌<◌, ◌-◌, length, ℕ, List, Result, Ok, Err}
+use Rattle.std.proofs.Common.{arith, sym, ◌∙◌, ap, ◌++◌, ◌<◌, ◌-◌, length, ℕ, Result, Ok, Err}
 use Rattle.std.specs.Prelude.{OnErr}
 use Rattle.mold_input.specs.declared.message_format.MessageFormat.TheVariants.{Blocks}
 use Rattle.mold_turns.proofs.PrintingLemmas.{begins_kept, kept_begins}
-use Rattle.mold_turns.proofs.RunLemmas.{begins_more, begins_trans, begins_whole}
+use Rattle.mold_turns.proofs.RunLemmas.{begins_trans, begins_whole}
 use Rattle.mold_wire.specs.Block.{block}
 use Rattle.mold_listen.specs.Text.{handed_text}
-use Rattle.mold_listen.proofs.HandedLemmas.{first_is, after_is, none_within, handed_more, handed_all, handed_init, same_blocks}
+use Rattle.mold_listen.proofs.HandedLemmas.{first_is, after_is, none_within, handed_more, handed_all, handed_init}
 use Rattle.mold_listen.proofs.handed.push_blocks.Goals as goal
 use Rattle.mold_listen.proofs.handed.push_blocks.Goals.{in-Some+in_ok-push_block, in_default-get}
 
@@ -45,12 +45,6 @@ returns-clause-text c =
     handed_all Blocks c.loop-number.number c.in-Some-Some.first c.args.batch.now.messages _ _
     (omega (arith, after, first, c.loop-number-test.false)) c.loop-number.invariant.printed
     ∙ ap (λ (n : ℕ). c.args.out.now.items ++ handed_text Blocks n c.args.batch.now.messages) first
-
-pub returns-clause-marked : goal.returns-clause-marked
-returns-clause-marked c =
-    returns-clause-text c
-    ∙ ap (λ (text : List ℕ). c.args.out.now.items ++ text)
-    (same_blocks c.args.batch.now.first c.args.batch.now.messages)
 
 -- after a failed allocation
 if_err : {T E : Type 0} (result : Result T E) {P : Type 0} → P → OnErr result P

@@ -93,7 +93,8 @@ returns-clause-writes g c =
       side = begins_whole c.args.outgoing.now.side;
       whole =
           said_front c.args.outgoing.now c.send_side.new.self c.send_large.new.self moves.front empty moves.parts
-          c.in_ok-send_large.ensures.failures c.in_ok-send_large.ensures.side c.in_ok-send_large.ensures.format;
+          c.in_ok-send_large.ensures.failures c.in_ok-send_large.ensures.side c.in_ok-send_large.ensures.format
+          c.in_ok-send_large.ensures.stopped;
     }
 
 pub returns-clause-said : goal.returns-clause-said

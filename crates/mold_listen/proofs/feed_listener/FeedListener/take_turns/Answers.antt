@@ -1,11 +1,11 @@
-use Rattle.std.proofs.Common.{arith, ◌≡◌, ◌∙◌, ℕ, Bool, inr, refl, subst}
+use Rattle.std.proofs.Common.{arith, ◌≡◌, ◌∙◌, ℕ, Bool, inr, refl, subst, sym}
 use Rattle.mold_devices.specs.Faults.{CountsSinkFault}
 use Rattle.mold_turns.proofs.FaultLemmas.{counts_same, two_same}
 use Rattle.mold_turns.proofs.RunLemmas.{beside_init, beside_rests_all, beside_rests_broken, beside_rests_turned}
 use Rattle.mold_turns.proofs.RunLemmas.{beside_turned, in_time, on_err}
 use Rattle.mold_turns.specs.Outgoing.{IsBounded}
 use Rattle.mold_listen.specs.Listening.{IsInNextTurn}
-use Rattle.mold_listen.proofs.TurnLemmas.{finished_is, is_beside, is_loop, same_at_first, same_twice}
+use Rattle.mold_listen.proofs.TurnLemmas.{is_beside, is_loop, same_at_first, same_twice}
 use Rattle.mold_listen.proofs.feed_listener.FeedListener.take_turns.Goals as goal
 
 pub loop-turn-init : goal.loop-turn-init
@@ -26,8 +26,7 @@ loop-turn-init g c = record {
 pub loop-turn-preserved : goal.loop-turn-preserved
 loop-turn-preserved g c = record {
   going = λ t.
-      let on = finished_is c.finished.result c.receiver.result.now c.write_turn.new.self.arbiter.now.view c.finished.ensures
-      c.receiver.ensures ∙ c.if-finished.false in
+      let on = sym c.is_over.ensures ∙ c.if-is_over.false in
       beside_turned (is_loop c.args.options.server c.args.options.burst)
       (is_beside c.args.options.server c.args.options.burst) _ (c.loop-turn.invariant.going t)
       (c.in_ok-write_turn.ensures.run t) on;
@@ -75,11 +74,10 @@ returns-in_err-write_turn-clause-timely g c =
     (inr (c.write_turn.ensures.a t, c.write_turn.ensures.b t)) (c.loop-turn.invariant.bounded bounded)
     turned.turn.appended)
 
-pub returns-then-finished : goal.returns-then-finished
-returns-then-finished g c = record {
+pub returns-then-is_over : goal.returns-then-is_over
+returns-then-is_over g c = record {
   run = λ t.
-      let over = finished_is c.finished.result c.receiver.result.now c.write_turn.new.self.arbiter.now.view
-      c.finished.ensures c.receiver.ensures ∙ c.if-finished.true in
+      let over = sym c.is_over.ensures ∙ c.if-is_over.true in
       beside_rests_turned (is_loop c.args.options.server c.args.options.burst)
       (is_beside c.args.options.server c.args.options.burst) c.args.options.turns _
       (c.loop-turn.invariant.going t) c.loop-turn-test.true (c.in_ok-write_turn.ensures.run t) over;

@@ -129,7 +129,7 @@ returns-clause-run g c = λ t.
           (record { front = moves.front; parts = parts; appended = moves.appended })
           (moved_same _ _ _ _ c.take_turn.new.self.printer.now.outgoing c.send_side.new.self c.send_large.new.self
           moves.front empty moves.parts c.in_ok-send_large.ensures.failures c.in_ok-send_large.ensures.side
-          c.in_ok-send_large.ensures.format);
+          c.in_ok-send_large.ensures.format c.in_ok-send_large.ensures.stopped);
       front =
           subst (λ (s : ListenerState _). Begins (side_text made) (side_text s)) turned.whole
           (begins_whole (side_text made));

@@ -1,7 +1,7 @@
 use Rattle.std.proofs.Common.{ap}
 use Rattle.std.proofs.lemmas.Result.{on_ok_weaker}
 use Rattle.mold_turns.specs.Outgoing.{OutgoingState}
-use Rattle.mold_turns.proofs.PrintingLemmas.{begins_pushed, begins_with_more}
+use Rattle.mold_turns.proofs.PrintingLemmas.{begins_pushed}
 use Rattle.mold_receiver.specs.Origin.{line_of}
 use Rattle.mold_listen.proofs.ListenLemmas.{taken_ok}
 use Rattle.mold_listen.proofs.printer.Printer.take.Goals as goal
@@ -16,7 +16,9 @@ returns-in-Ok-clause-taken c =
 
 pub returns-in-Ok-clause-prints : goal.returns-in-Ok-clause-prints
 returns-in-Ok-clause-prints c =
-    begins_with_more c.print_handed.result _ _ _ c.print_handed.ensures.text c.print_handed.ensures.kept
+    begins_pushed c.print_handed.result _ _ _
+    (on_ok_weaker c.print_handed.result (λ is. ap (λ (o : OutgoingState). o.text) is) c.print_handed.ensures.text)
+    c.print_handed.ensures.kept
 
 pub returns-in-Err-clause-prints : goal.returns-in-Err-clause-prints
 returns-in-Err-clause-prints c =

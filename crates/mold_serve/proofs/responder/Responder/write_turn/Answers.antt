@@ -76,7 +76,8 @@ returns-clause-rests g c modeled =
     turn_sent (serving_is (service c.args.self.now)) _ turned.0 (state g.D.Datagrams.port c.take_turn.new.self) _
     turned.1.whole c.in_ok-send_large.ensures.moved
     (wrote _ c.take_turn.new.self.tally.now c.send_large.new.self _ _ c.in_ok-send_large.ensures.moved.parts
-    c.in_ok-send_large.ensures.failures c.in_ok-send_large.ensures.side c.in_ok-send_large.ensures.format)
+    c.in_ok-send_large.ensures.failures c.in_ok-send_large.ensures.side c.in_ok-send_large.ensures.format
+    c.in_ok-send_large.ensures.stopped)
 
 pub returns-clause-same : goal.returns-clause-same
 returns-clause-same g c =
