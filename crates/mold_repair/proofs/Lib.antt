@@ -1,0 +1,3 @@
+pub mod TakingLemmas
+pub mod GapLemmas
+pub mod PollLemmas

@@ -1,0 +1,7 @@
+pub mod Options
+pub mod Origin
+pub mod Came
+pub mod Missing
+pub mod Gaps
+pub mod Taking
+pub mod Polls

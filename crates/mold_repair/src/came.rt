@@ -1,0 +1,35 @@
+//! The numbers that a datagram brought.
+
+ghost use Rattle.std.specs.Prelude.{◌≡◌, ◌+◌, None};
+ghost use Rattle.mold_wire.specs.Reading.{reading};
+ghost use Rattle.mold_pacing.specs.Run.{Takes};
+ghost use Rattle.mold_repair.specs.Came.{came_below, origin_step};
+
+use crate::origin::RepairOrigin;
+use mold_pacing::{Gap, Pacer};
+use mold_wire::decode;
+
+/// Returns the numbers of the datagram's messages that are below `next` plus `window`. The range is empty if the
+/// datagram has no message, or all are past the window.
+pub(crate) fn came_below(datagram: &[u8], next: u64, window: u32) -> Gap
+    ensures { result ≡ came_below (next + window) (reading datagram.now) }
+{
+    let Ok(packet) = decode(datagram) else {
+        return Gap { first: 0, end: 0 };
+    };
+    let end = next.saturating_add(u64::from(window));
+    Gap {
+        first: packet.sequence,
+        end: packet.top().unwrap_or(u64::MAX).min(end),
+    }
+}
+
+/// Reports to the pacer that these numbers came.
+pub(crate) fn report(pacer: &mut Pacer, origin: RepairOrigin, came: Gap)
+    ensures { Takes pacer.old pacer.new (origin_step origin came) None }
+{
+    match origin {
+        RepairOrigin::Line(_) => pacer.arrive(came),
+        RepairOrigin::Server(server) => pacer.respond(server, came),
+    }
+}

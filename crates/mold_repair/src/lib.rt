@@ -1,0 +1,17 @@
+//! The receiver that repairs itself: an arbiter of two lines, which requests what is missing by the policy of
+//! `mold_pacing`. It has no socket and no clock.
+#![tactic(auto)]
+
+mod ask;
+mod came;
+mod error;
+mod gaps;
+mod options;
+mod origin;
+mod repairer;
+
+pub use ask::Ask;
+pub use error::RepairError;
+pub use options::RepairOptions;
+pub use origin::RepairOrigin;
+pub use repairer::Repairer;

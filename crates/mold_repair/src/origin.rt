@@ -1,0 +1,27 @@
+//! Where a datagram came from.
+
+ghost use Rattle.std.specs.Prelude.{◌≡◌};
+ghost use Rattle.mold_repair.specs.Origin.{receiver_origin};
+
+use mold_receiver::{Line, Origin};
+
+/// The origin of a datagram: one of the two lines, or a re-request server.
+#[derive(Clone, Copy, Debug, PartialEq, Eq)]
+pub enum RepairOrigin {
+    /// The datagram came on this line.
+    Line(Line),
+    /// The datagram is a response of the server with this index, from 0.
+    Server(u32),
+}
+
+impl RepairOrigin {
+    /// Returns the origin as the arbiter sees it, to which all servers are alike.
+    pub(crate) fn receiver_origin(self) -> Origin
+        ensures { result ≡ receiver_origin self }
+    {
+        match self {
+            RepairOrigin::Line(line) => Origin::Line(line),
+            RepairOrigin::Server(_) => Origin::Response,
+        }
+    }
+}

@@ -1,0 +1,244 @@
+//! The repairer: a receiver of two lines that requests what is missing.
+
+ghost use Rattle.std.specs.Prelude.{◌≡◌, ◌≤◌, ◌<◌, ◌^◌, true, vec_capacity};
+ghost use Rattle.mold_repair.specs.Options.{ArePacerOptions, are_options};
+ghost use Rattle.mold_repair.specs.declared.gaps.TheConstants.{GAPS as THE_GAPS};
+
+use crate::ask::Ask;
+use crate::came::{came_below, report};
+use crate::error::RepairError;
+use crate::gaps::{GAPS, find_free};
+use crate::options::RepairOptions;
+use crate::origin::RepairOrigin;
+use mold_pacing::{Gap, Pacer};
+use mold_receiver::{Arbiter, Batch, Refusal, Taken};
+use mold_wire::Request;
+use std::alloc::Global;
+
+/// A receiver of two lines that requests what is missing. It has no socket and no clock: its caller hands in the
+/// datagrams and the time, sends the requests that `poll` returns, and calls `poll` again at the `deadline`.
+///
+/// Times are in nanoseconds, and below 2^62. A time below the last one counts as the last one.
+#[derive(Debug, Drop)]
+pub struct Repairer {
+    arbiter: Arbiter,
+    pacer: Pacer,
+    options: RepairOptions,
+    // Buffer for the gaps that are looked at, so that no call takes memory for them.
+    gaps: Vec<Gap>,
+    ghost valid: { are_options options ≡ true },
+    ghost paced: { ArePacerOptions options pacer.options },
+    ghost room: { THE_GAPS ≤ vec_capacity gaps },
+}
+
+impl Repairer {
+    ghost use Rattle.std.specs.Prelude.{[], Err, MatchOption, IfErr, IfNone, IfOk, IfSome, OnErr, OnOk, false, max, ℕ, ◌+◌};
+    ghost use Rattle.mold_pacing.specs.State.{advanced, fresh};
+    ghost use Rattle.mold_pacing.specs.Deadline.{CanAsk};
+    ghost use Rattle.mold_receiver.specs.Arbiter.{HasArbitrated, HasRefused};
+    ghost use Rattle.mold_receiver.specs.Batch.{Follows};
+    ghost use Rattle.mold_receiver.specs.Origin.{line_of};
+    ghost use Rattle.mold_receiver.specs.Wanted.{HasNoGap, IsNextGap};
+    ghost use Rattle.mold_repair.specs.Came.{noted};
+    ghost use Rattle.mold_repair.specs.Missing.{IsMissing, IsWanted};
+    ghost use Rattle.mold_repair.specs.Origin.{receiver_origin};
+    ghost use Rattle.mold_repair.specs.Polls.{HasPolled, HasRequested, IsDeadline, IsStill};
+    ghost use Rattle.mold_repair.specs.Taking.{HasLearned, HasNoted, HasPassed};
+    ghost use Rattle.mold_repair.specs.declared.error.RepairError.TheVariants.{Memory, Options};
+
+    /// Returns a repairer over this arbiter, before any time was reported. It takes the memory for requests here. Later,
+    /// only messages need memory.
+    pub fn new(
+        alloc: Global,
+        arbiter: Arbiter,
+        options: RepairOptions,
+    ) -> Result<Repairer, RepairError>
+        ensures arbiter { IfOk result (λ repairer. repairer.arbiter ≡ arbiter) }
+        ensures options { IfOk result (λ repairer. repairer.options ≡ options) }
+        ensures state { IfOk result
+            (λ repairer. repairer.pacer.state ≡ fresh repairer.pacer.options arbiter.view.known) }
+        ensures empty { IfOk result (λ repairer. repairer.pacer.flights.items ≡ []) }
+        ensures ok { OnOk result (are_options options ≡ true) }
+        ensures invalid { are_options options ≡ false → result ≡ Err Options }
+        ensures memory { are_options options ≡ true → IfErr result (λ error. error ≡ Memory) }
+    {
+        if !options.are_valid() {
+            return Err(RepairError::Options);
+        }
+        let Ok(pacer) = Pacer::new(alloc, options.pacer(), arbiter.receiver().known()) else {
+            return Err(RepairError::Memory);
+        };
+        let Ok(gaps) = Vec::with_capacity(alloc, GAPS) else {
+            return Err(RepairError::Memory);
+        };
+        Ok(Repairer {
+            arbiter,
+            pacer,
+            options,
+            gaps,
+        })
+    }
+
+    // Reports to the pacer what a datagram brought that was accepted.
+    fn note(&mut self, origin: RepairOrigin, datagram: &[u8])
+        ensures noted { HasLearned self.old.pacer self.new.pacer (noted origin datagram.now self.old.arbiter.view) }
+        ensures arbiter { self.new.arbiter ≡ self.old.arbiter }
+        ensures options { self.new.options ≡ self.old.options }
+    {
+        let receiver = self.arbiter.receiver();
+        let next = receiver.next();
+        let came = came_below(datagram, next, receiver.window());
+        if came.first >= came.end {
+            return;
+        }
+        report(&mut self.pacer, origin, came);
+        self.pacer.arrive(Gap {
+            first: 0,
+            end: next,
+        });
+    }
+
+    /// Takes a datagram that came at the time `now`, exactly as `Arbiter::take_from` does. If it is accepted, its numbers
+    /// are no longer requested. The response of a server frees the request for it. The batch must be empty or end just
+    /// before the receiver's `next`.
+    pub fn take(
+        &mut self,
+        now: u64,
+        origin: RepairOrigin,
+        datagram: &[u8],
+        batch: &mut Batch,
+    ) -> Result<Taken, Refusal>
+        requires time { now < 2 ^ 62 }
+        requires follows { Follows batch.old self.old.arbiter.view.next }
+        ensures taken { IfOk result (λ taken. HasArbitrated (line_of (receiver_origin origin)) self.old.arbiter
+            datagram.now batch.old self.new.arbiter batch.new taken) }
+        ensures refused { IfErr result (λ refused. HasRefused (line_of (receiver_origin origin)) self.old.arbiter
+            datagram.now self.new.arbiter refused) }
+        ensures batch { OnErr result (batch.new ≡ batch.old) }
+        ensures noted { OnOk result (HasNoted now origin datagram.now self.old.arbiter.view self.new.arbiter.view
+            self.old.pacer self.new.pacer) }
+        ensures passed { OnErr result (HasPassed now self.old.arbiter.view self.old.pacer self.new.pacer) }
+        ensures options { self.new.options ≡ self.old.options }
+    {
+        let receiver = self.arbiter.receiver();
+        let known = receiver.known();
+        let is_missing = receiver.next() < known;
+        self.pacer.advance(now, known);
+        let taken = self
+            .arbiter
+            .take_from(origin.receiver_origin(), datagram, batch)?;
+        if is_missing {
+            self.note(origin, datagram);
+        }
+        Ok(taken)
+    }
+
+    // Sends the next request that may be sent now, if there is one.
+    fn send(&mut self) -> Option<mold_pacing::Ask>
+        ensures sent { MatchOption result (IsStill self.old.arbiter.view self.old.pacer self.new.pacer)
+            (HasRequested self.old.arbiter.view self.old.pacer self.new.pacer) }
+        ensures paced { self.new.pacer.options ≡ self.old.pacer.options }
+        ensures arbiter { self.new.arbiter ≡ self.old.arbiter }
+        ensures options { self.new.options ≡ self.old.options }
+    {
+        if !self.pacer.can_send() {
+            return None;
+        }
+        find_free(&self.arbiter, &self.pacer, &mut self.gaps)?;
+        self.pacer.poll(&self.gaps)
+    }
+
+    /// Returns the next request that may be sent at the time `now`, if there is one. It counts as sent. Call it until it
+    /// returns none. It takes no memory.
+    pub fn poll(&mut self, now: u64) -> Option<Ask>
+        requires { now < 2 ^ 62 }
+        ensures polled { HasPolled self.old.arbiter.view self.old.pacer self.new.pacer now self.old.options.servers
+            result }
+        ensures arbiter { self.new.arbiter ≡ self.old.arbiter }
+        ensures options { self.new.options ≡ self.old.options }
+    {
+        self.pacer.advance(now, self.arbiter.receiver().known());
+        let sent = self.send()?;
+        if self.options.servers == 0 {
+            return None;
+        }
+        Some(Ask {
+            request: Request {
+                session: self.arbiter.receiver().session(),
+                sequence: sent.first,
+                count: (sent.end - sent.first) as u16,
+            },
+            server: sent.server,
+        })
+    }
+
+    // Returns the time before which no request can be sent, if no datagram comes.
+    fn sends(&mut self) -> u64
+        ensures now { self.old.pacer.state.now ≤ result }
+        ensures still { (time number : ℕ) → self.old.pacer.state.now ≤ time → time < result →
+            IsWanted self.old.arbiter.view self.old.pacer.state.ripe number → CanAsk self.old.pacer time number → ⊥ }
+        ensures bound { (number : ℕ) → IsWanted self.old.arbiter.view self.old.pacer.state.ripe number →
+            result ≤ self.old.pacer.state.now + max self.old.pacer.options.ceiling self.old.pacer.options.interval }
+        ensures pacer { self.new.pacer ≡ self.old.pacer }
+        ensures arbiter { self.new.arbiter ≡ self.old.arbiter }
+        ensures options { self.new.options ≡ self.old.options }
+    {
+        match find_free(&self.arbiter, &self.pacer, &mut self.gaps) {
+            Some(number) => self.pacer.deadline(number),
+            None => self.pacer.next_over(),
+        }
+    }
+
+    // Returns the time before which no missing number becomes ripe.
+    fn ripens(&self) -> u64
+        ensures unripe { (time known number : ℕ) → max self.now.pacer.state.now self.now.pacer.state.marked ≤ time →
+            time < result → IsMissing self.now.arbiter.view number → self.now.pacer.state.ripe ≤ number →
+            (advanced time known self.now.pacer.state).ripe ≤ number }
+        ensures bound { (number : ℕ) → IsMissing self.now.arbiter.view number → self.now.pacer.state.ripe ≤ number →
+            result ≤ max self.now.pacer.state.now (self.now.pacer.state.marked + self.now.pacer.state.patience) }
+        ensures now { self.now.pacer.state.now ≤ result }
+    {
+        let state = self.pacer.state();
+        match self.arbiter.next_missing(state.ripe) {
+            Some(_) => self.pacer.ripens().max(state.now),
+            None => u64::MAX,
+        }
+    }
+
+    /// Returns the time at which to call `poll` next, if no datagram comes before: until then it returns none, and no
+    /// number becomes ripe. It can be early: then `poll` returns none, and the next deadline is later. Without a missing
+    /// message there is no deadline.
+    pub fn deadline(&mut self, now: u64) -> Option<u64>
+        requires { now < 2 ^ 62 }
+        ensures deadline { IfSome result (IsDeadline self.old.arbiter.view self.new.pacer) }
+        ensures none { IfNone result (self.old.arbiter.view.next ≡ self.old.arbiter.view.known) }
+        ensures passed { HasPassed now self.old.arbiter.view self.old.pacer self.new.pacer }
+        ensures arbiter { self.new.arbiter ≡ self.old.arbiter }
+        ensures options { self.new.options ≡ self.old.options }
+    {
+        let receiver = self.arbiter.receiver();
+        let known = receiver.known();
+        let is_missing = receiver.next() != known;
+        self.pacer.advance(now, known);
+        if !is_missing {
+            return None;
+        }
+        let ripens = self.ripens();
+        Some(self.sends().min(ripens))
+    }
+
+    /// Returns the first missing numbers at or above `from`, as `Arbiter::next_missing` does.
+    pub fn next_missing(&self, from: u64) -> Option<mold_receiver::Gap>
+        ensures some { IfSome result (λ gap. IsNextGap self.now.arbiter.view (max from self.now.arbiter.view.next) gap) }
+        ensures none { IfNone result (HasNoGap self.now.arbiter.view (max from self.now.arbiter.view.next)) }
+    {
+        self.arbiter.next_missing(from)
+    }
+
+    /// Returns the arbiter.
+    pub fn arbiter(&self) -> &Arbiter
+        ensures { result.now ≡ self.now.arbiter }
+    {
+        &self.arbiter
+    }
+}
