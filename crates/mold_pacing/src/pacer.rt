@@ -35,7 +35,7 @@ pub struct Pacer {
 }
 
 impl Pacer {
-    ghost use Rattle.std.specs.Prelude.{max, min, [], map, false, IfOk, IfSome, IfNone, OnErr, ℕ, ◌-◌, Some};
+    ghost use Rattle.std.specs.Prelude.{max, min, [], map, false, IfOk, IfSome, IfNone, OnErr, ℕ, ◌-◌, Some, slice_get};
     ghost use Rattle.std.specs.List.{list_all};
     ghost use Rattle.mold_pacing.specs.Asks.{are_gaps, AreAllInFlight, AsksFrom, IsFirstFree};
     ghost use Rattle.mold_pacing.specs.Deadline.{CanAsk, can_send};
@@ -209,17 +209,18 @@ impl Pacer {
         Some(free.first)
     }
 
-    /// Returns the time from which on a request can be sent, if all ripe numbers are in flight now: the first one at
-    /// which a request in flight is over and the bucket allows another one. If nothing is in flight, it is `u64::MAX`.
+    /// Returns the first time at which a request in flight is over, or `u64::MAX` if nothing is in flight. If all ripe
+    /// numbers are in flight, no request can be sent before.
     pub fn next_over(&self) -> u64
         ensures now { self.now.state.now ≤ result }
         ensures least { (time number : ℕ) → time < result →
             in_flight self.now.state.now number self.now.flights.items ≡ true → CanAsk self.now time number → ⊥ }
+        ensures same { (time : ℕ) (i : ℕ) (f : Flight) → time < result → slice_get self.now.flights.items i ≡ Some f →
+            f.until ≤ time → f.until ≤ self.now.state.now }
         ensures bound { (number : ℕ) → in_flight self.now.state.now number self.now.flights.items ≡ true →
-            result ≤ self.now.state.now + max self.now.options.ceiling self.now.options.interval }
+            result ≤ self.now.state.now + self.now.options.ceiling }
     {
-        let opens = self.state.opens.saturating_sub(self.options.tolerance);
-        next_over(&self.flights, self.state.now).max(opens)
+        next_over(&self.flights, self.state.now)
     }
 
     /// Returns what the pacer knows besides its requests.

@@ -17,6 +17,7 @@ use Rattle.mold_receiver.specs.declared.gap.Gap.{Gap as Found}
 use Rattle.mold_repair.specs.Came.{range}
 use Rattle.mold_receiver.specs.Wanted.{HasNoGap, IsNextGap}
 use Rattle.mold_repair.specs.Gaps.{AreCollected, IsLimit}
+use Rattle.mold_repair.specs.GivingUp.{is_due}
 use Rattle.mold_repair.specs.Missing.{IsMissing, IsWanted}
 use Rattle.mold_repair.specs.Polls.{AreFirstGaps, HasRequested, HaveFree, IsSentFor, IsStill}
 
@@ -227,10 +228,10 @@ least_of v p gs from end first limit are free number before wants =
     ]
 
 -- What the pacer did, in terms of missing numbers.
-pub sent_is : (v : View) (old new : Pacer) (gs : List Gap) (number : ℕ) (r : Option Sent) → HaveFree v old gs number
-    → can_send old ≡ true → IfSome r (HasAsked old new gs) → IfNone r (IsIdle old new gs)
-    → MatchOption r (IsStill v old new) (HasRequested v old new)
-sent_is v old new gs number None have can asked idle =
+pub sent_is : (give_up : ℕ) (v : View) (old new : Pacer) (gs : List Gap) (number : ℕ) (r : Option Sent) → HaveFree v old gs number
+    → is_due give_up v old old.state.now ≡ false → can_send old ≡ true → IfSome r (HasAsked old new gs) → IfNone r (IsIdle old new gs)
+    → MatchOption r (IsStill give_up v old new) (HasRequested give_up v old new)
+sent_is give_up v old new gs number None have kept can asked idle =
     elim idle.reason [
       | inl shut ↦
           absurd (true_is_false (sym can ∙ (let off : can_send old ≡ false = grind (arith, nat_tests, shut) in off)))
@@ -243,7 +244,8 @@ sent_is v old new gs number None have can asked idle =
             absurd (true_is_false (sym can ∙ (let off : can_send old ≡ false = grind (arith, nat_tests, full) in off)))
       ]
     ]
-sent_is v old new gs number (Some sent) have can asked idle = record {
+sent_is give_up v old new gs number (Some sent) have kept can asked idle = record {
+  kept = kept;
   gaps = gs;
   are = have.are.gaps_of;
   asked = asked;

@@ -1,3 +1,4 @@
 pub mod TakingLemmas
 pub mod GapLemmas
 pub mod PollLemmas
+pub mod GivingUpLemmas

@@ -7,19 +7,20 @@ use Rattle.mold_pacing.specs.declared.pacer.Pacer.{Pacer}
 use Rattle.mold_receiver.specs.View.{View}
 use Rattle.mold_repair.specs.Polls.{HasPolled, HasRequested, IsStill, ask_of, returned}
 use Rattle.mold_repair.specs.declared.ask.Ask.{Ask}
+use Rattle.mold_repair.specs.declared.options.RepairOptions.{RepairOptions}
 use Rattle.mold_wire.specs.declared.session.Session.{Session}
 
-pub polled : (v : View) (old between new : Pacer) (now known servers : ℕ) (result : Option Ask) (sent : Option Sent)
+pub polled : (v : View) (old between new : Pacer) (options : RepairOptions) (now known : ℕ) (result : Option Ask) (sent : Option Sent)
     → known ≡ v.known → between.options ≡ old.options → between.state ≡ advanced now known old.state
-    → between.flights.items ≡ old.flights.items → MatchOption sent (IsStill v between new) (HasRequested v between new)
-    → result ≡ returned v.session servers sent → HasPolled v old new now servers result
-polled v old between new now known servers result sent is options state flights did answer = record {
+    → between.flights.items ≡ old.flights.items → MatchOption sent (IsStill options.give_up v between new) (HasRequested options.give_up v between new)
+    → result ≡ returned v.session options.servers sent → HasPolled options v old new now result
+polled v old between new options now known result sent is kept state flights did answer = record {
   between = between;
   time = record {
     none = refl;
     becomes = state ∙ ap (λ k. advanced now k old.state) is;
     table = flights;
-    options = options;
+    options = kept;
   };
   sent = sent;
   polled = did;

@@ -1,6 +1,7 @@
 -- What a pacer learns of a datagram.
-use Rattle.std.proofs.Common.{◌≡◌, true, false, ℕ, ◌+◌, ◌<◌, ◌≤◌, List, [], ◌∷◌, nat_lt, cond, None, refl, subst, sym, ap, ◌∙◌, arith}
+use Rattle.std.proofs.Common.{◌≡◌, true, false, ℕ, ◌+◌, ◌<◌, ◌≤◌, List, [], ◌∷◌, map, nat_lt, cond, None, refl, subst, sym, ap, ◌∙◌, arith}
 use Rattle.std.proofs.lemmas.Bool.Decides.{nat_tests}
+use Rattle.mold_pacing.specs.Responses.{after_arrival}
 use Rattle.mold_pacing.specs.Run.{Takes}
 use Rattle.mold_pacing.specs.State.{advanced}
 use Rattle.mold_pacing.specs.declared.gap.Gap.{Gap}
@@ -42,18 +43,30 @@ pub learned_two : (origin : RepairOrigin) (came : Gap) (next : ℕ) (old between
 learned_two origin came next old between new some first second =
     subst (HasLearned old new) (sym (steps_some origin came next some)) (between, first, (new, second, refl))
 
+pub advanced_by : (now known : ℕ) (v : View) (old new : Pacer) → known ≡ v.known → new.options ≡ old.options
+    → new.state ≡ advanced now known old.state → new.flights.items ≡ old.flights.items
+    → Takes old new (Advance now v.known) None
+advanced_by now known v old new is options state flights = record {
+  none = refl;
+  becomes = state ∙ ap (λ k. advanced now k old.state) is;
+  table = flights;
+  options = options;
+}
+
+pub arrived_by : (next : ℕ) (v : View) (old new : Pacer) → next ≡ v.next → new.options ≡ old.options
+    → new.state ≡ old.state → new.flights.items ≡ map (after_arrival old.state.now 0 next) old.flights.items
+    → Takes old new (Arrive (range 0 v.next)) None
+arrived_by next v old new is options state flights = record {
+  none = refl;
+  becomes = state;
+  table = flights ∙ ap (λ n. map (after_arrival old.state.now 0 n) old.flights.items) is;
+  options = options;
+}
+
 pub passed : (now known : ℕ) (v : View) (old new : Pacer) → known ≡ v.known → new.options ≡ old.options
     → new.state ≡ advanced now known old.state → new.flights.items ≡ old.flights.items → HasPassed now v old new
-passed now known v old new is options state flights = (
-  new,
-  record {
-    none = refl;
-    becomes = state ∙ ap (λ k. advanced now k old.state) is;
-    table = flights;
-    options = options;
-  },
-  refl,
-)
+passed now known v old new is options state flights =
+    (new, advanced_by now known v old new is options state flights, refl)
 
 pub noted_more : (now : ℕ) (origin : RepairOrigin) (bytes : List ℕ) (before after : View) (old between new : Pacer)
     → HasPassed now before old between → before.next < before.known

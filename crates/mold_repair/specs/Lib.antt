@@ -4,4 +4,5 @@ pub mod Came
 pub mod Missing
 pub mod Gaps
 pub mod Taking
+pub mod GivingUp
 pub mod Polls

@@ -2,7 +2,7 @@
 use Rattle.std.specs.Prelude.{◌≡◌, ℕ, ◌*◌, ◌-◌, ◌==◌, ◌&&◌, Bool, max, min, nat_le, nat_lt, if◌then◌else◌}
 use Rattle.mold_pacing.specs.declared.options.PacerOptions.{PacerOptions}
 use Rattle.mold_repair.specs.declared.options.RepairOptions.{RepairOptions}
-use Rattle.mold_repair.specs.declared.options.TheConstants.{FIRST_PATIENCE, MAX_BUCKET, MAX_PATIENCE, MAX_PLACES, MAX_SERVERS, MAX_TIME}
+use Rattle.mold_repair.specs.declared.options.TheConstants.{FIRST_PATIENCE, MAX_BUCKET, MAX_GIVE_UP, MAX_PATIENCE, MAX_PLACES, MAX_SERVERS, MAX_TIME}
 use Rattle.mold_wire.specs.declared.limits.TheConstants.{MAX_COUNT}
 
 -- Whether the times are in their ranges.
@@ -15,7 +15,7 @@ are_times o =
 abbrev pub are_counts : RepairOptions → Bool
 are_counts o =
     nat_lt 0 o.bucket && (nat_le o.bucket MAX_BUCKET && (nat_lt 0 o.places && (nat_le o.places MAX_PLACES
-    && nat_le o.servers MAX_SERVERS)))
+    && (nat_le o.servers MAX_SERVERS && nat_le o.give_up MAX_GIVE_UP))))
 
 -- Whether each number is in its range.
 abbrev pub are_options : RepairOptions → Bool

@@ -12,8 +12,10 @@ use Rattle.mold_pacing.specs.declared.gap.Gap.{Gap}
 use Rattle.mold_pacing.specs.declared.pacer.Pacer.{Pacer}
 use Rattle.mold_pacing.specs.declared.step.Step.TheVariants.{Advance}
 use Rattle.mold_receiver.specs.View.{View}
+use Rattle.mold_repair.specs.GivingUp.{is_due}
 use Rattle.mold_repair.specs.Missing.{AreWanted, IsInGaps, IsMissing, IsWanted}
 use Rattle.mold_repair.specs.declared.ask.Ask.{Ask}
+use Rattle.mold_repair.specs.declared.options.RepairOptions.{RepairOptions}
 use Rattle.mold_wire.specs.declared.session.Session.{Session}
 
 -- The number may be requested, or a request for it is in flight.
@@ -46,17 +48,19 @@ pub record HaveFree (v : View) (p : Pacer) (gaps : List Gap) (number : ℕ) : Ty
 abbrev pub AreAllSent : View → Pacer → Type 0
 AreAllSent v p = (number : ℕ) → IsWanted v p.state.ripe number → IsSentFor p number
 
--- The pacer sent a request. It begins with the least number that may be requested and is not in flight.
-pub record HasRequested (v : View) (old new : Pacer) (sent : Sent) : Type 0 where
+-- The pacer sent a request. It begins with the least number that may be requested and is not in flight. No message is to
+-- be given up.
+pub record HasRequested (give_up : ℕ) (v : View) (old new : Pacer) (sent : Sent) : Type 0 where
+  pub kept : is_due give_up v old old.state.now ≡ false
   pub gaps : List Gap
   pub are : AreGapsOf v old gaps
   pub asked : HasAsked old new gaps sent
   pub least : (number : ℕ) → number < sent.first → IsWanted v old.state.ripe number → IsSentFor old number
 
--- The pacer sent no request: the bucket is empty, the table has no room, or all numbers that may be requested are in
--- flight. Nothing changed.
-pub record IsStill (v : View) (old new : Pacer) : Type 0 where
-  pub reason : (can_send old ≡ false) ⊎ AreAllSent v old
+-- The pacer sent no request: messages are to be given up first, the bucket is empty, the table has no room, or all
+-- numbers that may be requested are in flight. Nothing changed.
+pub record IsStill (give_up : ℕ) (v : View) (old new : Pacer) : Type 0 where
+  pub reason : (is_due give_up v old old.state.now ≡ true) ⊎ (can_send old ≡ false) ⊎ AreAllSent v old
   pub flights : new.flights.items ≡ old.flights.items
   pub state : new.state ≡ old.state
   pub options : new.options ≡ old.options
@@ -74,22 +78,23 @@ returned session servers None = None
 returned session servers (Some sent) = if servers == 0 then None else Some (ask_of session sent)
 
 -- The repairer was polled at this time. `v` is its view, and `old` and `new` are its pacer before and after.
-pub record HasPolled (v : View) (old new : Pacer) (now servers : ℕ) (result : Option Ask) : Type 0 where
+pub record HasPolled (options : RepairOptions) (v : View) (old new : Pacer) (now : ℕ) (result : Option Ask) : Type 0 where
   -- The pacer at this time.
   pub between : Pacer
   pub time : Takes old between (Advance now v.known) None
   pub sent : Option Sent
-  pub polled : MatchOption sent (IsStill v between new) (HasRequested v between new)
-  pub answer : result ≡ returned v.session servers sent
+  pub polled : MatchOption sent (IsStill options.give_up v between new) (HasRequested options.give_up v between new)
+  pub answer : result ≡ returned v.session options.servers sent
 
--- Nothing happens before the time `deadline`, if no datagram comes: no request can be sent, and no missing number
--- becomes ripe. `p` is the pacer now.
-pub record IsDeadline (v : View) (p : Pacer) (deadline : ℕ) : Type 0 where
+-- Nothing happens before the time `deadline`, if no datagram comes: no request can be sent, no missing number becomes
+-- ripe, and no message is to be given up. `p` is the pacer now.
+pub record IsDeadline (give_up : ℕ) (v : View) (p : Pacer) (deadline : ℕ) : Type 0 where
   pub now : p.state.now ≤ deadline
   pub still : (time number : ℕ) → p.state.now ≤ time → time < deadline → IsWanted v p.state.ripe number →
       CanAsk p time number → ⊥
   pub unripe : (time known number : ℕ) → max p.state.now p.state.marked ≤ time → time < deadline → IsMissing v number →
       p.state.ripe ≤ number → (advanced time known p.state).ripe ≤ number
+  pub kept : (time : ℕ) → p.state.now ≤ time → time < deadline → is_due give_up v p time ≡ false
   -- If a number may be requested, the deadline is near.
   pub sends : (number : ℕ) → IsWanted v p.state.ripe number →
       deadline ≤ p.state.now + max p.options.ceiling p.options.interval

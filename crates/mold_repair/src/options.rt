@@ -24,6 +24,9 @@ pub(crate) const MAX_PLACES: u32 = 4096;
 /// The greatest number of servers.
 pub(crate) const MAX_SERVERS: u32 = 8;
 
+/// The greatest number of requests before a message is given up.
+pub(crate) const MAX_GIVE_UP: u32 = 1000;
+
 /// What a repairer keeps to. Times are in nanoseconds. `Repairer::new` refuses a number outside its range.
 #[derive(Clone, Copy, Debug, PartialEq, Eq)]
 pub struct RepairOptions {
@@ -46,6 +49,9 @@ pub struct RepairOptions {
     pub places: u32,
     /// The number of servers, at most 8. Without a server nothing is requested.
     pub servers: u32,
+    /// After how many requests in a row without a response missing messages are given up, 1 to 1,000. If it is 0, they
+    /// are never given up. Without a server, each wait for a response counts as a request.
+    pub give_up: u32,
 }
 
 impl RepairOptions {
@@ -71,6 +77,7 @@ impl RepairOptions {
             && 0 < self.places
             && self.places <= MAX_PLACES
             && self.servers <= MAX_SERVERS
+            && self.give_up <= MAX_GIVE_UP
     }
 
     /// Returns whether each number is in its range.

@@ -11,9 +11,10 @@ use crate::gaps::{GAPS, find_free};
 use crate::options::RepairOptions;
 use crate::origin::RepairOrigin;
 use mold_pacing::{Gap, Pacer};
+use mold_receiver::laws::wanted_law;
 use mold_receiver::{Arbiter, Batch, Refusal, Taken};
 use mold_wire::Request;
-use std::alloc::Global;
+use std::alloc::{AllocError, Global};
 
 /// A receiver of two lines that requests what is missing. It has no socket and no clock: its caller hands in the
 /// datagrams and the time, sends the requests that `poll` returns, and calls `poll` again at the `deadline`.
@@ -32,7 +33,8 @@ pub struct Repairer {
 }
 
 impl Repairer {
-    ghost use Rattle.std.specs.Prelude.{[], Err, MatchOption, IfErr, IfNone, IfOk, IfSome, OnErr, OnOk, false, max, ℕ, ◌+◌};
+    ghost use Rattle.std.specs.Prelude.{[], Err, MatchOption, IfErr, IfNone, IfOk, IfSome, OnErr, OnOk, Some, false, is_some, max, slice_get, ℕ, ◌+◌};
+    ghost use Rattle.mold_pacing.specs.declared.flight.Flight.{Flight};
     ghost use Rattle.mold_pacing.specs.State.{advanced, fresh};
     ghost use Rattle.mold_pacing.specs.Deadline.{CanAsk};
     ghost use Rattle.mold_receiver.specs.Arbiter.{HasArbitrated, HasRefused};
@@ -40,6 +42,7 @@ impl Repairer {
     ghost use Rattle.mold_receiver.specs.Origin.{line_of};
     ghost use Rattle.mold_receiver.specs.Wanted.{HasNoGap, IsNextGap};
     ghost use Rattle.mold_repair.specs.Came.{noted};
+    ghost use Rattle.mold_repair.specs.GivingUp.{HasGivenUp, IsGivenUp, is_due};
     ghost use Rattle.mold_repair.specs.Missing.{IsMissing, IsWanted};
     ghost use Rattle.mold_repair.specs.Origin.{receiver_origin};
     ghost use Rattle.mold_repair.specs.Polls.{HasPolled, HasRequested, IsDeadline, IsStill};
@@ -133,14 +136,68 @@ impl Repairer {
         Ok(taken)
     }
 
+    // Returns the first missing messages, if they were requested as often as allowed.
+    fn given_up(&self) -> Option<Gap>
+        ensures some { IfSome result
+            (IsGivenUp self.now.options.give_up self.now.arbiter.view self.now.pacer) }
+        ensures due { is_some result ≡ is_due self.now.options.give_up self.now.arbiter.view self.now.pacer
+            self.now.pacer.state.now }
+    {
+        wanted_law();
+        let give_up = self.options.give_up;
+        if give_up == 0 {
+            return None;
+        }
+        let next = self.arbiter.receiver().wanted()?.sequence;
+        let request = self.pacer.last_request(next)?;
+        if request.attempts < give_up {
+            return None;
+        }
+        let gap = self.arbiter.next_missing(next)?;
+        Some(Gap {
+            first: next,
+            end: gap.end.min(request.end),
+        })
+    }
+
+    /// Gives up the first missing messages at the time `now`, if one request asked for them and each was requested as
+    /// often as `give_up` allows, without a response. Returns their numbers. The stored messages after them are appended
+    /// to `batch`, which must be empty. Call it until it returns none. If an allocation fails, only the time passed.
+    pub fn lost(&mut self, now: u64, batch: &mut Batch) -> Result<Option<Gap>, AllocError>
+        requires time { now < 2 ^ 62 }
+        requires empty { batch.old.messages ≡ [] }
+        ensures lost { IfOk result (HasGivenUp now self.old.options.give_up self.old.arbiter self.new.arbiter batch.old
+            batch.new self.old.pacer self.new.pacer) }
+        ensures passed { OnErr result (HasPassed now self.old.arbiter.view self.old.pacer self.new.pacer) }
+        ensures arbiter { OnErr result (self.new.arbiter ≡ self.old.arbiter) }
+        ensures batch { OnErr result (batch.new ≡ batch.old) }
+        ensures options { self.new.options ≡ self.old.options }
+    {
+        self.pacer.advance(now, self.arbiter.receiver().known());
+        let Some(gap) = self.given_up() else {
+            return Ok(None);
+        };
+        self.arbiter.skip(gap.end, batch)?;
+        let next = self.arbiter.receiver().next();
+        self.pacer.arrive(Gap {
+            first: 0,
+            end: next,
+        });
+        Ok(Some(gap))
+    }
+
     // Sends the next request that may be sent now, if there is one.
     fn send(&mut self) -> Option<mold_pacing::Ask>
-        ensures sent { MatchOption result (IsStill self.old.arbiter.view self.old.pacer self.new.pacer)
-            (HasRequested self.old.arbiter.view self.old.pacer self.new.pacer) }
+        ensures sent { MatchOption result
+            (IsStill self.old.options.give_up self.old.arbiter.view self.old.pacer self.new.pacer)
+            (HasRequested self.old.options.give_up self.old.arbiter.view self.old.pacer self.new.pacer) }
         ensures paced { self.new.pacer.options ≡ self.old.pacer.options }
         ensures arbiter { self.new.arbiter ≡ self.old.arbiter }
         ensures options { self.new.options ≡ self.old.options }
     {
+        if self.given_up().is_some() {
+            return None;
+        }
         if !self.pacer.can_send() {
             return None;
         }
@@ -149,11 +206,10 @@ impl Repairer {
     }
 
     /// Returns the next request that may be sent at the time `now`, if there is one. It counts as sent. Call it until it
-    /// returns none. It takes no memory.
+    /// returns none. It takes no memory. While messages are to be given up, it returns none: call `lost` before.
     pub fn poll(&mut self, now: u64) -> Option<Ask>
         requires { now < 2 ^ 62 }
-        ensures polled { HasPolled self.old.arbiter.view self.old.pacer self.new.pacer now self.old.options.servers
-            result }
+        ensures polled { HasPolled self.old.options self.old.arbiter.view self.old.pacer self.new.pacer now result }
         ensures arbiter { self.new.arbiter ≡ self.old.arbiter }
         ensures options { self.new.options ≡ self.old.options }
     {
@@ -179,14 +235,21 @@ impl Repairer {
             IsWanted self.old.arbiter.view self.old.pacer.state.ripe number → CanAsk self.old.pacer time number → ⊥ }
         ensures bound { (number : ℕ) → IsWanted self.old.arbiter.view self.old.pacer.state.ripe number →
             result ≤ self.old.pacer.state.now + max self.old.pacer.options.ceiling self.old.pacer.options.interval }
+        ensures same { (time i : ℕ) (f : Flight) → 0 < self.old.options.give_up → time < result →
+            slice_get self.old.pacer.flights.items i ≡ Some f → f.until ≤ time → f.until ≤ self.old.pacer.state.now }
         ensures pacer { self.new.pacer ≡ self.old.pacer }
         ensures arbiter { self.new.arbiter ≡ self.old.arbiter }
         ensures options { self.new.options ≡ self.old.options }
     {
-        match find_free(&self.arbiter, &self.pacer, &mut self.gaps) {
-            Some(number) => self.pacer.deadline(number),
-            None => self.pacer.next_over(),
+        let over = self.pacer.next_over();
+        let Some(number) = find_free(&self.arbiter, &self.pacer, &mut self.gaps) else {
+            return over;
+        };
+        let time = self.pacer.deadline(number);
+        if self.options.give_up == 0 {
+            return time;
         }
+        time.min(over)
     }
 
     // Returns the time before which no missing number becomes ripe.
@@ -205,12 +268,12 @@ impl Repairer {
         }
     }
 
-    /// Returns the time at which to call `poll` next, if no datagram comes before: until then it returns none, and no
-    /// number becomes ripe. It can be early: then `poll` returns none, and the next deadline is later. Without a missing
-    /// message there is no deadline.
+    /// Returns the time at which to call `lost` and `poll` next, if no datagram comes before: until then both return none,
+    /// and no number becomes ripe. It can be early: then they return none, and the next deadline is later. Without a
+    /// missing message there is no deadline.
     pub fn deadline(&mut self, now: u64) -> Option<u64>
         requires { now < 2 ^ 62 }
-        ensures deadline { IfSome result (IsDeadline self.old.arbiter.view self.new.pacer) }
+        ensures deadline { IfSome result (IsDeadline self.old.options.give_up self.old.arbiter.view self.new.pacer) }
         ensures none { IfNone result (self.old.arbiter.view.next ≡ self.old.arbiter.view.known) }
         ensures passed { HasPassed now self.old.arbiter.view self.old.pacer self.new.pacer }
         ensures arbiter { self.new.arbiter ≡ self.old.arbiter }
@@ -222,6 +285,9 @@ impl Repairer {
         self.pacer.advance(now, known);
         if !is_missing {
             return None;
+        }
+        if self.given_up().is_some() {
+            return Some(self.pacer.state().now);
         }
         let ripens = self.ripens();
         Some(self.sends().min(ripens))

@@ -1,4 +1,5 @@
-use Rattle.std.proofs.Common.{arith}
+use Rattle.std.proofs.Common.{arith, inl, inr}
+use Rattle.std.proofs.lemmas.Bool.{cases_lt}
 use Rattle.std.proofs.lemmas.Option.{slice_get-get_or, slice_get_within}
 use Rattle.mold_pacing.proofs.TableLemmas.{flight_at}
 use Rattle.mold_pacing.proofs.WaitingLemmas.{any_still, end_flies, end_later, next_over_more, still_bound}
@@ -38,3 +39,14 @@ returns-clause-bound c =
     λ last number busy all. still_bound c.args.now last number c.loop-index.over fs
     (λ i f there flies. c.loop-index.invariant.waits i f
     (omega (arith, c.loop-index-test.false, slice_get_within fs i f there)) there flies) busy all
+
+pub returns-clause-same : goal.returns-clause-same
+returns-clause-same c =
+    let fs = c.args.flights.now in
+    λ time i f before there past. elim (cases_lt c.args.now f.until) [
+      | inl busy ↦
+          let waits = c.loop-index.invariant.waits i f
+          (omega (arith, c.loop-index-test.false, slice_get_within fs i f there)) there busy in
+          absurd (omega (arith, waits, before, past))
+      | inr over ↦ over
+    ]
