@@ -1,15 +1,21 @@
 -- What a pacer learns of a datagram.
-use Rattle.std.proofs.Common.{◌≡◌, true, false, ℕ, ◌+◌, ◌<◌, ◌≤◌, List, [], ◌∷◌, map, nat_lt, cond, None, refl, subst, sym, ap, ◌∙◌, arith}
+use Rattle.std.proofs.Common.{◌≡◌, true, false, ℕ, ◌+◌, ◌<◌, ◌≤◌, List, [], ◌∷◌, ◌++◌, ◌==◌, ◌&&◌, Bool, max, ◌-◌, map, nat_lt, cond, None, refl, subst, sym, ap, ◌∙◌, arith}
 use Rattle.std.proofs.lemmas.Bool.Decides.{nat_tests}
 use Rattle.mold_pacing.specs.Responses.{after_arrival}
 use Rattle.mold_pacing.specs.Run.{Takes}
 use Rattle.mold_pacing.specs.State.{advanced}
 use Rattle.mold_pacing.specs.declared.gap.Gap.{Gap}
 use Rattle.mold_pacing.specs.declared.pacer.Pacer.{Pacer}
-use Rattle.mold_pacing.specs.declared.step.Step.TheVariants.{Advance, Arrive}
+use Rattle.mold_pacing.specs.declared.state.PacerState.{PacerState}
+use Rattle.mold_pacing.specs.declared.step.Step.{Step}
+use Rattle.mold_pacing.specs.declared.step.Step.TheVariants.{Adapt, Advance, Arrive}
 use Rattle.mold_receiver.specs.View.{View}
 use Rattle.mold_repair.specs.Came.{came_below, came_steps, noted, origin_step, range}
-use Rattle.mold_repair.specs.Taking.{HasLearned, HasNoted, HasPassed, learned_from}
+use Rattle.mold_pacing.specs.Delays.{patience_for}
+use Rattle.mold_pacing.specs.declared.delays.Delays.{Delays}
+use Rattle.mold_repair.specs.Taking.{HasLearned, HasPassed}
+use Rattle.mold_repair.specs.Timing.{adapted_from, is_line, is_timed}
+use Rattle.mold_repair.specs.declared.options.RepairOptions.{RepairOptions}
 use Rattle.mold_repair.specs.declared.origin.RepairOrigin.{RepairOrigin}
 use Rattle.mold_wire.specs.Reading.{reading}
 
@@ -68,19 +74,47 @@ pub passed : (now known : ℕ) (v : View) (old new : Pacer) → known ≡ v.know
 passed now known v old new is options state flights =
     (new, advanced_by now known v old new is options state flights, refl)
 
-pub noted_more : (now : ℕ) (origin : RepairOrigin) (bytes : List ℕ) (before after : View) (old between new : Pacer)
-    → HasPassed now before old between → before.next < before.known
-    → HasLearned between new (noted origin bytes after) → HasNoted now origin bytes before after old new
-noted_more now origin bytes before after old between new took missing learned =
-    let on : nat_lt before.next before.known ≡ true = grind (arith, nat_tests, missing) in
-    let is : learned_from origin bytes before after ≡ noted origin bytes after =
-    ap (λ b. cond b (noted origin bytes after) []) on in
-    subst (λ steps. HasLearned old new (Advance now before.known ∷ steps)) (sym is)
-    (took.0, took.1, subst (λ p. HasLearned p new (noted origin bytes after)) took.2 learned)
+pub run_more : (p q r : Pacer) (steps more : List Step) → HasLearned p q steps → HasLearned q r more →
+    HasLearned p r (steps ++ more)
+run_more p q r [] more first then = subst (λ (s : Pacer). HasLearned s r more) first then
+run_more p q r (step ∷ steps) more first then =
+    (first.0, first.1, run_more first.0 q r steps more first.2 then)
 
-pub noted_none : (now : ℕ) (origin : RepairOrigin) (bytes : List ℕ) (before after : View) (old new : Pacer)
-    → HasPassed now before old new → before.known ≤ before.next → HasNoted now origin bytes before after old new
-noted_none now origin bytes before after old new took full =
-    let off : nat_lt before.next before.known ≡ false = grind (arith, nat_tests, full) in
-    let is : learned_from origin bytes before after ≡ [] = ap (λ b. cond b (noted origin bytes after) []) off in
-    subst (λ steps. HasLearned old new (Advance now before.known ∷ steps)) (sym is) took
+pub learned_all : (now : ℕ) (flag : Bool) (before : View) (steps more : List Step) (old p q new : Pacer)
+    → HasPassed now before old p → flag ≡ nat_lt before.next before.known → HasLearned p q (cond flag steps [])
+    → HasLearned q new more
+    → HasLearned old new (Advance now before.known ∷ (cond (nat_lt before.next before.known) steps [] ++ more))
+learned_all now flag before steps more old p q new took is learned adapted =
+    let both = run_more p q new (cond flag steps []) more learned adapted in
+    let same = ap (λ (b : Bool). cond b steps [] ++ more) is in (
+      took.0,
+      took.1,
+      subst (λ (s : Pacer). HasLearned s new (cond (nat_lt before.next before.known) steps [] ++ more))
+          took.2 (subst (HasLearned p new) same both),
+    )
+
+pub adapted_none : (options : RepairOptions) (origin : RepairOrigin) (came : Gap) (delays : Delays) (p : Pacer) →
+    is_timed options origin came ≡ false → HasLearned p p (adapted_from options origin came delays)
+adapted_none options origin came delays p off =
+    subst (λ (b : Bool). HasLearned p p (cond b (Adapt (patience_for delays.recent.items) ∷ []) [])) (sym off) refl
+
+pub adapted_some : (options : RepairOptions) (origin : RepairOrigin) (came : Gap) (delays : Delays) (p q : Pacer)
+    → is_timed options origin came ≡ true → Takes p q (Adapt (patience_for delays.recent.items)) None
+    → HasLearned p q (adapted_from options origin came delays)
+adapted_some options origin came delays p q on took =
+    subst (λ (b : Bool). HasLearned p q (cond b (Adapt (patience_for delays.recent.items) ∷ []) [])) (sym on) (q, took, refl)
+
+pub not_timed : (options : RepairOptions) (origin : RepairOrigin) (came : Gap) → (options.patience ≡ 0 → ⊥) →
+    is_timed options origin came ≡ false
+not_timed options origin came some =
+    let off : (options.patience == 0) ≡ false = grind (arith, nat_tests, some) in
+    ap (λ b. b && (is_line origin && nat_lt came.first came.end)) off
+
+now_of : (b : Bool) (s t : PacerState) → t.now ≡ s.now → (cond b s t).now ≡ s.now
+now_of true s t same = refl
+now_of false s t same = same
+
+pub advanced_now : (time known : ℕ) (s : PacerState) → (advanced time known s).now ≡ max s.now time
+advanced_now time known s =
+    now_of (nat_lt (max s.now time - s.marked) s.patience) (record s { now = max s.now time })
+    (record s { now = max s.now time; marked = max s.now time; mark = known; ripe = s.mark }) refl

@@ -16,10 +16,14 @@ use Rattle.mold_wire.specs.declared.packet.Packet.{Packet}
 abbrev pub range : ℕ → ℕ → Gap
 range first end = record { first = first; end = end }
 
--- The numbers of the packet's messages that are below `limit`.
+-- The numbers of the packet's messages. There are none if nothing was decoded.
+abbrev pub numbers : Result Packet DecodeError → Gap
+numbers (Ok packet) = range packet.sequence (min (top_of packet) MAX_NUMBER)
+numbers (Err error) = range 0 0
+
+-- Those that are below `limit`.
 abbrev pub came_below : ℕ → Result Packet DecodeError → Gap
-came_below limit (Ok packet) = range packet.sequence (min (min (top_of packet) MAX_NUMBER) limit)
-came_below limit (Err error) = range 0 0
+came_below limit read = range (numbers read).first (min (numbers read).end limit)
 
 -- What the pacer learns of numbers that came: a server's response with them, or their arrival on a line.
 abbrev pub origin_step : RepairOrigin → Gap → Step

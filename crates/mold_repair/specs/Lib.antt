@@ -3,6 +3,7 @@ pub mod Origin
 pub mod Came
 pub mod Missing
 pub mod Gaps
+pub mod Timing
 pub mod Taking
 pub mod GivingUp
 pub mod Polls

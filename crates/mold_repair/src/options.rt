@@ -3,7 +3,7 @@
 ghost use Rattle.std.specs.Prelude.{◌≡◌, ◌&&◌, true, nat_le};
 ghost use Rattle.mold_repair.specs.Options.{ArePacerOptions, are_counts, are_options, are_times, first_patience, tolerance};
 
-use mold_pacing::PacerOptions;
+use mold_pacing::{FIRST_PATIENCE, PacerOptions};
 use mold_wire::MAX_COUNT;
 
 /// The greatest time, and the greatest span of time, in nanoseconds.
@@ -11,9 +11,6 @@ pub(crate) const MAX_TIME: u64 = (1 << 62) - 1;
 
 /// The greatest patience, in nanoseconds.
 pub(crate) const MAX_PATIENCE: u64 = 1_000_000_000;
-
-/// The patience if none is given, in nanoseconds.
-pub(crate) const FIRST_PATIENCE: u64 = 1_000_000;
 
 /// The greatest number of requests that may be sent at once.
 pub(crate) const MAX_BUCKET: u32 = 65_535;
@@ -31,7 +28,8 @@ pub(crate) const MAX_GIVE_UP: u32 = 1000;
 #[derive(Clone, Copy, Debug, PartialEq, Eq)]
 pub struct RepairOptions {
     /// How long a number has to be known before it may be requested, 1 to 1,000,000,000. A missing number waits one to
-    /// two patiences. 0 means a millisecond.
+    /// two patiences. If it is 0, the patience adapts to the delays between the lines. It is a millisecond until the
+    /// first delay.
     pub patience: u64,
     /// How long a request waits for a response before it is sent again, 1 to 2^62 - 1.
     pub timeout: u64,

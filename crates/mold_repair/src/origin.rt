@@ -2,6 +2,7 @@
 
 ghost use Rattle.std.specs.Prelude.{◌≡◌};
 ghost use Rattle.mold_repair.specs.Origin.{receiver_origin};
+ghost use Rattle.mold_repair.specs.Timing.{is_line, line_index};
 
 use mold_receiver::{Line, Origin};
 
@@ -22,6 +23,26 @@ impl RepairOrigin {
         match self {
             RepairOrigin::Line(line) => Origin::Line(line),
             RepairOrigin::Server(_) => Origin::Response,
+        }
+    }
+
+    /// Returns whether the origin is a line.
+    pub(crate) fn is_line(self) -> bool
+        ensures { result ≡ is_line self }
+    {
+        match self {
+            RepairOrigin::Line(_) => true,
+            RepairOrigin::Server(_) => false,
+        }
+    }
+
+    /// Returns the index of the line, or 0 if there is none.
+    pub(crate) fn line_index(self) -> u32
+        ensures { result ≡ line_index self }
+    {
+        match self {
+            RepairOrigin::Line(Line::A) | RepairOrigin::Server(_) => 0,
+            RepairOrigin::Line(Line::B) => 1,
         }
     }
 }

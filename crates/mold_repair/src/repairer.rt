@@ -5,12 +5,12 @@ ghost use Rattle.mold_repair.specs.Options.{ArePacerOptions, are_options};
 ghost use Rattle.mold_repair.specs.declared.gaps.TheConstants.{GAPS as THE_GAPS};
 
 use crate::ask::Ask;
-use crate::came::{came_below, report};
+use crate::came::{came_below, is_timed, numbers_of, report};
 use crate::error::RepairError;
 use crate::gaps::{GAPS, find_free};
 use crate::options::RepairOptions;
 use crate::origin::RepairOrigin;
-use mold_pacing::{Gap, Pacer};
+use mold_pacing::{Arrival, Delays, Gap, Pacer};
 use mold_receiver::laws::wanted_law;
 use mold_receiver::{Arbiter, Batch, Refusal, Taken};
 use mold_wire::Request;
@@ -25,6 +25,8 @@ pub struct Repairer {
     arbiter: Arbiter,
     pacer: Pacer,
     options: RepairOptions,
+    // The delays between the lines.
+    delays: Delays,
     // Buffer for the gaps that are looked at, so that no call takes memory for them.
     gaps: Vec<Gap>,
     ghost valid: { are_options options ≡ true },
@@ -33,20 +35,23 @@ pub struct Repairer {
 }
 
 impl Repairer {
-    ghost use Rattle.std.specs.Prelude.{[], Err, MatchOption, IfErr, IfNone, IfOk, IfSome, OnErr, OnOk, Some, false, is_some, max, slice_get, ℕ, ◌+◌};
+    ghost use Rattle.std.specs.Prelude.{[], Err, MatchOption, IfErr, IfNone, IfOk, IfSome, OnErr, OnOk, Some, false, is_some, if◌then◌else◌, max, slice_get, ℕ, ◌+◌};
     ghost use Rattle.mold_pacing.specs.declared.flight.Flight.{Flight};
     ghost use Rattle.mold_pacing.specs.State.{advanced, fresh};
+    ghost use Rattle.mold_pacing.specs.Delays.{no_arrivals};
     ghost use Rattle.mold_pacing.specs.Deadline.{CanAsk};
     ghost use Rattle.mold_receiver.specs.Arbiter.{HasArbitrated, HasRefused};
     ghost use Rattle.mold_receiver.specs.Batch.{Follows};
     ghost use Rattle.mold_receiver.specs.Origin.{line_of};
     ghost use Rattle.mold_receiver.specs.Wanted.{HasNoGap, IsNextGap};
-    ghost use Rattle.mold_repair.specs.Came.{noted};
+    ghost use Rattle.mold_repair.specs.Came.{noted, numbers};
     ghost use Rattle.mold_repair.specs.GivingUp.{HasGivenUp, IsGivenUp, is_due};
     ghost use Rattle.mold_repair.specs.Missing.{IsMissing, IsWanted};
     ghost use Rattle.mold_repair.specs.Origin.{receiver_origin};
     ghost use Rattle.mold_repair.specs.Polls.{HasPolled, HasRequested, IsDeadline, IsStill};
-    ghost use Rattle.mold_repair.specs.Taking.{HasLearned, HasNoted, HasPassed};
+    ghost use Rattle.mold_repair.specs.Taking.{HasLearned, HasPassed, taken_steps};
+    ghost use Rattle.mold_repair.specs.Timing.{IsTimed, adapted_from};
+    ghost use Rattle.mold_wire.specs.Reading.{reading};
     ghost use Rattle.mold_repair.specs.declared.error.RepairError.TheVariants.{Memory, Options};
 
     /// Returns a repairer over this arbiter, before any time was reported. It takes the memory for requests here. Later,
@@ -61,6 +66,8 @@ impl Repairer {
         ensures state { IfOk result
             (λ repairer. repairer.pacer.state ≡ fresh repairer.pacer.options arbiter.view.known) }
         ensures empty { IfOk result (λ repairer. repairer.pacer.flights.items ≡ []) }
+        ensures arrivals { IfOk result (λ repairer. repairer.delays.arrivals.items ≡ no_arrivals) }
+        ensures recent { IfOk result (λ repairer. repairer.delays.recent.items ≡ []) }
         ensures ok { OnOk result (are_options options ≡ true) }
         ensures invalid { are_options options ≡ false → result ≡ Err Options }
         ensures memory { are_options options ≡ true → IfErr result (λ error. error ≡ Memory) }
@@ -71,6 +78,9 @@ impl Repairer {
         let Ok(pacer) = Pacer::new(alloc, options.pacer(), arbiter.receiver().known()) else {
             return Err(RepairError::Memory);
         };
+        let Ok(delays) = Delays::new(alloc) else {
+            return Err(RepairError::Memory);
+        };
         let Ok(gaps) = Vec::with_capacity(alloc, GAPS) else {
             return Err(RepairError::Memory);
         };
@@ -78,6 +88,7 @@ impl Repairer {
             arbiter,
             pacer,
             options,
+            delays,
             gaps,
         })
     }
@@ -85,8 +96,10 @@ impl Repairer {
     // Reports to the pacer what a datagram brought that was accepted.
     fn note(&mut self, origin: RepairOrigin, datagram: &[u8])
         ensures noted { HasLearned self.old.pacer self.new.pacer (noted origin datagram.now self.old.arbiter.view) }
+        ensures now { self.new.pacer.state.now ≡ self.old.pacer.state.now }
         ensures arbiter { self.new.arbiter ≡ self.old.arbiter }
         ensures options { self.new.options ≡ self.old.options }
+        ensures delays { self.new.delays ≡ self.old.delays }
     {
         let receiver = self.arbiter.receiver();
         let next = receiver.next();
@@ -99,6 +112,45 @@ impl Repairer {
             first: 0,
             end: next,
         });
+    }
+
+    // Does the same if messages were missing before the datagram. Otherwise no request can be for its numbers.
+    fn learn(&mut self, origin: RepairOrigin, datagram: &[u8], is_missing: bool)
+        ensures learned { HasLearned self.old.pacer self.new.pacer
+            (if is_missing then noted origin datagram.now self.old.arbiter.view else []) }
+        ensures now { self.new.pacer.state.now ≡ self.old.pacer.state.now }
+        ensures arbiter { self.new.arbiter ≡ self.old.arbiter }
+        ensures options { self.new.options ≡ self.old.options }
+        ensures delays { self.new.delays ≡ self.old.delays }
+    {
+        if is_missing {
+            self.note(origin, datagram);
+        }
+    }
+
+    // Adapts the patience, if it adapts and the datagram brought messages on a line.
+    fn adapt(&mut self, origin: RepairOrigin, datagram: &[u8])
+        ensures timed { IsTimed self.old.options self.old.pacer.state.now origin (numbers (reading datagram.now))
+            self.old.delays self.new.delays }
+        ensures learned { HasLearned self.old.pacer self.new.pacer
+            (adapted_from self.old.options origin (numbers (reading datagram.now)) self.new.delays) }
+        ensures arbiter { self.new.arbiter ≡ self.old.arbiter }
+        ensures options { self.new.options ≡ self.old.options }
+    {
+        if self.options.patience != 0 {
+            return;
+        }
+        let came = numbers_of(datagram);
+        if !is_timed(&self.options, origin, came) {
+            return;
+        }
+        self.delays.take(Arrival {
+            first: came.first,
+            end: came.end,
+            time: self.pacer.state().now,
+            line: origin.line_index(),
+        });
+        self.pacer.adapt(self.delays.patience());
     }
 
     /// Takes a datagram that came at the time `now`, exactly as `Arbiter::take_from` does. If it is accepted, its numbers
@@ -118,9 +170,12 @@ impl Repairer {
         ensures refused { IfErr result (λ refused. HasRefused (line_of (receiver_origin origin)) self.old.arbiter
             datagram.now self.new.arbiter refused) }
         ensures batch { OnErr result (batch.new ≡ batch.old) }
-        ensures noted { OnOk result (HasNoted now origin datagram.now self.old.arbiter.view self.new.arbiter.view
-            self.old.pacer self.new.pacer) }
+        ensures learned { OnOk result (HasLearned self.old.pacer self.new.pacer (taken_steps self.old.options now origin
+            datagram.now self.old.arbiter.view self.new.arbiter.view self.new.delays)) }
+        ensures timed { OnOk result (IsTimed self.old.options (max self.old.pacer.state.now now) origin
+            (numbers (reading datagram.now)) self.old.delays self.new.delays) }
         ensures passed { OnErr result (HasPassed now self.old.arbiter.view self.old.pacer self.new.pacer) }
+        ensures same { OnErr result (self.new.delays ≡ self.old.delays) }
         ensures options { self.new.options ≡ self.old.options }
     {
         let receiver = self.arbiter.receiver();
@@ -130,9 +185,8 @@ impl Repairer {
         let taken = self
             .arbiter
             .take_from(origin.receiver_origin(), datagram, batch)?;
-        if is_missing {
-            self.note(origin, datagram);
-        }
+        self.learn(origin, datagram, is_missing);
+        self.adapt(origin, datagram);
         Ok(taken)
     }
 
@@ -172,6 +226,7 @@ impl Repairer {
         ensures arbiter { OnErr result (self.new.arbiter ≡ self.old.arbiter) }
         ensures batch { OnErr result (batch.new ≡ batch.old) }
         ensures options { self.new.options ≡ self.old.options }
+        ensures delays { self.new.delays ≡ self.old.delays }
     {
         self.pacer.advance(now, self.arbiter.receiver().known());
         let Some(gap) = self.given_up() else {
@@ -194,6 +249,7 @@ impl Repairer {
         ensures paced { self.new.pacer.options ≡ self.old.pacer.options }
         ensures arbiter { self.new.arbiter ≡ self.old.arbiter }
         ensures options { self.new.options ≡ self.old.options }
+        ensures delays { self.new.delays ≡ self.old.delays }
     {
         if self.given_up().is_some() {
             return None;
@@ -212,6 +268,7 @@ impl Repairer {
         ensures polled { HasPolled self.old.options self.old.arbiter.view self.old.pacer self.new.pacer now result }
         ensures arbiter { self.new.arbiter ≡ self.old.arbiter }
         ensures options { self.new.options ≡ self.old.options }
+        ensures delays { self.new.delays ≡ self.old.delays }
     {
         self.pacer.advance(now, self.arbiter.receiver().known());
         let sent = self.send()?;
@@ -240,6 +297,7 @@ impl Repairer {
         ensures pacer { self.new.pacer ≡ self.old.pacer }
         ensures arbiter { self.new.arbiter ≡ self.old.arbiter }
         ensures options { self.new.options ≡ self.old.options }
+        ensures delays { self.new.delays ≡ self.old.delays }
     {
         let over = self.pacer.next_over();
         let Some(number) = find_free(&self.arbiter, &self.pacer, &mut self.gaps) else {
@@ -278,6 +336,7 @@ impl Repairer {
         ensures passed { HasPassed now self.old.arbiter.view self.old.pacer self.new.pacer }
         ensures arbiter { self.new.arbiter ≡ self.old.arbiter }
         ensures options { self.new.options ≡ self.old.options }
+        ensures delays { self.new.delays ≡ self.old.delays }
     {
         let receiver = self.arbiter.receiver();
         let known = receiver.known();
