@@ -2,3 +2,5 @@ pub mod TakingLemmas
 pub mod GapLemmas
 pub mod PollLemmas
 pub mod GivingUpLemmas
+pub mod RunLemmas
+pub mod LawLemmas

@@ -7,3 +7,5 @@ pub mod Timing
 pub mod Taking
 pub mod GivingUp
 pub mod Polls
+pub mod Run
+pub mod Laws

@@ -6,12 +6,18 @@ mod ask;
 mod came;
 mod error;
 mod gaps;
+pub mod laws;
 mod options;
 mod origin;
+mod outcome;
 mod repairer;
+pub mod run;
+mod step;
 
 pub use ask::Ask;
 pub use error::RepairError;
 pub use options::RepairOptions;
 pub use origin::RepairOrigin;
+pub use outcome::Outcome;
 pub use repairer::Repairer;
+pub use step::RepairStep;
