@@ -274,7 +274,7 @@ has_paced old new (Pass time) o handed did =
     (old.arbiter.view.known, refl) did.passed
 
 -- One run after another.
-run_join : (p q r : Pacer) (xs ys : List Step) (asks more : List (Option Sent)) → IsRun p q xs asks → IsRun q r ys more →
+pub run_join : (p q r : Pacer) (xs ys : List Step) (asks more : List (Option Sent)) → IsRun p q xs asks → IsRun q r ys more →
     IsRun p r (xs ++ ys) (asks ++ more)
 run_join p q r [] ys [] more first then = subst (λ (s : Pacer). IsRun s r ys more) first then
 run_join p q r [] ys (ask ∷ asks) more first then = absurd first

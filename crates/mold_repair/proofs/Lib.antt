@@ -4,3 +4,4 @@ pub mod PollLemmas
 pub mod GivingUpLemmas
 pub mod RunLemmas
 pub mod LawLemmas
+pub mod ReadyLemmas

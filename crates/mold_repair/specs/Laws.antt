@@ -92,3 +92,8 @@ pub record IsPaced (old new : Repairer) (steps : List RepairStep) (outcomes : Li
   pub requests : requests_of outcomes ≡ returned_all old.arbiter.view.session old.options.servers sent
   -- No number is requested twice within the timeout, unless a step freed the request for it.
   pub apart : AreApart old.options.timeout old.pacer.state.now pacer_steps sent
+
+-- The request begins with the first missing message.
+abbrev pub RequestsFirst : View → Option Ask → Type 0
+RequestsFirst v None = ⊥
+RequestsFirst v (Some ask) = ask.request.sequence ≡ v.next

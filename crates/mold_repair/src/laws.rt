@@ -1,15 +1,26 @@
 //! Theorems about all runs of a repairer. Each law is a function with an empty body whose contract is the theorem.
 //! `run::run` returns such a run.
 
-ghost use Rattle.std.specs.Prelude.{◌≡◌, ◌+◌, ◌-◌, ◌*◌, ◌<◌, ◌≤◌, List, Some, length};
-ghost use Rattle.mold_repair.specs.Laws.{AreInOrder, HasNumbers, IsPaced, requests_of};
+ghost use Rattle.std.specs.Prelude.{◌≡◌, ◌+◌, ◌-◌, ◌*◌, ◌<◌, ◌≤◌, ℕ, [], List, Option, IfSome, Some, false, length, max};
+ghost use Rattle.mold_pacing.specs.Attempts.{count_asks_for};
+ghost use Rattle.mold_pacing.specs.Deadline.{CanAsk};
+ghost use Rattle.mold_pacing.specs.State.{advanced};
+ghost use Rattle.mold_pacing.specs.declared.pacer.Pacer.{Pacer};
+ghost use Rattle.mold_receiver.specs.Batch.{Handed};
+ghost use Rattle.mold_receiver.specs.View.{View};
+ghost use Rattle.mold_repair.specs.GivingUp.{is_due};
+ghost use Rattle.mold_repair.specs.Laws.{AreInOrder, HasNumbers, IsPaced, RequestsFirst, requests_of};
+ghost use Rattle.mold_repair.specs.Missing.{IsWanted};
 ghost use Rattle.mold_repair.specs.Options.{tolerance};
-ghost use Rattle.mold_repair.specs.Run.{IsRepaired, IsStepOf};
+ghost use Rattle.mold_repair.specs.Polls.{HasPolled};
+ghost use Rattle.mold_repair.specs.Run.{HasLostSome, IsRepaired, IsStepOf};
+ghost use Rattle.mold_repair.specs.declared.ask.Ask.{Ask};
+ghost use Rattle.mold_repair.specs.declared.options.RepairOptions.{RepairOptions};
 ghost use Rattle.mold_repair.specs.declared.outcome.Outcome.{Outcome};
 ghost use Rattle.mold_repair.specs.declared.repairer.Repairer.{Repairer};
 ghost use Rattle.mold_repair.specs.declared.step.RepairStep.{RepairStep};
 
-use mold_pacing::laws::{apart_law, limit_law};
+use mold_pacing::laws::{apart_law, attempts_law, limit_law};
 use mold_receiver::laws::taken_law;
 
 /// Each message is delivered once, or given up once, or neither yet. The numbers of what the steps of a run delivered and
@@ -44,4 +55,28 @@ pub fn flood_law()
 {
     limit_law();
     pacing_law();
+}
+
+/// Requests never get stuck. A time span after any moment, each number can be requested. The span is the greater of the
+/// ceiling and the interval. A poll then requests the first missing message, if it is ripe and not to be given up.
+pub fn stuck_law()
+    ensures ready { (p : Pacer) (number : ℕ) →
+        CanAsk p (p.state.now + max p.options.ceiling p.options.interval) number }
+    ensures asks { (options : RepairOptions) (v : View) (old new : Pacer) (now : ℕ) (result : Option Ask) →
+        HasPolled options v old new now result → 0 < options.servers →
+        old.state.now + max old.options.ceiling old.options.interval ≤ now →
+        IsWanted v (advanced now v.known old.state).ripe v.next → is_due options.give_up v old now ≡ false →
+        RequestsFirst v result }
+{}
+
+/// What is given up was requested as often as allowed: in a run that begins without requests, each of its numbers was in
+/// `give_up` requests of the pacer.
+pub fn given_up_law()
+    ensures { (start old new : Repairer) (steps : List RepairStep) (outcomes : List Outcome) →
+        (is : IsPaced start old steps outcomes) → (time : ℕ) (handed : Handed) (outcome : Outcome) →
+        start.pacer.flights.items ≡ [] → HasLostSome old new time handed outcome →
+        IfSome outcome.lost (λ gap. (number : ℕ) → gap.first ≤ number → number < gap.end →
+        old.options.give_up ≤ count_asks_for number is.sent) }
+{
+    attempts_law();
 }
