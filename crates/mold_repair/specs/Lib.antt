@@ -7,5 +7,7 @@ pub mod Timing
 pub mod Taking
 pub mod GivingUp
 pub mod Polls
+pub mod Stats
+pub mod StatsOf
 pub mod Run
 pub mod Laws

@@ -12,6 +12,7 @@ mod origin;
 mod outcome;
 mod repairer;
 pub mod run;
+mod stats;
 mod step;
 
 pub use ask::Ask;
@@ -20,4 +21,5 @@ pub use options::RepairOptions;
 pub use origin::RepairOrigin;
 pub use outcome::Outcome;
 pub use repairer::Repairer;
+pub use stats::{RepairCounts, RepairStats};
 pub use step::RepairStep;

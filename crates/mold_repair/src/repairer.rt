@@ -10,6 +10,7 @@ use crate::error::RepairError;
 use crate::gaps::{GAPS, find_free};
 use crate::options::RepairOptions;
 use crate::origin::RepairOrigin;
+use crate::stats::{RepairCounts, RepairStats};
 use mold_pacing::{Arrival, Delays, Gap, Pacer};
 use mold_receiver::laws::wanted_law;
 use mold_receiver::{Arbiter, Batch, Refusal, Taken};
@@ -27,6 +28,7 @@ pub struct Repairer {
     options: RepairOptions,
     // The delays between the lines.
     delays: Delays,
+    counts: RepairCounts,
     // Buffer for the gaps that are looked at, so that no call takes memory for them.
     gaps: Vec<Gap>,
     ghost valid: { are_options options ≡ true },
@@ -49,6 +51,8 @@ impl Repairer {
     ghost use Rattle.mold_repair.specs.Missing.{IsMissing, IsWanted};
     ghost use Rattle.mold_repair.specs.Origin.{receiver_origin};
     ghost use Rattle.mold_repair.specs.Polls.{HasPolled, HasRequested, IsDeadline, IsStill};
+    ghost use Rattle.mold_repair.specs.Stats.{counted_answer, counted_lost, counted_poll, no_counts};
+    ghost use Rattle.mold_repair.specs.StatsOf.{IsStats};
     ghost use Rattle.mold_repair.specs.Taking.{HasLearned, HasPassed, taken_steps};
     ghost use Rattle.mold_repair.specs.Timing.{IsTimed, adapted_from};
     ghost use Rattle.mold_wire.specs.Reading.{reading};
@@ -67,6 +71,7 @@ impl Repairer {
             (λ repairer. repairer.pacer.state ≡ fresh repairer.pacer.options arbiter.view.known) }
         ensures empty { IfOk result (λ repairer. repairer.pacer.flights.items ≡ []) }
         ensures arrivals { IfOk result (λ repairer. repairer.delays.arrivals.items ≡ no_arrivals) }
+        ensures counts { IfOk result (λ repairer. repairer.counts ≡ no_counts) }
         ensures recent { IfOk result (λ repairer. repairer.delays.recent.items ≡ []) }
         ensures ok { OnOk result (are_options options ≡ true) }
         ensures invalid { are_options options ≡ false → result ≡ Err Options }
@@ -89,6 +94,12 @@ impl Repairer {
             pacer,
             options,
             delays,
+            counts: RepairCounts {
+                requests: 0,
+                answers: 0,
+                useless: 0,
+                lost: 0,
+            },
             gaps,
         })
     }
@@ -99,6 +110,7 @@ impl Repairer {
         ensures now { self.new.pacer.state.now ≡ self.old.pacer.state.now }
         ensures arbiter { self.new.arbiter ≡ self.old.arbiter }
         ensures options { self.new.options ≡ self.old.options }
+        ensures counts { self.new.counts ≡ self.old.counts }
         ensures delays { self.new.delays ≡ self.old.delays }
     {
         let receiver = self.arbiter.receiver();
@@ -121,6 +133,7 @@ impl Repairer {
         ensures now { self.new.pacer.state.now ≡ self.old.pacer.state.now }
         ensures arbiter { self.new.arbiter ≡ self.old.arbiter }
         ensures options { self.new.options ≡ self.old.options }
+        ensures counts { self.new.counts ≡ self.old.counts }
         ensures delays { self.new.delays ≡ self.old.delays }
     {
         if is_missing {
@@ -136,6 +149,7 @@ impl Repairer {
             (adapted_from self.old.options origin (numbers (reading datagram.now)) self.new.delays) }
         ensures arbiter { self.new.arbiter ≡ self.old.arbiter }
         ensures options { self.new.options ≡ self.old.options }
+        ensures counts { self.new.counts ≡ self.old.counts }
     {
         if self.options.patience != 0 {
             return;
@@ -177,6 +191,8 @@ impl Repairer {
         ensures passed { OnErr result (HasPassed now self.old.arbiter.view self.old.pacer self.new.pacer) }
         ensures same { OnErr result (self.new.delays ≡ self.old.delays) }
         ensures options { self.new.options ≡ self.old.options }
+        ensures counted { IfOk result (λ taken. self.new.counts ≡ counted_answer origin taken self.old.counts) }
+        ensures counts { OnErr result (self.new.counts ≡ self.old.counts) }
     {
         let receiver = self.arbiter.receiver();
         let known = receiver.known();
@@ -187,6 +203,7 @@ impl Repairer {
             .take_from(origin.receiver_origin(), datagram, batch)?;
         self.learn(origin, datagram, is_missing);
         self.adapt(origin, datagram);
+        self.counts = self.counts.take(origin, taken);
         Ok(taken)
     }
 
@@ -226,6 +243,8 @@ impl Repairer {
         ensures arbiter { OnErr result (self.new.arbiter ≡ self.old.arbiter) }
         ensures batch { OnErr result (batch.new ≡ batch.old) }
         ensures options { self.new.options ≡ self.old.options }
+        ensures counted { IfOk result (λ lost. self.new.counts ≡ counted_lost lost self.old.counts) }
+        ensures counts { OnErr result (self.new.counts ≡ self.old.counts) }
         ensures delays { self.new.delays ≡ self.old.delays }
     {
         self.pacer.advance(now, self.arbiter.receiver().known());
@@ -238,6 +257,7 @@ impl Repairer {
             first: 0,
             end: next,
         });
+        self.counts = self.counts.lose(gap);
         Ok(Some(gap))
     }
 
@@ -249,6 +269,7 @@ impl Repairer {
         ensures paced { self.new.pacer.options ≡ self.old.pacer.options }
         ensures arbiter { self.new.arbiter ≡ self.old.arbiter }
         ensures options { self.new.options ≡ self.old.options }
+        ensures counts { self.new.counts ≡ self.old.counts }
         ensures delays { self.new.delays ≡ self.old.delays }
     {
         if self.given_up().is_some() {
@@ -268,6 +289,7 @@ impl Repairer {
         ensures polled { HasPolled self.old.options self.old.arbiter.view self.old.pacer self.new.pacer now result }
         ensures arbiter { self.new.arbiter ≡ self.old.arbiter }
         ensures options { self.new.options ≡ self.old.options }
+        ensures counted { self.new.counts ≡ counted_poll result self.old.counts }
         ensures delays { self.new.delays ≡ self.old.delays }
     {
         self.pacer.advance(now, self.arbiter.receiver().known());
@@ -275,6 +297,7 @@ impl Repairer {
         if self.options.servers == 0 {
             return None;
         }
+        self.counts = self.counts.request();
         Some(Ask {
             request: Request {
                 session: self.arbiter.receiver().session(),
@@ -297,6 +320,7 @@ impl Repairer {
         ensures pacer { self.new.pacer ≡ self.old.pacer }
         ensures arbiter { self.new.arbiter ≡ self.old.arbiter }
         ensures options { self.new.options ≡ self.old.options }
+        ensures counts { self.new.counts ≡ self.old.counts }
         ensures delays { self.new.delays ≡ self.old.delays }
     {
         let over = self.pacer.next_over();
@@ -336,6 +360,7 @@ impl Repairer {
         ensures passed { HasPassed now self.old.arbiter.view self.old.pacer self.new.pacer }
         ensures arbiter { self.new.arbiter ≡ self.old.arbiter }
         ensures options { self.new.options ≡ self.old.options }
+        ensures counts { self.new.counts ≡ self.old.counts }
         ensures delays { self.new.delays ≡ self.old.delays }
     {
         let receiver = self.arbiter.receiver();
@@ -358,6 +383,24 @@ impl Repairer {
         ensures none { IfNone result (HasNoGap self.now.arbiter.view (max from self.now.arbiter.view.next)) }
     {
         self.arbiter.next_missing(from)
+    }
+
+    /// Returns the statistics.
+    pub fn stats(&self) -> RepairStats
+        ensures { IsStats self.now result }
+    {
+        let receiver = self.arbiter.receiver();
+        let stored = receiver.stored();
+        let ahead = receiver.known().saturating_sub(receiver.next());
+        RepairStats {
+            next: receiver.next(),
+            known: receiver.known(),
+            gap: self.arbiter.next_missing(0),
+            missing: ahead.saturating_sub(u64::from(stored)),
+            stored,
+            patience: self.pacer.state().patience,
+            counts: self.counts,
+        }
     }
 
     /// Returns the arbiter.
