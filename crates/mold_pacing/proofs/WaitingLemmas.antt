@@ -1,8 +1,8 @@
 -- The times at which requests are over.
-use Rattle.std.proofs.Common.{◌≡◌, ℕ, ◌+◌, ◌<◌, ◌≤◌, Bool, true, false, List, Some, arith, ap, ◌∙◌, sym, refl, slice_get, inl, inr, max, min}
+use Rattle.std.proofs.Common.{◌≡◌, ℕ, suc, ◌+◌, ◌<◌, ◌≤◌, Bool, true, false, List, [], ◌∷◌, Some, arith, ap, ◌∙◌, sym, refl, slice_get, inl, inr, max, min, nat_lt, cond}
 use Rattle.std.proofs.lemmas.Bool.{cases_lt}
 use Rattle.std.proofs.lemmas.Bool.Decides.{nat_tests}
-use Rattle.std.specs.List.{list_any}
+use Rattle.std.specs.List.{list_all, list_any}
 use Rattle.mold_pacing.proofs.TableLemmas.{any_at, any_none}
 use Rattle.mold_pacing.specs.Flight.{asks_for, covers, in_flight, is_over}
 use Rattle.mold_pacing.specs.declared.flight.Flight.{Flight}
@@ -107,3 +107,69 @@ pub none_over : (fs : List Flight) (index from time : ℕ) → IsOverFrom fs ind
 none_over fs index from time is all before = any_none (is_over time) fs (λ i f there.
     let later : time < f.until = omega (arith, before, is.waits i f (all i f there) there) in
     (let off : is_over time f ≡ false = grind (arith, nat_tests, later) in off))
+
+-- The requests in flight before the index are not over before the time `over`.
+pub record IsNextOver (fs : List Flight) (now index over : ℕ) : Type 0 where
+  pub later : now ≤ over
+  pub waits : (i : ℕ) (f : Flight) → i < index → slice_get fs i ≡ Some f → now < f.until → over ≤ f.until
+
+pub next_over_more : (fs : List Flight) (now index over end : ℕ) (f : Flight) → slice_get fs index ≡ Some f →
+    IsNextOver fs now index over → (now < f.until → end ≡ f.until) → now ≤ end →
+    IsNextOver fs now (index + 1) (min over end)
+next_over_more fs now index over end f there is flies after = record {
+  later = omega (arith, is.later, after);
+  waits = λ i g before other busy.
+      elim (cases_lt i index) [
+        | inl earlier ↦ omega (arith, is.waits i g earlier other busy)
+        | inr from ↦
+            let same = ap (λ (h : Flight). h.until) (same_at fs i index f g there other before from) in
+            omega (arith, same, flies (omega (arith, same, busy)))
+      ];
+}
+
+pub covers_still : (now time number : ℕ) (f : Flight) → (now < f.until → time < f.until) →
+    covers now number f ≡ true → covers time number f ≡ true
+covers_still now time number f later covered =
+    let busy : now < f.until = grind (arith, nat_tests, covered) in
+    grind (arith, nat_tests, covered, later busy)
+
+pub any_still : (now time number : ℕ) (fs : List Flight)
+    → ((i : ℕ) (f : Flight) → slice_get fs i ≡ Some f → now < f.until → time < f.until)
+    → in_flight now number fs ≡ true → in_flight time number fs ≡ true
+any_still now time number [] later busy = busy
+any_still now time number (f ∷ fs) later busy =
+    elim (covers now number f) as (λ b. covers now number f ≡ b → in_flight time number (f ∷ fs) ≡ true) [
+      | true ↦ λ covered. any_at (covers time number) (f ∷ fs) 0 f refl
+          (covers_still now time number f (later 0 f refl) covered)
+      | false ↦ λ off.
+          let rest : in_flight now number fs ≡ true = grind (arith, busy, off) in
+          let still = any_still now time number fs (λ i g there. later (suc i) g there) rest in
+          grind (arith, still)
+    ] refl
+
+pub still_bound : (now last number over : ℕ) (fs : List Flight)
+    → ((i : ℕ) (f : Flight) → slice_get fs i ≡ Some f → now < f.until → over ≤ f.until)
+    → in_flight now number fs ≡ true → list_all (is_over last) fs ≡ true → over ≤ last
+still_bound now last number over [] waits busy all = absurd (let none : ⊥ = cc in none)
+still_bound now last number over (f ∷ fs) waits busy all =
+    elim (covers now number f) as (λ b. covers now number f ≡ b → over ≤ last) [
+      | true ↦ λ covered.
+          let flies : now < f.until = grind (arith, nat_tests, covered) in
+          let ends : is_over last f ≡ true = grind (arith, all) in
+          let past : f.until ≤ last = grind (arith, nat_tests, ends) in
+          omega (arith, past, waits 0 f refl flies)
+      | false ↦ λ off.
+          let rest : in_flight now number fs ≡ true = grind (arith, busy, off) in
+          let others : list_all (is_over last) fs ≡ true = grind (arith, all) in
+          still_bound now last number over fs (λ i g there. waits (suc i) g there) rest others
+    ] refl
+
+pub end_flies : (now until most end : ℕ) → end ≡ cond (nat_lt now until) until most → now < until → end ≡ until
+end_flies now until most end is flies = grind (arith, nat_tests, is, flies)
+
+pub end_later : (now until most end : ℕ) → end ≡ cond (nat_lt now until) until most → now ≤ most → now ≤ end
+end_later now until most end is fits =
+    elim (nat_lt now until) as (λ b. nat_lt now until ≡ b → end ≡ cond b until most → now ≤ end) [
+      | true ↦ λ test same. (let flies : now < until = grind (arith, nat_tests, test) in omega (arith, same, flies))
+      | false ↦ λ test same. omega (arith, same, fits)
+    ] refl is

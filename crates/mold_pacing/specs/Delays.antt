@@ -1,9 +1,9 @@
 -- The delays between two lines, by which the patience adapts. Times are in nanoseconds.
-use Rattle.std.specs.Prelude.{ℕ, ◌+◌, ◌*◌, ◌&&◌, Bool, not, List, [], ◌∷◌, ◌++◌, length, max, min, nat_eq, nat_lt, set}
+use Rattle.std.specs.Prelude.{ℕ, ◌+◌, ◌*◌, ◌&&◌, Bool, not, List, [], ◌∷◌, ◌++◌, length, max, min, nat_eq, nat_lt, replicate, set}
 use Rattle.std.specs.Prelude.{if◌then◌else◌}
 use Rattle.mold_pacing.specs.declared.arrival.Arrival.{Arrival}
 use Rattle.mold_pacing.specs.declared.arrival.TheConstants.{BOTH}
-use Rattle.mold_pacing.specs.declared.delays.TheConstants.{DELAYS, FIRST_PATIENCE, GREATEST_PATIENCE, LEAST_PATIENCE}
+use Rattle.mold_pacing.specs.declared.delays.TheConstants.{DELAYS, FIRST_PATIENCE, GREATEST_PATIENCE, LEAST_PATIENCE, SLOTS}
 
 -- The greatest of the delays, or 0 without a delay.
 abbrev pub greatest_of : List ℕ → ℕ
@@ -19,6 +19,10 @@ patience_for (delay ∷ delays) = max LEAST_PATIENCE (min (greatest_of (delay �
 -- What is kept of the arrivals before the first one.
 abbrev pub no_arrival : Arrival
 no_arrival = record { first = 0; end = 0; time = 0; line = BOTH }
+
+-- What is kept before the first arrival.
+abbrev pub no_arrivals : List Arrival
+no_arrivals = replicate SLOTS no_arrival
 
 -- Whether this is the same datagram: it has the same numbers.
 abbrev pub is_same : Arrival → Arrival → Bool

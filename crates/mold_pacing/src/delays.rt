@@ -1,7 +1,7 @@
 //! The patience that adapts: how long after one line the other line brings the same datagram.
 
-ghost use Rattle.std.specs.Prelude.{◌≡◌, ◌≤◌, ◌<◌, [], length, replicate, vec_capacity, IfOk};
-ghost use Rattle.mold_pacing.specs.Delays.{greatest_of, index_after, no_arrival, patience_for, pushed};
+ghost use Rattle.std.specs.Prelude.{◌≡◌, ◌≤◌, ◌<◌, [], length, vec_capacity, IfOk};
+ghost use Rattle.mold_pacing.specs.Delays.{greatest_of, index_after, no_arrivals, patience_for, pushed};
 ghost use Rattle.mold_pacing.specs.declared.delays.TheConstants.{DELAYS, SLOTS};
 
 use crate::arrival::{Arrival, BOTH};
@@ -13,9 +13,10 @@ pub(crate) const DELAYS: usize = 1024;
 // For how many datagrams the first arrival is kept.
 pub(crate) const SLOTS: usize = 65_536;
 
-// The patience before a delay is known, the least and the greatest one, in nanoseconds.
-pub(crate) const FIRST_PATIENCE: u64 = 1_000_000;
+/// The patience before a delay is known, in nanoseconds.
+pub const FIRST_PATIENCE: u64 = 1_000_000;
 
+// The least and the greatest patience, in nanoseconds.
 pub(crate) const LEAST_PATIENCE: u64 = 200_000;
 
 pub(crate) const GREATEST_PATIENCE: u64 = 100_000_000;
@@ -78,7 +79,7 @@ impl Delays {
 
     /// Returns the state before any arrival. It takes its whole memory here, which is 2 MiB.
     pub fn new(alloc: Global) -> Result<Delays, AllocError>
-        ensures arrivals { IfOk result (λ delays. delays.arrivals.items ≡ replicate SLOTS no_arrival) }
+        ensures arrivals { IfOk result (λ delays. delays.arrivals.items ≡ no_arrivals) }
         ensures recent { IfOk result (λ delays. delays.recent.items ≡ []) }
         ensures index { IfOk result (λ delays. delays.next ≡ 0) }
     {

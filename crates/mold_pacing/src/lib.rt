@@ -21,7 +21,7 @@ mod waiting;
 
 pub use arrival::Arrival;
 pub use ask::Ask;
-pub use delays::Delays;
+pub use delays::{Delays, FIRST_PATIENCE};
 pub use flight::Flight;
 pub use gap::{Gap, are_in_order};
 pub use options::PacerOptions;

@@ -15,7 +15,7 @@ use crate::response::{ended_request, take_arrival, take_response};
 use crate::state::PacerState;
 use crate::step::Step;
 use crate::table::{Free, all_begin_below, first_free, free_end};
-use crate::waiting::{free_from, over_from};
+use crate::waiting::{free_from, next_over, over_from};
 use std::alloc::{AllocError, Global};
 
 /// The policy of requests. It knows the time, the requests in flight, and the missing numbers only from its caller.
@@ -35,12 +35,12 @@ pub struct Pacer {
 }
 
 impl Pacer {
-    ghost use Rattle.std.specs.Prelude.{max, [], map, false, IfOk, IfSome, IfNone, OnErr, ℕ, ◌-◌, Some};
+    ghost use Rattle.std.specs.Prelude.{max, min, [], map, false, IfOk, IfSome, IfNone, OnErr, ℕ, ◌-◌, Some, slice_get};
     ghost use Rattle.std.specs.List.{list_all};
-    ghost use Rattle.mold_pacing.specs.Asks.{are_gaps, AsksFrom};
-    ghost use Rattle.mold_pacing.specs.Deadline.{CanAsk};
+    ghost use Rattle.mold_pacing.specs.Asks.{are_gaps, AreAllInFlight, AsksFrom, IsFirstFree};
+    ghost use Rattle.mold_pacing.specs.Deadline.{CanAsk, can_send};
     ghost use Rattle.mold_pacing.specs.Polls.{HasAsked, IsIdle, ended_request, last_request};
-    ghost use Rattle.mold_pacing.specs.Flight.{ArePassed, BeginAbove};
+    ghost use Rattle.mold_pacing.specs.Flight.{ArePassed, BeginAbove, in_flight};
     ghost use Rattle.mold_pacing.specs.Repeat.{attempts_of, end_for, flight_for, server_for};
     ghost use Rattle.mold_pacing.specs.Most.{learned, request_most};
     ghost use Rattle.mold_pacing.specs.declared.flight.Flight.{Flight};
@@ -163,6 +163,7 @@ impl Pacer {
         requires { are_gaps 0 gaps.now ≡ true }
         ensures asked { IfSome result (HasAsked self.old self.new gaps.now) }
         ensures idle { IfNone result (IsIdle self.old self.new gaps.now) }
+        ensures options { self.new.options ≡ self.old.options }
     {
         let now = self.state.now;
         if !is_open(self.state.opens, self.options.tolerance, now) {
@@ -188,6 +189,40 @@ impl Pacer {
         self.state.now.max(opens).max(free).max(self.room_from())
     }
 
+    /// Returns whether a request can be sent now, for a number that is not in flight.
+    pub fn can_send(&self) -> bool
+        ensures { result ≡ can_send self.now }
+    {
+        is_open(self.state.opens, self.options.tolerance, self.state.now)
+            && self.room_from() <= self.state.now
+    }
+
+    /// Returns the least number of the gaps that is ripe and not in flight.
+    pub fn next_free(&self, gaps: &[Gap]) -> Option<u64>
+        requires { are_gaps 0 gaps.now ≡ true }
+        ensures some { IfSome result (λ number. (end : ℕ) × IsFirstFree self.now.flights.items self.now.state.now
+            self.now.state.ripe gaps.now number end) }
+        ensures none { IfNone result
+            (AreAllInFlight self.now.flights.items self.now.state.now self.now.state.ripe gaps.now) }
+    {
+        let free = first_free(&self.flights, self.state.now, self.state.ripe, gaps)?;
+        Some(free.first)
+    }
+
+    /// Returns the first time at which a request in flight is over, or `u64::MAX` if nothing is in flight. If all ripe
+    /// numbers are in flight, no request can be sent before.
+    pub fn next_over(&self) -> u64
+        ensures now { self.now.state.now ≤ result }
+        ensures least { (time number : ℕ) → time < result →
+            in_flight self.now.state.now number self.now.flights.items ≡ true → CanAsk self.now time number → ⊥ }
+        ensures same { (time : ℕ) (i : ℕ) (f : Flight) → time < result → slice_get self.now.flights.items i ≡ Some f →
+            f.until ≤ time → f.until ≤ self.now.state.now }
+        ensures bound { (number : ℕ) → in_flight self.now.state.now number self.now.flights.items ≡ true →
+            result ≤ self.now.state.now + self.now.options.ceiling }
+    {
+        next_over(&self.flights, self.state.now)
+    }
+
     /// Returns what the pacer knows besides its requests.
     pub fn state(&self) -> PacerState
         ensures { result ≡ self.now.state }
@@ -198,6 +233,7 @@ impl Pacer {
     /// Returns the time from which on `advance` makes the numbers below the mark ripe. A caller that waits until a
     /// missing number is ripe reports the time then.
     pub fn ripens(&self) -> u64
+        ensures time { result ≡ min (self.now.state.marked + self.now.state.patience) 18446744073709551615 }
         ensures ripe { (time known : ℕ) → result ≤ time → time < 2 ^ 62 →
             (advanced time known self.now.state).ripe ≡ self.now.state.mark }
         ensures least { (time known : ℕ) → max self.now.state.now self.now.state.marked ≤ time → time < result →
@@ -206,12 +242,20 @@ impl Pacer {
         self.state.marked.saturating_add(self.state.patience)
     }
 
+    /// Returns the last request for this number, if it is over.
+    pub fn last_request(&self, number: u64) -> Option<Flight>
+        ensures { result ≡ last_request self.now number }
+    {
+        let index = stale_index(&self.flights, self.state.now, number)?;
+        Some(self.flights[index])
+    }
+
     /// Returns how many requests in a row for this number had no response. A request in flight doesn't count.
     pub fn attempts(&self, number: u64) -> u32
         ensures { result ≡ attempts_of (last_request self.now number) }
     {
-        match stale_index(&self.flights, self.state.now, number) {
-            Some(index) => self.flights[index].attempts,
+        match self.last_request(number) {
+            Some(flight) => flight.attempts,
             None => 0,
         }
     }

@@ -1,8 +1,9 @@
 //! How long the requests in flight keep a number or a place.
 
-ghost use Rattle.std.specs.Prelude.{◌≡◌, ◌<◌, ◌≤◌, ℕ, true, false, length};
+ghost use Rattle.std.specs.Prelude.{◌≡◌, ◌<◌, ◌≤◌, ℕ, true, false, length, nat_lt, if◌then◌else◌, slice_get, Some};
 ghost use Rattle.std.specs.List.{list_all, list_any};
 ghost use Rattle.mold_pacing.specs.Flight.{asks_for, in_flight, is_over};
+ghost use Rattle.mold_pacing.specs.declared.flight.Flight.{Flight};
 
 use crate::flight::Flight;
 
@@ -39,4 +40,33 @@ pub(crate) fn over_from(flights: &[Flight]) -> u64
         from = from.min(flights[index].until);
     }
     from
+}
+
+// Returns the time at which the request is over, or `u64::MAX` if it is over already.
+fn end_after(flight: Flight, now: u64) -> u64
+    ensures { result ≡ (if nat_lt now flight.until then flight.until else 18446744073709551615) }
+{
+    if now < flight.until {
+        flight.until
+    } else {
+        u64::MAX
+    }
+}
+
+/// Returns the first time after `now` at which one of the requests in flight is over, or `u64::MAX` if none is in
+/// flight.
+pub(crate) fn next_over(flights: &[Flight], now: u64) -> u64
+    ensures later { now ≤ result }
+    ensures same { (time i : ℕ) (f : Flight) → time < result → slice_get flights.now i ≡ Some f → f.until ≤ time →
+        f.until ≤ now }
+    ensures stays { (time number : ℕ) → time < result → in_flight now number flights.now ≡ true →
+        in_flight time number flights.now ≡ true }
+    ensures bound { (last number : ℕ) → in_flight now number flights.now ≡ true →
+        list_all (is_over last) flights.now ≡ true → result ≤ last }
+{
+    let mut over = u64::MAX;
+    for index in 0..flights.len() {
+        over = over.min(end_after(flights[index], now));
+    }
+    over
 }

@@ -1,0 +1,7 @@
+pub mod TakingLemmas
+pub mod GapLemmas
+pub mod PollLemmas
+pub mod GivingUpLemmas
+pub mod RunLemmas
+pub mod LawLemmas
+pub mod ReadyLemmas

@@ -1,0 +1,44 @@
+use Rattle.std.proofs.Common.{◌∙◌, List, Option, refl, subst, sym, inl, inr}
+use Rattle.std.specs.Prelude.{MatchOption}
+use Rattle.mold_pacing.specs.declared.ask.Ask.{Ask as Sent}
+use Rattle.mold_pacing.specs.declared.gap.Gap.{Gap}
+use Rattle.mold_repair.specs.Polls.{HasRequested, HaveFree, IsStill}
+use Rattle.mold_repair.proofs.GapLemmas.{sent_is}
+use Rattle.mold_repair.proofs.repairer.Repairer.send.Goals as goal
+
+pub returns-then-is_some-clause-sent : goal.returns-then-is_some-clause-sent
+returns-then-is_some-clause-sent c = record {
+  reason = inl (sym c.given_up.ensures.due ∙ sym c.is_some.ensures ∙ c.if-is_some.true);
+  flights = refl;
+  state = refl;
+  options = refl;
+}
+
+pub returns-then-not-can_send-clause-sent : goal.returns-then-not-can_send-clause-sent
+returns-then-not-can_send-clause-sent c = record {
+  reason = inr (inl (sym c.can_send.ensures ∙ c.if-not-can_send.true));
+  flights = refl;
+  state = refl;
+  options = refl;
+}
+
+pub returns-in_err-find_free-clause-sent : goal.returns-in_err-find_free-clause-sent
+returns-in_err-find_free-clause-sent c =
+    let old = c.args.self.now in
+    let still : IsStill old.options.give_up old.arbiter.view old.pacer old.pacer = record {
+      reason = inr (inr c.in_err-find_free.ensures.none);
+      flights = refl;
+      state = refl;
+      options = refl;
+    } in
+    subst (λ (r : Option Sent). MatchOption r (IsStill old.options.give_up old.arbiter.view old.pacer old.pacer)
+    (HasRequested old.options.give_up old.arbiter.view old.pacer old.pacer)) (sym c.from_residual.ensures) still
+
+pub returns-clause-sent : goal.returns-clause-sent
+returns-clause-sent c =
+    let old = c.args.self.now in
+    let v = old.arbiter.view in
+    sent_is old.options.give_up v old.pacer c.poll.new.self c.deref.result.now c.in_ok-find_free.field-0 c.poll.result
+    (subst (λ (gs : List Gap). HaveFree v old.pacer gs c.in_ok-find_free.field-0) (sym c.deref.ensures.value)
+    c.in_ok-find_free.ensures.some) (sym c.given_up.ensures.due ∙ sym c.is_some.ensures ∙ c.if-is_some.false)
+    (sym c.can_send.ensures ∙ c.if-not-can_send.false) c.poll.ensures.asked c.poll.ensures.idle

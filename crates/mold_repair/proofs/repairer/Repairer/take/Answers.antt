@@ -1,0 +1,59 @@
+use Rattle.std.proofs.Common.{◌∙◌, ℕ, max, nat_lt, ap, subst, sym, Result, Ok, Err}
+use Rattle.std.specs.Prelude.{OnErr}
+use Rattle.mold_pacing.specs.declared.delays.Delays.{Delays}
+use Rattle.mold_pacing.specs.declared.state.PacerState.{PacerState}
+use Rattle.mold_receiver.specs.Arbiter.{Arbitration}
+use Rattle.mold_receiver.specs.View.{View}
+use Rattle.mold_repair.specs.Came.{noted, numbers}
+use Rattle.mold_repair.specs.Taking.{HasLearned, taken_steps}
+use Rattle.mold_repair.specs.Timing.{IsTimed, adapted_from}
+use Rattle.mold_repair.specs.declared.options.RepairOptions.{RepairOptions}
+use Rattle.mold_repair.proofs.TakingLemmas.{advanced_now, learned_all, passed}
+use Rattle.mold_repair.proofs.repairer.Repairer.take.Goals as goal
+use Rattle.mold_wire.specs.Reading.{reading}
+
+on_err : {T E : Type 0} {P : Type 0} (r : Result T E) → P → OnErr r P
+on_err (Ok x) p = tt
+on_err (Err e) p = p
+
+pub returns-in_err-taken-clause-passed : goal.returns-in_err-taken-clause-passed
+returns-in_err-taken-clause-passed c =
+    let old = c.args.self.now in
+    let known = c.known-known.ensures ∙ ap (λ (v : View). v.known) c.receiver-receiver.ensures in
+    on_err c.from_residual.result (passed c.args.now c.known-known.result old.arbiter.view old.pacer c.advance.new.self
+    known c.advance.ensures.options c.advance.ensures.state c.advance.ensures.flights)
+
+pub returns-clause-learned : goal.returns-clause-learned
+returns-clause-learned c =
+    let old = c.args.self.now in
+    let now = c.args.now in
+    let origin = c.args.origin in
+    let bytes = c.args.datagram.now in
+    let v = old.arbiter.view in
+    let new = c.adapt.new.self in
+    let known = c.known-known.ensures ∙ ap (λ (w : View). w.known) c.receiver-receiver.ensures in
+    let next = c.next.ensures ∙ ap (λ (w : View). w.next) c.receiver-receiver.ensures in
+    let took = passed now c.known-known.result v old.pacer c.advance.new.self
+    known c.advance.ensures.options c.advance.ensures.state c.advance.ensures.flights in
+    let after = ap (λ (a : Arbitration). a.view) (c.adapt.ensures.arbiter ∙ c.learn.ensures.arbiter) in
+    let all = learned_all now (nat_lt c.next.result c.known-known.result) v (noted origin bytes c.take_from.new.self.view)
+    (adapted_from c.learn.new.self.options origin (numbers (reading bytes)) new.delays) old.pacer c.advance.new.self
+    c.learn.new.self.pacer new.pacer took (λ i. nat_lt (next i) (known i)) c.learn.ensures.learned
+    c.adapt.ensures.learned in
+    subst (λ (w : View). HasLearned old.pacer new.pacer (taken_steps old.options now origin bytes v w new.delays))
+    (sym after)
+    (subst (λ (o : RepairOptions). HasLearned old.pacer new.pacer
+    (taken_steps o now origin bytes v c.take_from.new.self.view new.delays)) c.learn.ensures.options all)
+
+pub returns-clause-timed : goal.returns-clause-timed
+returns-clause-timed c =
+    let old = c.args.self.now in
+    let came = numbers (reading c.args.datagram.now) in
+    let new = c.adapt.new.self in
+    let now = c.learn.ensures.now ∙ ap (λ (s : PacerState). s.now) c.advance.ensures.state
+    ∙ advanced_now c.args.now c.known-known.result old.pacer.state in
+    subst (λ (d : Delays). IsTimed old.options (max old.pacer.state.now c.args.now) c.args.origin came d new.delays)
+    c.learn.ensures.delays
+    (subst (λ (n : ℕ). IsTimed old.options n c.args.origin came c.learn.new.self.delays new.delays) now
+    (subst (λ (o : RepairOptions). IsTimed o c.learn.new.self.pacer.state.now c.args.origin came c.learn.new.self.delays
+    new.delays) c.learn.ensures.options c.adapt.ensures.timed))

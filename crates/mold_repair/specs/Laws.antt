@@ -1,0 +1,99 @@
+-- What the laws of a run state.
+use Rattle.std.specs.Prelude.{◌≡◌, ◌⊎◌, ℕ, ◌+◌, ◌<◌, ◌≤◌, List, [], ◌∷◌, ◌++◌, length, Option, None, Some, IfSome}
+use Rattle.mold_pacing.specs.Laws.{AreApart}
+use Rattle.mold_pacing.specs.Run.{IsRun}
+use Rattle.mold_pacing.specs.declared.ask.Ask.{Ask as Sent}
+use Rattle.mold_pacing.specs.declared.delays.Delays.{Delays}
+use Rattle.mold_pacing.specs.declared.gap.Gap.{Gap}
+use Rattle.mold_pacing.specs.declared.step.Step.{Step}
+use Rattle.mold_pacing.specs.declared.step.Step.TheVariants.{Adapt, Advance, Arrive, Poll as PollGaps, Respond}
+use Rattle.mold_receiver.specs.Batch.{Handed, followed_by}
+use Rattle.mold_receiver.specs.Store.{Message}
+use Rattle.mold_receiver.specs.View.{View}
+use Rattle.mold_repair.specs.Came.{range}
+use Rattle.mold_repair.specs.Polls.{returned}
+use Rattle.mold_repair.specs.Run.{after_lost, nothing}
+use Rattle.mold_repair.specs.Taking.{taken_steps}
+use Rattle.mold_repair.specs.declared.ask.Ask.{Ask}
+use Rattle.mold_repair.specs.declared.options.RepairOptions.{RepairOptions}
+use Rattle.mold_repair.specs.declared.outcome.Outcome.{Outcome}
+use Rattle.mold_repair.specs.declared.repairer.Repairer.{Repairer}
+use Rattle.mold_repair.specs.declared.step.RepairStep.{RepairStep}
+use Rattle.mold_repair.specs.declared.step.RepairStep.TheVariants.{Lost, Pass, Poll, Take}
+use Rattle.mold_wire.specs.declared.session.Session.{Session}
+
+-- The batch has the messages of these numbers.
+pub record HasNumbers (handed : Handed) (g : Gap) : Type 0 where
+  pub messages : List Message
+  pub batch : handed ≡ followed_by nothing g.first messages
+  pub counted : g.first + length messages ≡ g.end
+
+-- A step after which the messages below `end` are delivered or lost, if those below `next` were before. First come the
+-- numbers of the lost messages, then those of the delivered ones.
+pub record Continues (next : ℕ) (o : Outcome) : Type 0 where
+  pub lost : IfSome o.lost (λ gap. (gap.first ≡ next) × (gap.first < gap.end))
+  pub delivered : o.delivered.first ≡ after_lost next o.lost
+  pub order : o.delivered.first ≤ o.delivered.end
+
+-- The numbers of the messages that were delivered, and of those that were given up, follow each other without a number
+-- left out or repeated, from `next` to just below `end`.
+abbrev pub AreInOrder : ℕ → List Outcome → ℕ → Type 0
+AreInOrder next [] end = next ≡ end
+AreInOrder next (o ∷ os) end = Continues next o × AreInOrder o.delivered.end os end
+
+-- The request before some others, if there is one.
+abbrev pub listed : Option Ask → List Ask → List Ask
+listed None asks = asks
+listed (Some ask) asks = ask ∷ asks
+
+-- The requests of the run.
+abbrev pub requests_of : List Outcome → List Ask
+requests_of [] = []
+requests_of (o ∷ os) = listed o.ask (requests_of os)
+
+-- The requests that are returned for those of a pacer.
+abbrev pub returned_all : Session → ℕ → List (Option Sent) → List Ask
+returned_all session servers [] = []
+returned_all session servers (sent ∷ more) = listed (returned session servers sent) (returned_all session servers more)
+
+-- The step is a poll.
+abbrev pub IsPollStep : Step → Type 0
+IsPollStep (PollGaps gaps) = Unit {0}
+IsPollStep (Advance time known) = ⊥
+IsPollStep (Adapt patience) = ⊥
+IsPollStep (Respond server came) = ⊥
+IsPollStep (Arrive came) = ⊥
+
+-- The steps of the pacer in a step of the repairer: the time, then a poll, or what came.
+abbrev pub ArePacerSteps : RepairOptions → RepairStep → List Step → Type 0
+ArePacerSteps options (Take time origin datagram) steps =
+    ((before after : View) × (delays : Delays) × (steps ≡ taken_steps options time origin datagram.now before after delays))
+    ⊎ ((known : ℕ) × (steps ≡ Advance time known ∷ []))
+ArePacerSteps options (Poll time) steps =
+    (known : ℕ) × (step : Step) × IsPollStep step × (steps ≡ Advance time known ∷ step ∷ [])
+ArePacerSteps options (Lost time) steps =
+    ((known next : ℕ) × (steps ≡ Advance time known ∷ Arrive (range 0 next) ∷ []))
+    ⊎ ((known : ℕ) × (steps ≡ Advance time known ∷ []))
+ArePacerSteps options (Pass time) steps = (known : ℕ) × (steps ≡ Advance time known ∷ [])
+
+-- The steps of the pacer are those of the repairer's steps, one after the other.
+abbrev pub AreAllPacerSteps : RepairOptions → List RepairStep → List Step → Type 0
+AreAllPacerSteps options [] all = all ≡ []
+AreAllPacerSteps options (step ∷ steps) all =
+    (first rest : List Step) × ArePacerSteps options step first × (all ≡ first ++ rest)
+    × AreAllPacerSteps options steps rest
+
+-- A run of the repairer is a run of its pacer, which sent its requests.
+pub record IsPaced (old new : Repairer) (steps : List RepairStep) (outcomes : List Outcome) : Type 0 where
+  pub pacer_steps : List Step
+  pub sent : List (Option Sent)
+  pub are : AreAllPacerSteps old.options steps pacer_steps
+  pub ran : IsRun old.pacer new.pacer pacer_steps sent
+  pub requests : requests_of outcomes ≡ returned_all old.arbiter.view.session old.options.servers sent
+  -- No number is requested twice within the timeout, unless a step freed the request for it.
+  pub apart : AreApart old.options.timeout old.pacer.state.now pacer_steps sent
+
+-- The request begins with the first missing message.
+abbrev pub RequestsFirst : View → Option Ask → Type 0
+RequestsFirst v None = ⊥
+RequestsFirst v (Some ask) = ask.request.sequence ≡ v.next

@@ -1,0 +1,13 @@
+pub mod Options
+pub mod Origin
+pub mod Came
+pub mod Missing
+pub mod Gaps
+pub mod Timing
+pub mod Taking
+pub mod GivingUp
+pub mod Polls
+pub mod Stats
+pub mod StatsOf
+pub mod Run
+pub mod Laws

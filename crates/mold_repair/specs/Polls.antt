@@ -1,0 +1,103 @@
+-- What a repairer does when it is polled, and its deadline.
+use Rattle.std.specs.Prelude.{◌≡◌, ◌⊎◌, ℕ, ◌+◌, ◌-◌, ◌<◌, ◌≤◌, ◌==◌, true, false, List, max, slice_get}
+use Rattle.std.specs.Prelude.{if◌then◌else◌, MatchOption, Option, None, Some}
+use Rattle.mold_pacing.specs.Asks.{IsFirstFree, are_gaps}
+use Rattle.mold_pacing.specs.Deadline.{CanAsk, can_send}
+use Rattle.mold_pacing.specs.Flight.{in_flight}
+use Rattle.mold_pacing.specs.Polls.{HasAsked}
+use Rattle.mold_pacing.specs.Run.{Takes}
+use Rattle.mold_pacing.specs.State.{advanced}
+use Rattle.mold_pacing.specs.declared.ask.Ask.{Ask as Sent}
+use Rattle.mold_pacing.specs.declared.gap.Gap.{Gap}
+use Rattle.mold_pacing.specs.declared.pacer.Pacer.{Pacer}
+use Rattle.mold_pacing.specs.declared.step.Step.TheVariants.{Advance}
+use Rattle.mold_receiver.specs.View.{View}
+use Rattle.mold_repair.specs.GivingUp.{is_due}
+use Rattle.mold_repair.specs.Missing.{AreWanted, IsInGaps, IsMissing, IsWanted}
+use Rattle.mold_repair.specs.declared.ask.Ask.{Ask}
+use Rattle.mold_repair.specs.declared.options.RepairOptions.{RepairOptions}
+use Rattle.mold_wire.specs.declared.session.Session.{Session}
+
+-- The number may be requested, or a request for it is in flight.
+abbrev pub IsSentFor : Pacer → ℕ → Type 0
+IsSentFor p number = in_flight p.state.now number p.flights.items ≡ true
+
+-- Gaps with numbers that may be requested. They are in order, and each is as long as it can be.
+pub record AreGapsOf (v : View) (p : Pacer) (gaps : List Gap) : Type 0 where
+  pub order : are_gaps 0 gaps ≡ true
+  pub wanted : AreWanted v p.state.ripe gaps
+  pub whole : (i : ℕ) (g : Gap) → slice_get gaps i ≡ Some g → IsWanted v p.state.ripe g.end → ⊥
+
+-- The gaps have all numbers from `from` to just below `end` that may be requested. All such numbers below `from` are in
+-- flight.
+pub record AreFirstGaps (v : View) (p : Pacer) (gaps : List Gap) (from end : ℕ) : Type 0 where
+  pub gaps_of : AreGapsOf v p gaps
+  pub below : (i : ℕ) (g : Gap) → slice_get gaps i ≡ Some g → g.end ≤ end
+  pub have : (number : ℕ) → from ≤ number → number < end → IsWanted v p.state.ripe number → IsInGaps gaps number
+  pub passed : (number : ℕ) → number < from → IsWanted v p.state.ripe number → IsSentFor p number
+
+-- The gaps have the least number that may be requested and is not in flight.
+pub record HaveFree (v : View) (p : Pacer) (gaps : List Gap) (number : ℕ) : Type 0 where
+  pub from : ℕ
+  pub end : ℕ
+  pub limit : ℕ
+  pub are : AreFirstGaps v p gaps from end
+  pub free : IsFirstFree p.flights.items p.state.now p.state.ripe gaps number limit
+
+-- All numbers that may be requested are in flight.
+abbrev pub AreAllSent : View → Pacer → Type 0
+AreAllSent v p = (number : ℕ) → IsWanted v p.state.ripe number → IsSentFor p number
+
+-- The pacer sent a request. It begins with the least number that may be requested and is not in flight. No message is to
+-- be given up.
+pub record HasRequested (give_up : ℕ) (v : View) (old new : Pacer) (sent : Sent) : Type 0 where
+  pub kept : is_due give_up v old old.state.now ≡ false
+  pub gaps : List Gap
+  pub are : AreGapsOf v old gaps
+  pub asked : HasAsked old new gaps sent
+  pub least : (number : ℕ) → number < sent.first → IsWanted v old.state.ripe number → IsSentFor old number
+
+-- The pacer sent no request: messages are to be given up first, the bucket is empty, the table has no room, or all
+-- numbers that may be requested are in flight. Nothing changed.
+pub record IsStill (give_up : ℕ) (v : View) (old new : Pacer) : Type 0 where
+  pub reason : (is_due give_up v old old.state.now ≡ true) ⊎ (can_send old ≡ false) ⊎ AreAllSent v old
+  pub flights : new.flights.items ≡ old.flights.items
+  pub state : new.state ≡ old.state
+  pub options : new.options ≡ old.options
+
+-- The request that is returned for one that the pacer sent.
+abbrev pub ask_of : Session → Sent → Ask
+ask_of session sent = record {
+  request = record { session = session; sequence = sent.first; count = sent.end - sent.first };
+  server = sent.server;
+}
+
+-- What is returned. Without a server it is nothing.
+abbrev pub returned : Session → ℕ → Option Sent → Option Ask
+returned session servers None = None
+returned session servers (Some sent) = if servers == 0 then None else Some (ask_of session sent)
+
+-- The repairer was polled at this time. `v` is its view, and `old` and `new` are its pacer before and after.
+pub record HasPolled (options : RepairOptions) (v : View) (old new : Pacer) (now : ℕ) (result : Option Ask) : Type 0 where
+  -- The pacer at this time.
+  pub between : Pacer
+  pub time : Takes old between (Advance now v.known) None
+  pub sent : Option Sent
+  pub polled : MatchOption sent (IsStill options.give_up v between new) (HasRequested options.give_up v between new)
+  pub answer : result ≡ returned v.session options.servers sent
+
+-- Nothing happens before the time `deadline`, if no datagram comes: no request can be sent, no missing number becomes
+-- ripe, and no message is to be given up. `p` is the pacer now.
+pub record IsDeadline (give_up : ℕ) (v : View) (p : Pacer) (deadline : ℕ) : Type 0 where
+  pub now : p.state.now ≤ deadline
+  pub still : (time number : ℕ) → p.state.now ≤ time → time < deadline → IsWanted v p.state.ripe number →
+      CanAsk p time number → ⊥
+  pub unripe : (time known number : ℕ) → max p.state.now p.state.marked ≤ time → time < deadline → IsMissing v number →
+      p.state.ripe ≤ number → (advanced time known p.state).ripe ≤ number
+  pub kept : (time : ℕ) → p.state.now ≤ time → time < deadline → is_due give_up v p time ≡ false
+  -- If a number may be requested, the deadline is near.
+  pub sends : (number : ℕ) → IsWanted v p.state.ripe number →
+      deadline ≤ p.state.now + max p.options.ceiling p.options.interval
+  -- If a missing number is not ripe, the next mark is near.
+  pub ripens : (number : ℕ) → IsMissing v number → p.state.ripe ≤ number →
+      deadline ≤ max p.state.now (p.state.marked + p.state.patience)

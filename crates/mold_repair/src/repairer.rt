@@ -1,0 +1,412 @@
+//! The repairer: a receiver of two lines that requests what is missing.
+
+ghost use Rattle.std.specs.Prelude.{◌≡◌, ◌≤◌, ◌<◌, ◌^◌, true, vec_capacity};
+ghost use Rattle.mold_repair.specs.Options.{ArePacerOptions, are_options};
+ghost use Rattle.mold_repair.specs.declared.gaps.TheConstants.{GAPS as THE_GAPS};
+
+use crate::ask::Ask;
+use crate::came::{came_below, is_timed, numbers_of, report};
+use crate::error::RepairError;
+use crate::gaps::{GAPS, find_free};
+use crate::options::RepairOptions;
+use crate::origin::RepairOrigin;
+use crate::stats::{RepairCounts, RepairStats};
+use mold_pacing::{Arrival, Delays, Gap, Pacer};
+use mold_receiver::laws::wanted_law;
+use mold_receiver::{Arbiter, Batch, Refusal, Taken};
+use mold_wire::Request;
+use std::alloc::{AllocError, Global};
+
+/// A receiver of two lines that requests what is missing. It has no socket and no clock: its caller hands in the
+/// datagrams and the time, sends the requests that `poll` returns, and calls `poll` again at the `deadline`.
+///
+/// Times are in nanoseconds, and below 2^62. A time below the last one counts as the last one.
+#[derive(Debug, Drop)]
+pub struct Repairer {
+    arbiter: Arbiter,
+    pacer: Pacer,
+    options: RepairOptions,
+    // The delays between the lines.
+    delays: Delays,
+    counts: RepairCounts,
+    // Buffer for the gaps that are looked at, so that no call takes memory for them.
+    gaps: Vec<Gap>,
+    ghost valid: { are_options options ≡ true },
+    ghost paced: { ArePacerOptions options pacer.options },
+    ghost room: { THE_GAPS ≤ vec_capacity gaps },
+}
+
+impl Repairer {
+    ghost use Rattle.std.specs.Prelude.{[], Err, MatchOption, IfErr, IfNone, IfOk, IfSome, OnErr, OnOk, Some, false, is_some, if◌then◌else◌, max, slice_get, ℕ, ◌+◌};
+    ghost use Rattle.mold_pacing.specs.declared.flight.Flight.{Flight};
+    ghost use Rattle.mold_pacing.specs.State.{advanced, fresh};
+    ghost use Rattle.mold_pacing.specs.Delays.{no_arrivals};
+    ghost use Rattle.mold_pacing.specs.Deadline.{CanAsk};
+    ghost use Rattle.mold_receiver.specs.Arbiter.{HasArbitrated, HasRefused};
+    ghost use Rattle.mold_receiver.specs.Batch.{Follows};
+    ghost use Rattle.mold_receiver.specs.Origin.{line_of};
+    ghost use Rattle.mold_receiver.specs.Wanted.{HasNoGap, IsNextGap};
+    ghost use Rattle.mold_repair.specs.Came.{noted, numbers};
+    ghost use Rattle.mold_repair.specs.GivingUp.{HasGivenUp, IsGivenUp, is_due};
+    ghost use Rattle.mold_repair.specs.Missing.{IsMissing, IsWanted};
+    ghost use Rattle.mold_repair.specs.Origin.{receiver_origin};
+    ghost use Rattle.mold_repair.specs.Polls.{HasPolled, HasRequested, IsDeadline, IsStill};
+    ghost use Rattle.mold_repair.specs.Stats.{counted_answer, counted_lost, counted_poll, no_counts};
+    ghost use Rattle.mold_repair.specs.StatsOf.{IsStats};
+    ghost use Rattle.mold_repair.specs.Taking.{HasLearned, HasPassed, taken_steps};
+    ghost use Rattle.mold_repair.specs.Timing.{IsTimed, adapted_from};
+    ghost use Rattle.mold_wire.specs.Reading.{reading};
+    ghost use Rattle.mold_repair.specs.declared.error.RepairError.TheVariants.{Memory, Options};
+
+    /// Returns a repairer over this arbiter, before any time was reported. It takes the memory for requests here. Later,
+    /// only messages need memory.
+    pub fn new(
+        alloc: Global,
+        arbiter: Arbiter,
+        options: RepairOptions,
+    ) -> Result<Repairer, RepairError>
+        ensures arbiter { IfOk result (λ repairer. repairer.arbiter ≡ arbiter) }
+        ensures options { IfOk result (λ repairer. repairer.options ≡ options) }
+        ensures state { IfOk result
+            (λ repairer. repairer.pacer.state ≡ fresh repairer.pacer.options arbiter.view.known) }
+        ensures empty { IfOk result (λ repairer. repairer.pacer.flights.items ≡ []) }
+        ensures arrivals { IfOk result (λ repairer. repairer.delays.arrivals.items ≡ no_arrivals) }
+        ensures counts { IfOk result (λ repairer. repairer.counts ≡ no_counts) }
+        ensures recent { IfOk result (λ repairer. repairer.delays.recent.items ≡ []) }
+        ensures ok { OnOk result (are_options options ≡ true) }
+        ensures invalid { are_options options ≡ false → result ≡ Err Options }
+        ensures memory { are_options options ≡ true → IfErr result (λ error. error ≡ Memory) }
+    {
+        if !options.are_valid() {
+            return Err(RepairError::Options);
+        }
+        let Ok(pacer) = Pacer::new(alloc, options.pacer(), arbiter.receiver().known()) else {
+            return Err(RepairError::Memory);
+        };
+        let Ok(delays) = Delays::new(alloc) else {
+            return Err(RepairError::Memory);
+        };
+        let Ok(gaps) = Vec::with_capacity(alloc, GAPS) else {
+            return Err(RepairError::Memory);
+        };
+        Ok(Repairer {
+            arbiter,
+            pacer,
+            options,
+            delays,
+            counts: RepairCounts {
+                requests: 0,
+                answers: 0,
+                useless: 0,
+                lost: 0,
+            },
+            gaps,
+        })
+    }
+
+    // Reports to the pacer what a datagram brought that was accepted.
+    fn note(&mut self, origin: RepairOrigin, datagram: &[u8])
+        ensures noted { HasLearned self.old.pacer self.new.pacer (noted origin datagram.now self.old.arbiter.view) }
+        ensures now { self.new.pacer.state.now ≡ self.old.pacer.state.now }
+        ensures arbiter { self.new.arbiter ≡ self.old.arbiter }
+        ensures options { self.new.options ≡ self.old.options }
+        ensures counts { self.new.counts ≡ self.old.counts }
+        ensures delays { self.new.delays ≡ self.old.delays }
+    {
+        let receiver = self.arbiter.receiver();
+        let next = receiver.next();
+        let came = came_below(datagram, next, receiver.window());
+        if came.first >= came.end {
+            return;
+        }
+        report(&mut self.pacer, origin, came);
+        self.pacer.arrive(Gap {
+            first: 0,
+            end: next,
+        });
+    }
+
+    // Does the same if messages were missing before the datagram. Otherwise no request can be for its numbers.
+    fn learn(&mut self, origin: RepairOrigin, datagram: &[u8], is_missing: bool)
+        ensures learned { HasLearned self.old.pacer self.new.pacer
+            (if is_missing then noted origin datagram.now self.old.arbiter.view else []) }
+        ensures now { self.new.pacer.state.now ≡ self.old.pacer.state.now }
+        ensures arbiter { self.new.arbiter ≡ self.old.arbiter }
+        ensures options { self.new.options ≡ self.old.options }
+        ensures counts { self.new.counts ≡ self.old.counts }
+        ensures delays { self.new.delays ≡ self.old.delays }
+    {
+        if is_missing {
+            self.note(origin, datagram);
+        }
+    }
+
+    // Adapts the patience, if it adapts and the datagram brought messages on a line.
+    fn adapt(&mut self, origin: RepairOrigin, datagram: &[u8])
+        ensures timed { IsTimed self.old.options self.old.pacer.state.now origin (numbers (reading datagram.now))
+            self.old.delays self.new.delays }
+        ensures learned { HasLearned self.old.pacer self.new.pacer
+            (adapted_from self.old.options origin (numbers (reading datagram.now)) self.new.delays) }
+        ensures arbiter { self.new.arbiter ≡ self.old.arbiter }
+        ensures options { self.new.options ≡ self.old.options }
+        ensures counts { self.new.counts ≡ self.old.counts }
+    {
+        if self.options.patience != 0 {
+            return;
+        }
+        let came = numbers_of(datagram);
+        if !is_timed(&self.options, origin, came) {
+            return;
+        }
+        self.delays.take(Arrival {
+            first: came.first,
+            end: came.end,
+            time: self.pacer.state().now,
+            line: origin.line_index(),
+        });
+        self.pacer.adapt(self.delays.patience());
+    }
+
+    /// Takes a datagram that came at the time `now`, exactly as `Arbiter::take_from` does. If it is accepted, its numbers
+    /// are no longer requested. The response of a server frees the request for it. The batch must be empty or end just
+    /// before the receiver's `next`.
+    pub fn take(
+        &mut self,
+        now: u64,
+        origin: RepairOrigin,
+        datagram: &[u8],
+        batch: &mut Batch,
+    ) -> Result<Taken, Refusal>
+        requires time { now < 2 ^ 62 }
+        requires follows { Follows batch.old self.old.arbiter.view.next }
+        ensures taken { IfOk result (λ taken. HasArbitrated (line_of (receiver_origin origin)) self.old.arbiter
+            datagram.now batch.old self.new.arbiter batch.new taken) }
+        ensures refused { IfErr result (λ refused. HasRefused (line_of (receiver_origin origin)) self.old.arbiter
+            datagram.now self.new.arbiter refused) }
+        ensures batch { OnErr result (batch.new ≡ batch.old) }
+        ensures learned { OnOk result (HasLearned self.old.pacer self.new.pacer (taken_steps self.old.options now origin
+            datagram.now self.old.arbiter.view self.new.arbiter.view self.new.delays)) }
+        ensures timed { OnOk result (IsTimed self.old.options (max self.old.pacer.state.now now) origin
+            (numbers (reading datagram.now)) self.old.delays self.new.delays) }
+        ensures passed { OnErr result (HasPassed now self.old.arbiter.view self.old.pacer self.new.pacer) }
+        ensures same { OnErr result (self.new.delays ≡ self.old.delays) }
+        ensures options { self.new.options ≡ self.old.options }
+        ensures counted { IfOk result (λ taken. self.new.counts ≡ counted_answer origin taken self.old.counts) }
+        ensures counts { OnErr result (self.new.counts ≡ self.old.counts) }
+    {
+        let receiver = self.arbiter.receiver();
+        let known = receiver.known();
+        let is_missing = receiver.next() < known;
+        self.pacer.advance(now, known);
+        let taken = self
+            .arbiter
+            .take_from(origin.receiver_origin(), datagram, batch)?;
+        self.learn(origin, datagram, is_missing);
+        self.adapt(origin, datagram);
+        self.counts = self.counts.take(origin, taken);
+        Ok(taken)
+    }
+
+    // Returns the first missing messages, if they were requested as often as allowed.
+    fn given_up(&self) -> Option<Gap>
+        ensures some { IfSome result
+            (IsGivenUp self.now.options.give_up self.now.arbiter.view self.now.pacer) }
+        ensures due { is_some result ≡ is_due self.now.options.give_up self.now.arbiter.view self.now.pacer
+            self.now.pacer.state.now }
+    {
+        wanted_law();
+        let give_up = self.options.give_up;
+        if give_up == 0 {
+            return None;
+        }
+        let next = self.arbiter.receiver().wanted()?.sequence;
+        let request = self.pacer.last_request(next)?;
+        if request.attempts < give_up {
+            return None;
+        }
+        let gap = self.arbiter.next_missing(next)?;
+        Some(Gap {
+            first: next,
+            end: gap.end.min(request.end),
+        })
+    }
+
+    /// Gives up the first missing messages at the time `now`, if one request asked for them and each was requested as
+    /// often as `give_up` allows, without a response. Returns their numbers. The stored messages after them are appended
+    /// to `batch`, which must be empty. Call it until it returns none. If an allocation fails, only the time passed.
+    pub fn lost(&mut self, now: u64, batch: &mut Batch) -> Result<Option<Gap>, AllocError>
+        requires time { now < 2 ^ 62 }
+        requires empty { batch.old.messages ≡ [] }
+        ensures lost { IfOk result (HasGivenUp now self.old.options.give_up self.old.arbiter self.new.arbiter batch.old
+            batch.new self.old.pacer self.new.pacer) }
+        ensures passed { OnErr result (HasPassed now self.old.arbiter.view self.old.pacer self.new.pacer) }
+        ensures arbiter { OnErr result (self.new.arbiter ≡ self.old.arbiter) }
+        ensures batch { OnErr result (batch.new ≡ batch.old) }
+        ensures options { self.new.options ≡ self.old.options }
+        ensures counted { IfOk result (λ lost. self.new.counts ≡ counted_lost lost self.old.counts) }
+        ensures counts { OnErr result (self.new.counts ≡ self.old.counts) }
+        ensures delays { self.new.delays ≡ self.old.delays }
+    {
+        self.pacer.advance(now, self.arbiter.receiver().known());
+        let Some(gap) = self.given_up() else {
+            return Ok(None);
+        };
+        self.arbiter.skip(gap.end, batch)?;
+        let next = self.arbiter.receiver().next();
+        self.pacer.arrive(Gap {
+            first: 0,
+            end: next,
+        });
+        self.counts = self.counts.lose(gap);
+        Ok(Some(gap))
+    }
+
+    // Sends the next request that may be sent now, if there is one.
+    fn send(&mut self) -> Option<mold_pacing::Ask>
+        ensures sent { MatchOption result
+            (IsStill self.old.options.give_up self.old.arbiter.view self.old.pacer self.new.pacer)
+            (HasRequested self.old.options.give_up self.old.arbiter.view self.old.pacer self.new.pacer) }
+        ensures paced { self.new.pacer.options ≡ self.old.pacer.options }
+        ensures arbiter { self.new.arbiter ≡ self.old.arbiter }
+        ensures options { self.new.options ≡ self.old.options }
+        ensures counts { self.new.counts ≡ self.old.counts }
+        ensures delays { self.new.delays ≡ self.old.delays }
+    {
+        if self.given_up().is_some() {
+            return None;
+        }
+        if !self.pacer.can_send() {
+            return None;
+        }
+        find_free(&self.arbiter, &self.pacer, &mut self.gaps)?;
+        self.pacer.poll(&self.gaps)
+    }
+
+    /// Returns the next request that may be sent at the time `now`, if there is one. It counts as sent. Call it until it
+    /// returns none. It takes no memory. While messages are to be given up, it returns none: call `lost` before.
+    pub fn poll(&mut self, now: u64) -> Option<Ask>
+        requires { now < 2 ^ 62 }
+        ensures polled { HasPolled self.old.options self.old.arbiter.view self.old.pacer self.new.pacer now result }
+        ensures arbiter { self.new.arbiter ≡ self.old.arbiter }
+        ensures options { self.new.options ≡ self.old.options }
+        ensures counted { self.new.counts ≡ counted_poll result self.old.counts }
+        ensures delays { self.new.delays ≡ self.old.delays }
+    {
+        self.pacer.advance(now, self.arbiter.receiver().known());
+        let sent = self.send()?;
+        if self.options.servers == 0 {
+            return None;
+        }
+        self.counts = self.counts.request();
+        Some(Ask {
+            request: Request {
+                session: self.arbiter.receiver().session(),
+                sequence: sent.first,
+                count: (sent.end - sent.first) as u16,
+            },
+            server: sent.server,
+        })
+    }
+
+    // Returns the time before which no request can be sent, if no datagram comes.
+    fn sends(&mut self) -> u64
+        ensures now { self.old.pacer.state.now ≤ result }
+        ensures still { (time number : ℕ) → self.old.pacer.state.now ≤ time → time < result →
+            IsWanted self.old.arbiter.view self.old.pacer.state.ripe number → CanAsk self.old.pacer time number → ⊥ }
+        ensures bound { (number : ℕ) → IsWanted self.old.arbiter.view self.old.pacer.state.ripe number →
+            result ≤ self.old.pacer.state.now + max self.old.pacer.options.ceiling self.old.pacer.options.interval }
+        ensures same { (time i : ℕ) (f : Flight) → 0 < self.old.options.give_up → time < result →
+            slice_get self.old.pacer.flights.items i ≡ Some f → f.until ≤ time → f.until ≤ self.old.pacer.state.now }
+        ensures pacer { self.new.pacer ≡ self.old.pacer }
+        ensures arbiter { self.new.arbiter ≡ self.old.arbiter }
+        ensures options { self.new.options ≡ self.old.options }
+        ensures counts { self.new.counts ≡ self.old.counts }
+        ensures delays { self.new.delays ≡ self.old.delays }
+    {
+        let over = self.pacer.next_over();
+        let Some(number) = find_free(&self.arbiter, &self.pacer, &mut self.gaps) else {
+            return over;
+        };
+        let time = self.pacer.deadline(number);
+        if self.options.give_up == 0 {
+            return time;
+        }
+        time.min(over)
+    }
+
+    // Returns the time before which no missing number becomes ripe.
+    fn ripens(&self) -> u64
+        ensures unripe { (time known number : ℕ) → max self.now.pacer.state.now self.now.pacer.state.marked ≤ time →
+            time < result → IsMissing self.now.arbiter.view number → self.now.pacer.state.ripe ≤ number →
+            (advanced time known self.now.pacer.state).ripe ≤ number }
+        ensures bound { (number : ℕ) → IsMissing self.now.arbiter.view number → self.now.pacer.state.ripe ≤ number →
+            result ≤ max self.now.pacer.state.now (self.now.pacer.state.marked + self.now.pacer.state.patience) }
+        ensures now { self.now.pacer.state.now ≤ result }
+    {
+        let state = self.pacer.state();
+        match self.arbiter.next_missing(state.ripe) {
+            Some(_) => self.pacer.ripens().max(state.now),
+            None => u64::MAX,
+        }
+    }
+
+    /// Returns the time at which to call `lost` and `poll` next, if no datagram comes before: until then both return none,
+    /// and no number becomes ripe. It can be early: then they return none, and the next deadline is later. Without a
+    /// missing message there is no deadline.
+    pub fn deadline(&mut self, now: u64) -> Option<u64>
+        requires { now < 2 ^ 62 }
+        ensures deadline { IfSome result (IsDeadline self.old.options.give_up self.old.arbiter.view self.new.pacer) }
+        ensures none { IfNone result (self.old.arbiter.view.next ≡ self.old.arbiter.view.known) }
+        ensures passed { HasPassed now self.old.arbiter.view self.old.pacer self.new.pacer }
+        ensures arbiter { self.new.arbiter ≡ self.old.arbiter }
+        ensures options { self.new.options ≡ self.old.options }
+        ensures counts { self.new.counts ≡ self.old.counts }
+        ensures delays { self.new.delays ≡ self.old.delays }
+    {
+        let receiver = self.arbiter.receiver();
+        let known = receiver.known();
+        let is_missing = receiver.next() != known;
+        self.pacer.advance(now, known);
+        if !is_missing {
+            return None;
+        }
+        if self.given_up().is_some() {
+            return Some(self.pacer.state().now);
+        }
+        let ripens = self.ripens();
+        Some(self.sends().min(ripens))
+    }
+
+    /// Returns the first missing numbers at or above `from`, as `Arbiter::next_missing` does.
+    pub fn next_missing(&self, from: u64) -> Option<mold_receiver::Gap>
+        ensures some { IfSome result (λ gap. IsNextGap self.now.arbiter.view (max from self.now.arbiter.view.next) gap) }
+        ensures none { IfNone result (HasNoGap self.now.arbiter.view (max from self.now.arbiter.view.next)) }
+    {
+        self.arbiter.next_missing(from)
+    }
+
+    /// Returns the statistics.
+    pub fn stats(&self) -> RepairStats
+        ensures { IsStats self.now result }
+    {
+        let receiver = self.arbiter.receiver();
+        let stored = receiver.stored();
+        let ahead = receiver.known().saturating_sub(receiver.next());
+        RepairStats {
+            next: receiver.next(),
+            known: receiver.known(),
+            gap: self.arbiter.next_missing(0),
+            missing: ahead.saturating_sub(u64::from(stored)),
+            stored,
+            patience: self.pacer.state().patience,
+            counts: self.counts,
+        }
+    }
+
+    /// Returns the arbiter.
+    pub fn arbiter(&self) -> &Arbiter
+        ensures { result.now ≡ self.now.arbiter }
+    {
+        &self.arbiter
+    }
+}

@@ -1,0 +1,189 @@
+//! A repairer by worked examples. The expected values were worked out by hand: patience 10, timeout 100, ceiling 400,
+//! settle 5, one request each 10 and two at once, two servers, and two requests before a message is given up.
+
+use mold_pacing::Gap;
+use mold_receiver::{Arbiter, Batch, Line, Receiver};
+use mold_repair::run::{apply, run};
+use mold_repair::{Ask, Outcome, RepairError, RepairOptions, RepairOrigin, RepairStep, Repairer};
+use mold_wire::{Request, Session};
+use std::alloc::Global;
+use std::process::Abort;
+use std::test::Fail;
+
+const SESSION: Session = Session(*b"SESSION001");
+
+const DATA_1: &[u8] = b"SESSION001\0\0\0\0\0\0\0\x01\0\x01\0\x01A";
+
+const DATA_2: &[u8] = b"SESSION001\0\0\0\0\0\0\0\x02\0\x01\0\x01B";
+
+const DATA_3: &[u8] = b"SESSION001\0\0\0\0\0\0\0\x03\0\x01\0\x01C";
+
+const OPTIONS: RepairOptions = RepairOptions {
+    patience: 10,
+    timeout: 100,
+    ceiling: 400,
+    settle: 5,
+    interval: 10,
+    bucket: 2,
+    places: 4,
+    servers: 2,
+    give_up: 2,
+};
+
+fn repairer(alloc: Global, options: RepairOptions) -> Result<Repairer, Fail> {
+    let receiver = Receiver::new(alloc, SESSION, 1, 16)?;
+    Ok(Repairer::new(alloc, Arbiter::new(receiver), options)?)
+}
+
+fn outcome(ask: Option<Ask>, lost: Option<Gap>, first: u64, end: u64) -> Outcome {
+    Outcome {
+        ask,
+        lost,
+        delivered: Gap { first, end },
+    }
+}
+
+fn ask_for_2(server: u32) -> Option<Ask> {
+    let request = Request {
+        session: SESSION,
+        sequence: 2,
+        count: 1,
+    };
+    Some(Ask { request, server })
+}
+
+fn expect(
+    rt: &impl Abort,
+    repairer: &mut Repairer,
+    batch: &mut Batch,
+    step: RepairStep<'_>,
+    wanted: Outcome,
+) {
+    let time = match step {
+        RepairStep::Pass { time }
+        | RepairStep::Take { time, .. }
+        | RepairStep::Poll { time }
+        | RepairStep::Lost { time } => time,
+    };
+    assert!(rt; time < 1_000_000, "a time of the test");
+    let found = apply(repairer, step, batch);
+    assert!(rt; found == wanted, "another outcome");
+}
+
+// Message 2 is missing. It is requested after one to two patiences, and again at the other server.
+fn expect_requests(rt: &impl Abort, repairer: &mut Repairer, batch: &mut Batch) {
+    let none = outcome(None, None, 2, 2);
+    let a = RepairOrigin::Line(Line::A);
+    expect(
+        rt,
+        repairer,
+        batch,
+        RepairStep::Take {
+            time: 1,
+            origin: a,
+            datagram: DATA_1,
+        },
+        outcome(None, None, 1, 2),
+    );
+    expect(
+        rt,
+        repairer,
+        batch,
+        RepairStep::Take {
+            time: 2,
+            origin: a,
+            datagram: DATA_3,
+        },
+        none,
+    );
+    expect(rt, repairer, batch, RepairStep::Poll { time: 10 }, none);
+    expect(
+        rt,
+        repairer,
+        batch,
+        RepairStep::Poll { time: 20 },
+        outcome(ask_for_2(0), None, 2, 2),
+    );
+    expect(rt, repairer, batch, RepairStep::Poll { time: 20 }, none);
+    expect(rt, repairer, batch, RepairStep::Poll { time: 119 }, none);
+    expect(
+        rt,
+        repairer,
+        batch,
+        RepairStep::Poll { time: 120 },
+        outcome(ask_for_2(1), None, 2, 2),
+    );
+}
+
+#[test]
+fn requests_and_gives_up(rt: HostRuntime) -> Result<(), Fail> {
+    let mut repairer = repairer(rt.alloc(), OPTIONS)?;
+    let mut batch = Batch::new(rt.alloc());
+    expect_requests(&rt, &mut repairer, &mut batch);
+    assert!(&rt; repairer.deadline(130) == Some(320), "another deadline");
+    let none = outcome(None, None, 2, 2);
+    expect(
+        &rt,
+        &mut repairer,
+        &mut batch,
+        RepairStep::Lost { time: 319 },
+        none,
+    );
+    expect(
+        &rt,
+        &mut repairer,
+        &mut batch,
+        RepairStep::Poll { time: 320 },
+        none,
+    );
+    let lost = outcome(None, Some(Gap { first: 2, end: 3 }), 3, 4);
+    expect(
+        &rt,
+        &mut repairer,
+        &mut batch,
+        RepairStep::Lost { time: 320 },
+        lost,
+    );
+    assert!(&rt; batch.get(0) == Some(b"C".as_slice()), "another message");
+    assert!(&rt;
+        repairer.deadline(330).is_none(),
+        "a deadline without a gap"
+    );
+    Ok(())
+}
+
+#[test]
+fn takes_a_response(rt: HostRuntime) -> Result<(), Fail> {
+    let mut repairer = repairer(rt.alloc(), OPTIONS)?;
+    let mut batch = Batch::new(rt.alloc());
+    expect_requests(&rt, &mut repairer, &mut batch);
+    assert!(&rt; repairer.next_missing(0).is_some(), "no gap");
+    let steps = [
+        RepairStep::Take {
+            time: 130,
+            origin: RepairOrigin::Server(1),
+            datagram: DATA_2,
+        },
+        RepairStep::Pass { time: 131 },
+    ];
+    let wanted = [outcome(None, None, 2, 4), outcome(None, None, 4, 4)];
+    let outcomes = run(&mut repairer, rt.alloc(), &steps, &mut batch)?;
+    assert!(&rt; outcomes.as_slice() == wanted.as_slice(), "other outcomes");
+    assert!(&rt; repairer.next_missing(0).is_none(), "a gap");
+    Ok(())
+}
+
+#[test]
+fn refuses_options(rt: HostRuntime) -> Result<(), Fail> {
+    let receiver = Receiver::new(rt.alloc(), SESSION, 1, 16)?;
+    let options = RepairOptions {
+        servers: 9,
+        ..OPTIONS
+    };
+    let error = Repairer::new(rt.alloc(), Arbiter::new(receiver), options).err();
+    assert!(&rt;
+        error == Some(RepairError::Options),
+        "another error, or none"
+    );
+    Ok(())
+}
