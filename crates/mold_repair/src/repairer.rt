@@ -128,6 +128,7 @@ impl Repairer {
     }
 
     // Does the same if messages were missing before the datagram. Otherwise no request can be for its numbers.
+    #[inline(always)]
     fn learn(&mut self, origin: RepairOrigin, datagram: &[u8], is_missing: bool)
         ensures learned { HasLearned self.old.pacer self.new.pacer
             (if is_missing then noted origin datagram.now self.old.arbiter.view else []) }
@@ -143,6 +144,7 @@ impl Repairer {
     }
 
     // Adapts the patience, if it adapts and the datagram brought messages on a line.
+    #[inline(always)]
     fn adapt(&mut self, origin: RepairOrigin, datagram: &[u8])
         ensures timed { IsTimed self.old.options self.old.pacer.state.now origin (numbers (reading datagram.now))
             self.old.delays self.new.delays }
@@ -171,6 +173,9 @@ impl Repairer {
     /// Takes a datagram that came at the time `now`, exactly as `Arbiter::take_from` does. If it is accepted, its
     /// numbers are no longer requested. The response of a server frees the request for it. The batch must be empty or
     /// end just before the receiver's `next`.
+    // For the optimizer: `#[inline(always)]` here and at `learn` and `adapt` saves calls that return structs through
+    // memory, as in `mold_receiver`.
+    #[inline(always)]
     pub fn take(
         &mut self,
         now: u64,
