@@ -53,6 +53,7 @@ impl PacerState {
 
     /// Returns the state at a later time. Once a patience has passed since `mark` was set, the numbers below it are
     /// ripe.
+    #[inline(always)]
     pub(crate) fn advance(self, time: u64, known: u64) -> PacerState
         ensures { result ≡ advanced time known self }
     {

@@ -67,7 +67,8 @@ IsPollStep (Arrive came) = ⊥
 -- The steps of the pacer in a step of the repairer: the time, then a poll, or what came.
 abbrev pub ArePacerSteps : RepairOptions → RepairStep → List Step → Type 0
 ArePacerSteps options (Take time origin datagram) steps =
-    ((before after : View) × (delays : Delays) × (steps ≡ taken_steps options time origin datagram.now before after delays))
+    ((before after : View) × (delays : Delays)
+    × (steps ≡ taken_steps options time origin datagram.now before after delays))
     ⊎ ((known : ℕ) × (steps ≡ Advance time known ∷ []))
 ArePacerSteps options (Poll time) steps =
     (known : ℕ) × (step : Step) × IsPollStep step × (steps ≡ Advance time known ∷ step ∷ [])

@@ -3,7 +3,8 @@ use Rattle.std.specs.Prelude.{◌≡◌, ℕ, ◌*◌, ◌-◌, ◌==◌, ◌&&�
 use Rattle.mold_pacing.specs.declared.options.PacerOptions.{PacerOptions}
 use Rattle.mold_pacing.specs.declared.delays.TheConstants.{FIRST_PATIENCE}
 use Rattle.mold_repair.specs.declared.options.RepairOptions.{RepairOptions}
-use Rattle.mold_repair.specs.declared.options.TheConstants.{MAX_BUCKET, MAX_GIVE_UP, MAX_PATIENCE, MAX_PLACES, MAX_SERVERS, MAX_TIME}
+use Rattle.mold_repair.specs.declared.options.TheConstants.{MAX_BUCKET, MAX_GIVE_UP, MAX_PATIENCE, MAX_PLACES}
+use Rattle.mold_repair.specs.declared.options.TheConstants.{MAX_SERVERS, MAX_TIME}
 use Rattle.mold_wire.specs.declared.limits.TheConstants.{MAX_COUNT}
 
 -- Whether the times are in their ranges.

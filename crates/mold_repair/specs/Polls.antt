@@ -48,8 +48,8 @@ pub record HaveFree (v : View) (p : Pacer) (gaps : List Gap) (number : ℕ) : Ty
 abbrev pub AreAllSent : View → Pacer → Type 0
 AreAllSent v p = (number : ℕ) → IsWanted v p.state.ripe number → IsSentFor p number
 
--- The pacer sent a request. It begins with the least number that may be requested and is not in flight. No message is to
--- be given up.
+-- The pacer sent a request. It begins with the least number that may be requested and is not in flight. No message is
+-- to be given up.
 pub record HasRequested (give_up : ℕ) (v : View) (old new : Pacer) (sent : Sent) : Type 0 where
   pub kept : is_due give_up v old old.state.now ≡ false
   pub gaps : List Gap
@@ -78,7 +78,8 @@ returned session servers None = None
 returned session servers (Some sent) = if servers == 0 then None else Some (ask_of session sent)
 
 -- The repairer was polled at this time. `v` is its view, and `old` and `new` are its pacer before and after.
-pub record HasPolled (options : RepairOptions) (v : View) (old new : Pacer) (now : ℕ) (result : Option Ask) : Type 0 where
+pub record HasPolled (options : RepairOptions) (v : View) (old new : Pacer) (now : ℕ) (result : Option Ask) :
+    Type 0 where
   -- The pacer at this time.
   pub between : Pacer
   pub time : Takes old between (Advance now v.known) None

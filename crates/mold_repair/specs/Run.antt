@@ -55,12 +55,13 @@ pub record HasTaken (old new : Repairer) (time : ℕ) (origin : RepairOrigin) (b
   pub result : Result Taken Refusal
   pub taken : IfOk result
       (λ taken. HasArbitrated (line_of (receiver_origin origin)) old.arbiter bytes nothing new.arbiter handed taken)
-  pub refused : IfErr result (λ refused. HasRefused (line_of (receiver_origin origin)) old.arbiter bytes new.arbiter refused)
+  pub refused : IfErr result
+      (λ refused. HasRefused (line_of (receiver_origin origin)) old.arbiter bytes new.arbiter refused)
   pub batch : OnErr result (handed ≡ nothing)
   pub learned : OnOk result (HasLearned old.pacer new.pacer
       (taken_steps old.options time origin bytes old.arbiter.view new.arbiter.view new.delays))
-  pub timed : OnOk result (IsTimed old.options (max old.pacer.state.now time) origin (numbers (reading bytes)) old.delays
-      new.delays)
+  pub timed : OnOk result (IsTimed old.options (max old.pacer.state.now time) origin (numbers (reading bytes))
+      old.delays new.delays)
   pub passed : OnErr result (HasPassed time old.arbiter.view old.pacer new.pacer)
 
 -- A poll returned this request, or none.
@@ -85,8 +86,8 @@ pub record HasLostSome (old new : Repairer) (time : ℕ) (handed : Handed) (outc
   pub returned : outcome ≡ delivers old new None outcome.lost
   pub delays : new.delays ≡ old.delays
 
--- The step changed the repairer from `old` to `new`, delivered these messages, and returned this. If an allocation fails
--- while messages are given up, only the time passes.
+-- The step changed the repairer from `old` to `new`, delivered these messages, and returned this. If an allocation
+-- fails while messages are given up, only the time passes.
 abbrev pub HasStepped : Repairer → Repairer → RepairStep → Handed → Outcome → Type 0
 HasStepped old new (Take time origin datagram) handed outcome =
     HasTaken old new time origin datagram.now handed × (outcome ≡ delivers old new None None)

@@ -1,7 +1,8 @@
 //! Theorems about all runs of a repairer. Each law is a function with an empty body whose contract is the theorem.
 //! `run::run` returns such a run.
 
-ghost use Rattle.std.specs.Prelude.{◌≡◌, ◌+◌, ◌-◌, ◌*◌, ◌<◌, ◌≤◌, ℕ, [], List, Option, IfSome, Some, false, length, max};
+ghost use Rattle.std.specs.Prelude.{◌≡◌, ◌+◌, ◌-◌, ◌*◌, ◌<◌, ◌≤◌, ℕ, [], List, Option, IfSome, Some, false, length};
+ghost use Rattle.std.specs.Prelude.{max};
 ghost use Rattle.mold_pacing.specs.Attempts.{count_asks_for};
 ghost use Rattle.mold_pacing.specs.Deadline.{CanAsk};
 ghost use Rattle.mold_pacing.specs.State.{advanced};
@@ -23,9 +24,9 @@ ghost use Rattle.mold_repair.specs.declared.step.RepairStep.{RepairStep};
 use mold_pacing::laws::{apart_law, attempts_law, limit_law};
 use mold_receiver::laws::taken_law;
 
-/// Each message is delivered once, or given up once, or neither yet. The numbers of what the steps of a run delivered and
-/// gave up follow each other, from the old `next` to just below the new one, without a number left out or repeated. Each
-/// step delivered the messages of its numbers.
+/// Each message is delivered once, or given up once, or neither yet. The numbers of what the steps of a run delivered
+/// and gave up follow each other, from the old `next` to just below the new one, without a number left out or repeated.
+/// Each step delivered the messages of its numbers.
 pub fn order_law()
     ensures order { (old new : Repairer) (steps : List RepairStep) (outcomes : List Outcome) →
         IsRepaired old new steps outcomes → AreInOrder old.arbiter.view.next outcomes new.arbiter.view.next }
@@ -69,8 +70,8 @@ pub fn stuck_law()
         RequestsFirst v result }
 {}
 
-/// What is given up was requested as often as allowed: in a run that begins without requests, each of its numbers was in
-/// `give_up` requests of the pacer.
+/// What is given up was requested as often as allowed: in a run that begins without requests, each of its numbers was
+/// in `give_up` requests of the pacer.
 pub fn given_up_law()
     ensures { (start old new : Repairer) (steps : List RepairStep) (outcomes : List Outcome) →
         (is : IsPaced start old steps outcomes) → (time : ℕ) (handed : Handed) (outcome : Outcome) →

@@ -1,7 +1,8 @@
 //! The options of a repairer.
 
 ghost use Rattle.std.specs.Prelude.{◌≡◌, ◌&&◌, true, nat_le};
-ghost use Rattle.mold_repair.specs.Options.{ArePacerOptions, are_counts, are_options, are_times, first_patience, tolerance};
+ghost use Rattle.mold_repair.specs.Options.{ArePacerOptions, are_counts, are_options, are_times, first_patience};
+ghost use Rattle.mold_repair.specs.Options.{tolerance};
 
 use mold_pacing::{FIRST_PATIENCE, PacerOptions};
 use mold_wire::MAX_COUNT;
@@ -40,8 +41,8 @@ pub struct RepairOptions {
     pub settle: u64,
     /// The time after which another request may be sent, at most 2^62 - 1.
     pub interval: u64,
-    /// The number of requests that may be sent at once, 1 to 65,535. If `interval` times this number is above 2^62, they
-    /// are fewer.
+    /// The number of requests that may be sent at once, 1 to 65,535. If `interval` times this number is above 2^62,
+    /// they are fewer.
     pub bucket: u32,
     /// The greatest number of requests in flight, 1 to 4,096.
     pub places: u32,

@@ -37,7 +37,8 @@ pub struct Repairer {
 }
 
 impl Repairer {
-    ghost use Rattle.std.specs.Prelude.{[], Err, MatchOption, IfErr, IfNone, IfOk, IfSome, OnErr, OnOk, Some, false, is_some, if◌then◌else◌, max, slice_get, ℕ, ◌+◌};
+    ghost use Rattle.std.specs.Prelude.{[], ◌+◌, ℕ, Err, IfErr, IfNone, IfOk, IfSome, MatchOption, OnErr, OnOk, Some};
+    ghost use Rattle.std.specs.Prelude.{false, if◌then◌else◌, is_some, max, slice_get};
     ghost use Rattle.mold_pacing.specs.declared.flight.Flight.{Flight};
     ghost use Rattle.mold_pacing.specs.State.{advanced, fresh};
     ghost use Rattle.mold_pacing.specs.Delays.{no_arrivals};
@@ -58,8 +59,8 @@ impl Repairer {
     ghost use Rattle.mold_wire.specs.Reading.{reading};
     ghost use Rattle.mold_repair.specs.declared.error.RepairError.TheVariants.{Memory, Options};
 
-    /// Returns a repairer over this arbiter, before any time was reported. It takes the memory for requests here. Later,
-    /// only messages need memory.
+    /// Returns a repairer over this arbiter, before any time was reported. It takes the memory for requests here.
+    /// Later, only messages need memory.
     pub fn new(
         alloc: Global,
         arbiter: Arbiter,
@@ -127,6 +128,7 @@ impl Repairer {
     }
 
     // Does the same if messages were missing before the datagram. Otherwise no request can be for its numbers.
+    #[inline(always)]
     fn learn(&mut self, origin: RepairOrigin, datagram: &[u8], is_missing: bool)
         ensures learned { HasLearned self.old.pacer self.new.pacer
             (if is_missing then noted origin datagram.now self.old.arbiter.view else []) }
@@ -142,6 +144,7 @@ impl Repairer {
     }
 
     // Adapts the patience, if it adapts and the datagram brought messages on a line.
+    #[inline(always)]
     fn adapt(&mut self, origin: RepairOrigin, datagram: &[u8])
         ensures timed { IsTimed self.old.options self.old.pacer.state.now origin (numbers (reading datagram.now))
             self.old.delays self.new.delays }
@@ -167,9 +170,12 @@ impl Repairer {
         self.pacer.adapt(self.delays.patience());
     }
 
-    /// Takes a datagram that came at the time `now`, exactly as `Arbiter::take_from` does. If it is accepted, its numbers
-    /// are no longer requested. The response of a server frees the request for it. The batch must be empty or end just
-    /// before the receiver's `next`.
+    /// Takes a datagram that came at the time `now`, exactly as `Arbiter::take_from` does. If it is accepted, its
+    /// numbers are no longer requested. The response of a server frees the request for it. The batch must be empty or
+    /// end just before the receiver's `next`.
+    // For the optimizer: `#[inline(always)]` here and at `learn` and `adapt` saves calls that return structs through
+    // memory, as in `mold_receiver`.
+    #[inline(always)]
     pub fn take(
         &mut self,
         now: u64,
@@ -232,8 +238,9 @@ impl Repairer {
     }
 
     /// Gives up the first missing messages at the time `now`, if one request asked for them and each was requested as
-    /// often as `give_up` allows, without a response. Returns their numbers. The stored messages after them are appended
-    /// to `batch`, which must be empty. Call it until it returns none. If an allocation fails, only the time passed.
+    /// often as `give_up` allows, without a response. Returns their numbers. The stored messages after them are
+    /// appended to `batch`, which must be empty. Call it until it returns none. If an allocation fails, only the time
+    /// passed.
     pub fn lost(&mut self, now: u64, batch: &mut Batch) -> Result<Option<Gap>, AllocError>
         requires time { now < 2 ^ 62 }
         requires empty { batch.old.messages ≡ [] }
@@ -282,8 +289,8 @@ impl Repairer {
         self.pacer.poll(&self.gaps)
     }
 
-    /// Returns the next request that may be sent at the time `now`, if there is one. It counts as sent. Call it until it
-    /// returns none. It takes no memory. While messages are to be given up, it returns none: call `lost` before.
+    /// Returns the next request that may be sent at the time `now`, if there is one. It counts as sent. Call it until
+    /// it returns none. It takes no memory. While messages are to be given up, it returns none: call `lost` before.
     pub fn poll(&mut self, now: u64) -> Option<Ask>
         requires { now < 2 ^ 62 }
         ensures polled { HasPolled self.old.options self.old.arbiter.view self.old.pacer self.new.pacer now result }
@@ -350,9 +357,9 @@ impl Repairer {
         }
     }
 
-    /// Returns the time at which to call `lost` and `poll` next, if no datagram comes before: until then both return none,
-    /// and no number becomes ripe. It can be early: then they return none, and the next deadline is later. Without a
-    /// missing message there is no deadline.
+    /// Returns the time at which to call `lost` and `poll` next, if no datagram comes before: until then both return
+    /// none, and no number becomes ripe. It can be early: then they return none, and the next deadline is later.
+    /// Without a missing message there is no deadline.
     pub fn deadline(&mut self, now: u64) -> Option<u64>
         requires { now < 2 ^ 62 }
         ensures deadline { IfSome result (IsDeadline self.old.options.give_up self.old.arbiter.view self.new.pacer) }
@@ -379,7 +386,8 @@ impl Repairer {
 
     /// Returns the first missing numbers at or above `from`, as `Arbiter::next_missing` does.
     pub fn next_missing(&self, from: u64) -> Option<mold_receiver::Gap>
-        ensures some { IfSome result (λ gap. IsNextGap self.now.arbiter.view (max from self.now.arbiter.view.next) gap) }
+        ensures some { IfSome result
+            (λ gap. IsNextGap self.now.arbiter.view (max from self.now.arbiter.view.next) gap) }
         ensures none { IfNone result (HasNoGap self.now.arbiter.view (max from self.now.arbiter.view.next)) }
     {
         self.arbiter.next_missing(from)

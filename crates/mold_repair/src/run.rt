@@ -108,8 +108,8 @@ fn pass(repairer: &mut Repairer, time: u64, batch: &Batch) -> Outcome
     }
 }
 
-/// Applies a step: one of the repairer's calls. The batch is cleared before. Afterwards it has the messages that the step
-/// delivered.
+/// Applies a step: one of the repairer's calls. The batch is cleared before. Afterwards it has the messages that the
+/// step delivered.
 pub fn apply(repairer: &mut Repairer, step: RepairStep<'_>, batch: &mut Batch) -> Outcome
     requires { can_step step ≡ true }
     ensures stepped { HasStepped repairer.old repairer.new step.entry batch.new result }
@@ -128,8 +128,8 @@ pub fn apply(repairer: &mut Repairer, step: RepairStep<'_>, batch: &mut Batch) -
     }
 }
 
-/// Applies the steps one after the other. Returns an outcome for each. The batch then has the messages that the last step
-/// delivered. If the allocation of the outcomes fails, no step is applied.
+/// Applies the steps one after the other. Returns an outcome for each. The batch then has the messages that the last
+/// step delivered. If the allocation of the outcomes fails, no step is applied.
 pub fn run(
     repairer: &mut Repairer,
     alloc: Global,

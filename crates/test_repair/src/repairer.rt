@@ -145,6 +145,15 @@ fn requests_and_gives_up(rt: HostRuntime) -> Result<(), Fail> {
         lost,
     );
     assert!(&rt; batch.get(0) == Some(b"C".as_slice()), "another message");
+    let stats = repairer.stats();
+    assert!(&rt;
+        stats.counts.requests == 2 && stats.counts.lost == 1,
+        "other counts"
+    );
+    assert!(&rt;
+        stats.next == 4 && stats.missing == 0 && stats.gap.is_none(),
+        "another state"
+    );
     assert!(&rt;
         repairer.deadline(330).is_none(),
         "a deadline without a gap"
