@@ -1,9 +1,5 @@
-//! Tests of `mold_repair`: worked examples, and a simulated network under drawn conditions.
+//! Tests of `mold_repair`: worked examples.
 #![tactic(auto)]
 
 #[cfg(test)]
-mod network;
-#[cfg(test)]
 mod repairer;
-#[cfg(test)]
-mod simulation;
