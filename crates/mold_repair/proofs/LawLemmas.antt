@@ -61,12 +61,12 @@ moved_still old new ask handed same empty = record {
   session = ap (λ (v : View). v.session) same;
 }
 
-taken_view : (line : Option TheLine) (bytes : List ℕ) (old : Arbitration) (r : Reception) →
+pub taken_view : (line : Option TheLine) (bytes : List ℕ) (old : Arbitration) (r : Reception) →
     (arbitrated line bytes old (Ok r)).view ≡ r.view
 taken_view None bytes old r = refl
 taken_view (Some line) bytes old r = refl
 
-refused_view : (line : Option TheLine) (bytes : List ℕ) (old : Arbitration) (e : Refusal) →
+pub refused_view : (line : Option TheLine) (bytes : List ℕ) (old : Arbitration) (e : Refusal) →
     (arbitrated line bytes old (Err e)).view ≡ old.view
 refused_view None bytes old e = refl
 refused_view (Some line) bytes old e = refl

@@ -5,3 +5,6 @@ pub mod GivingUpLemmas
 pub mod RunLemmas
 pub mod LawLemmas
 pub mod ReadyLemmas
+pub mod SafeLemmas
+pub mod ProgressLemmas
+pub mod CatchUpLemmas

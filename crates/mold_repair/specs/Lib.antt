@@ -11,3 +11,5 @@ pub mod Stats
 pub mod StatsOf
 pub mod Run
 pub mod Laws
+pub mod Safe
+pub mod CatchUp
