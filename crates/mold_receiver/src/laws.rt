@@ -39,8 +39,7 @@ pub fn least_missing_law()
 {}
 
 /// A receiver invents nothing. Each message that it delivers or stores was already stored with the same number, or the
-/// packet carries it with the same number.
-#[tactic(auto, using(crate::proofs::LawLemmas::handed_had, crate::proofs::LawLemmas::stored_had))]
+/// packet carries it with the same number. When messages are given up, no other message enters the store.
 pub fn nothing_new_law()
     ensures handed { (v : View) (p : Packet) (i : ℕ) (m : Message) →
         slice_get (handed_on v p.sequence (messages_of p.body)) i ≡ Some m →
@@ -48,6 +47,8 @@ pub fn nothing_new_law()
     ensures stored { (v : View) (p : Packet) (number : ℕ) (m : Message) →
         finite.get (view_after v p).store number ≡ Some m →
         (finite.get v.store number ≡ Some m) ⊎ Carries p number m }
+    ensures skipped { (v : View) (to number : ℕ) (m : Message) →
+        finite.get (skipped v to).store number ≡ Some m → finite.get v.store number ≡ Some m }
 {}
 
 /// A well-formed view stays well formed when it accepts a datagram, and when messages are given up.
