@@ -260,8 +260,9 @@ has_paced old new (Take time origin datagram) o handed did =
     let t = did.0 in
     let v = old.arbiter.view in
     paced_taken old new (Take time origin datagram) o time
-    (taken_steps old.options time origin datagram.now v new.arbiter.view new.delays) t.result
-    (ap (λ (x : Outcome). x.ask) did.1) (inl (v, new.arbiter.view, new.delays, refl)) (inr (v.known, refl)) t.learned t.passed
+    (taken_steps old.options time origin datagram.now v new.arbiter.view new.delays old.pacer) t.result
+    (ap (λ (x : Outcome). x.ask) did.1) (inl (v, new.arbiter.view, new.delays, old.pacer, refl))
+    (inr (v.known, refl)) t.learned t.passed
 has_paced old new (Poll time) o handed did = paced_poll old new time o did.polled
 has_paced old new (Lost time) o handed (inl did) =
     paced_lost old new time o handed did.gave.between o.lost (ap (λ (x : Outcome). x.ask) did.returned) did.gave.time

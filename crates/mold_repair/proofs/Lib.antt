@@ -1,3 +1,4 @@
+pub mod HeldLemmas
 pub mod TakingLemmas
 pub mod GapLemmas
 pub mod PollLemmas
