@@ -9,3 +9,4 @@ pub mod ReadyLemmas
 pub mod SafeLemmas
 pub mod ProgressLemmas
 pub mod CatchUpLemmas
+pub mod FrugalLemmas

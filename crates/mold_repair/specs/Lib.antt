@@ -13,3 +13,4 @@ pub mod Run
 pub mod Laws
 pub mod Safe
 pub mod CatchUp
+pub mod Frugal

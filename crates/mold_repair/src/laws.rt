@@ -13,6 +13,7 @@ ghost use Rattle.mold_receiver.specs.Store.{Message};
 ghost use Rattle.mold_receiver.specs.View.{IsWellFormed, View};
 ghost use Rattle.mold_receiver.specs.Wanted.{missing};
 ghost use Rattle.mold_repair.specs.CatchUp.{RanOutOfMemory, TakesFirst, count_deliveries, missing_below};
+ghost use Rattle.mold_repair.specs.Frugal.{IsFrugalRun};
 ghost use Rattle.mold_repair.specs.GivingUp.{is_due};
 ghost use Rattle.mold_repair.specs.Laws.{AreInOrder, HasNumbers, IsPaced, RequestsFirst, requests_of};
 ghost use Rattle.mold_repair.specs.Missing.{IsWanted};
@@ -26,7 +27,7 @@ ghost use Rattle.mold_repair.specs.declared.outcome.Outcome.{Outcome};
 ghost use Rattle.mold_repair.specs.declared.repairer.Repairer.{Repairer};
 ghost use Rattle.mold_repair.specs.declared.step.RepairStep.{RepairStep};
 
-use mold_pacing::laws::{apart_law, attempts_law, limit_law};
+use mold_pacing::laws::{apart_law, attempts_law, frugal_law as pacer_frugal_law, limit_law};
 use mold_receiver::laws::{
     having_law, honest_skip_law, honest_take_law, missing_law, taken_law, through_law,
     well_formed_law,
@@ -111,6 +112,20 @@ pub fn pacing_law()
 {
     apart_law();
     taken_law();
+}
+
+/// Few requests are wasted, from a repairer without requests on. Those that did not run out, and are not in flight at
+/// the end, are at most the distinct numbers that came while a request for them was in flight. A request runs out when
+/// its timeout passes, or the settle time after a response.
+pub fn frugal_law()
+    ensures { (old new : Repairer) (steps : List RepairStep) (outcomes : List Outcome) →
+        IsRepaired old new steps outcomes → IsWellFormed old.arbiter.view → old.pacer.flights.items ≡ [] →
+        IsFrugalRun old new steps outcomes }
+{
+    pacer_frugal_law();
+    having_law();
+    taken_law();
+    well_formed_law();
 }
 
 /// In each run, and so in each part of a run, the requests times the interval are at most the time that passed, the
