@@ -60,7 +60,7 @@ ComesIn q [] = ⊥
 ComesIn q (x ∷ xs) = (comes q x ≡ true) ⊎ ComesIn q xs
 
 -- None of the steps is a poll.
-abbrev NonePolls : List Step → Type 0
+abbrev pub NonePolls : List Step → Type 0
 NonePolls [] = Unit {0}
 NonePolls (Advance time known ∷ xs) = NonePolls xs
 NonePolls (Adapt patience ∷ xs) = NonePolls xs
@@ -69,9 +69,9 @@ NonePolls (Respond server came ∷ xs) = NonePolls xs
 NonePolls (Arrive came ∷ xs) = NonePolls xs
 
 -- None of the steps is a poll, and the view has each number that comes in them.
-record IsQuiet (w : View) (xs : List Step) : Type 0 where
-  none : NonePolls xs
-  came : (q : ℕ) → ComesIn q xs → HasMessage w q
+pub record IsQuiet (w : View) (xs : List Step) : Type 0 where
+  pub none : NonePolls xs
+  pub came : (q : ℕ) → ComesIn q xs → HasMessage w q
 
 -- Steps between two views: what the first has is not missing in them, and what comes in them, the second has.
 record IsOnce (v w : View) (xs : List Step) : Type 0 where
@@ -102,7 +102,7 @@ quiet_once v w xs quiet = record {
   came = quiet.came;
 }
 
-none_join : (xs ys : List Step) → NonePolls xs → NonePolls ys → NonePolls (xs ++ ys)
+pub none_join : (xs ys : List Step) → NonePolls xs → NonePolls ys → NonePolls (xs ++ ys)
 none_join [] ys first then = then
 none_join (Advance time known ∷ xs) ys first then = none_join xs ys first then
 none_join (Adapt patience ∷ xs) ys first then = none_join xs ys first then
@@ -132,7 +132,7 @@ quiet_join w xs ys first then = record {
       ];
 }
 
-quiet_if : (w : View) (b : Bool) (xs : List Step) → IsQuiet w xs → IsQuiet w (cond b xs [])
+pub quiet_if : (w : View) (b : Bool) (xs : List Step) → IsQuiet w xs → IsQuiet w (cond b xs [])
 quiet_if w true xs quiet = quiet
 quiet_if w false xs quiet = quiet_nil w
 
@@ -175,11 +175,11 @@ quiet_arrive w g each = record {
 quiet_held : (w : View) (from : ℕ) → IsQuiet w (Arrive (held_from w from) ∷ [])
 quiet_held w from = quiet_arrive w (held_from w from) (held_has w from)
 
-quiet_filled : (w : View) (request : Option Flight) → IsQuiet w (filled_steps w request)
+pub quiet_filled : (w : View) (request : Option Flight) → IsQuiet w (filled_steps w request)
 quiet_filled w None = quiet_nil w
 quiet_filled w (Some request) = quiet_held w request.first
 
-quiet_response : (w : View) (origin : RepairOrigin) (g : Gap) → ((q : ℕ) → g.first ≤ q → q < g.end → HasMessage w q) →
+pub quiet_response : (w : View) (origin : RepairOrigin) (g : Gap) → ((q : ℕ) → g.first ≤ q → q < g.end → HasMessage w q) →
     IsQuiet w (response_steps origin g)
 quiet_response w (Line line) g each = quiet_nil w
 quiet_response w (Server server) g each = record {
@@ -190,7 +190,7 @@ quiet_response w (Server server) g each = record {
   ];
 }
 
-quiet_came : (w : View) (origin : RepairOrigin) (g : Gap) (request : Option Flight) →
+pub quiet_came : (w : View) (origin : RepairOrigin) (g : Gap) (request : Option Flight) →
     ((q : ℕ) → g.first ≤ q → q < g.end → HasMessage w q) → IsQuiet w (came_steps origin g w request)
 quiet_came w origin g request each =
     quiet_if w (nat_lt g.first g.end) (response_steps origin g ++ (Arrive (held_from w g.first) ∷ filled_steps w request))
@@ -199,7 +199,7 @@ quiet_came w origin g request each =
     (quiet_join w (Arrive (held_from w g.first) ∷ []) (filled_steps w request) (quiet_held w g.first)
     (quiet_filled w request)))
 
-quiet_adapted : (w : View) (options : RepairOptions) (origin : RepairOrigin) (g : Gap) (delays : Delays) →
+pub quiet_adapted : (w : View) (options : RepairOptions) (origin : RepairOrigin) (g : Gap) (delays : Delays) →
     IsQuiet w (adapted_from options origin g delays)
 quiet_adapted w options origin g delays = quiet_if w _ _ (quiet_adapt w _)
 

@@ -8,7 +8,7 @@ use Rattle.std.proofs.lemmas.Bool.Decides.{nat_tests}
 use Rattle.mold_receiver.specs.Having.{HasMessage}
 use Rattle.mold_receiver.specs.Skip.{skipped_run}
 use Rattle.mold_receiver.specs.Store.{Message, behind_some, run_from}
-use Rattle.mold_receiver.specs.View.{View}
+use Rattle.mold_receiver.specs.View.{View, IsWellFormed}
 use Rattle.mold_receiver.specs.Wanted.{HasNoGap, IsNextGap}
 use Rattle.mold_receiver.specs.declared.gap.Gap.{Gap}
 use Rattle.mold_repair.specs.Came.{held_end}
@@ -94,4 +94,46 @@ held_has v from q low high =
       | inl below ↦ inl (omega (arith, high, end_below v from below))
       | inr above ↦
           inr (run_has (finite.get v.store) (v.known - from) from q low (omega (arith, high, end_above v from above)))
+    ]
+
+run_at_least : (look : ℕ → Option Message) (most from k : ℕ) → k ≤ most →
+    ((q : ℕ) → from ≤ q → q < from + k → is_some (look q) ≡ true) → k ≤ length (run_from look from most)
+unfolding run_from
+run_at_least look most from zero within held = omega arith
+run_at_least look zero from (suc k) within held = absurd (omega (arith, within))
+run_at_least look (suc most) from (suc k) within held =
+    let rest = run_at_least look most (suc from) k (omega (arith, within))
+    (λ q low high. held q (omega (arith, low)) (omega (arith, high))) in
+    elim (look from) as (λ o. look from ≡ o → suc k ≤ length (behind_some o (run_from look (suc from) most))) [
+      | None ↦ λ e. absurd (true≢false (sym (held from (omega arith) (omega arith)) ∙ ap is_some e))
+      | Some m ↦ λ e. omega (arith, rest)
+    ] refl
+
+stored_above : (v : View) (q : ℕ) → v.next ≤ q → HasMessage v q → is_some (finite.get v.store q) ≡ true
+stored_above v q above (inl below) = absurd (omega (arith, above, below))
+stored_above v q above (inr some) = some
+
+pub next_stored : (v : View) → IsWellFormed v → is_some (finite.get v.store v.next) ≡ true → ⊥
+next_stored v well some =
+    elim (finite.get v.store v.next) as (λ o. finite.get v.store v.next ≡ o → ⊥) [
+      | None ↦ λ e. true≢false (sym some ∙ ap is_some e)
+      | Some m ↦ λ e. let lies = well.stored v.next m e in omega (arith, lies.0)
+    ] refl
+
+-- If the view has all numbers from `from` to just below `end`, they don't end before it.
+pub held_to : (v : View) (from end : ℕ) → IsWellFormed v → from < end → end ≤ v.known →
+    ((q : ℕ) → from ≤ q → q < end → HasMessage v q) → end ≤ held_end v from
+held_to v from end well some high each =
+    elim (cases_lt from v.next) [
+      | inr above ↦
+          let run = run_at_least (finite.get v.store) (v.known - from) from (end - from) (omega (arith, high))
+          (λ q low below. stored_above v q (omega (arith, above, low)) (each q low (omega (arith, below, some)))) in
+          omega (arith, run, end_above v from above, some)
+      | inl below ↦
+          elim (cases_lt v.next end) [
+            | inr within ↦ omega (arith, within, end_below v from below)
+            | inl past ↦
+                let there = stored_above v v.next (omega arith) (each v.next (omega (arith, below)) past) in
+                absurd (next_stored v well there)
+          ]
     ]

@@ -10,3 +10,5 @@ pub mod SafeLemmas
 pub mod ProgressLemmas
 pub mod CatchUpLemmas
 pub mod FrugalLemmas
+pub mod TableLemmas
+pub mod NeededLemmas

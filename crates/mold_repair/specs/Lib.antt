@@ -14,3 +14,4 @@ pub mod Laws
 pub mod Safe
 pub mod CatchUp
 pub mod Frugal
+pub mod Needed

@@ -17,6 +17,7 @@ ghost use Rattle.mold_repair.specs.Frugal.{IsFrugalRun};
 ghost use Rattle.mold_repair.specs.GivingUp.{is_due};
 ghost use Rattle.mold_repair.specs.Laws.{AreInOrder, HasNumbers, IsPaced, RequestsFirst, requests_of};
 ghost use Rattle.mold_repair.specs.Missing.{IsWanted};
+ghost use Rattle.mold_repair.specs.Needed.{AreNeeded};
 ghost use Rattle.mold_repair.specs.Options.{tolerance};
 ghost use Rattle.mold_repair.specs.Polls.{HasPolled};
 ghost use Rattle.mold_repair.specs.Run.{HasLostSome, IsRepaired, IsStepOf};
@@ -29,8 +30,8 @@ ghost use Rattle.mold_repair.specs.declared.step.RepairStep.{RepairStep};
 
 use mold_pacing::laws::{apart_law, attempts_law, frugal_law as pacer_frugal_law, limit_law};
 use mold_receiver::laws::{
-    having_law, honest_skip_law, honest_take_law, missing_law, taken_law, through_law,
-    well_formed_law,
+    having_law, honest_skip_law, honest_take_law, missing_law, nothing_new_law, taken_law,
+    through_law, well_formed_law,
 };
 use mold_wire::laws::reading_law;
 
@@ -124,6 +125,19 @@ pub fn frugal_law()
 {
     pacer_frugal_law();
     having_law();
+    taken_law();
+    well_formed_law();
+}
+
+/// No request stays in flight in vain: in a run that begins without requests, each request in flight asks for a message
+/// that is still missing. So a request is freed as soon as its last message came, by whatever datagrams.
+pub fn needed_law()
+    ensures { (old new : Repairer) (steps : List RepairStep) (outcomes : List Outcome) →
+        IsRepaired old new steps outcomes → IsWellFormed old.arbiter.view → old.pacer.flights.items ≡ [] →
+        AreNeeded new }
+{
+    having_law();
+    nothing_new_law();
     taken_law();
     well_formed_law();
 }
