@@ -115,6 +115,15 @@ impl Pacer {
         take_arrival(&mut self.flights, self.state.now, came);
     }
 
+    /// Returns whether no request begins at or above this number. Then the arrival of numbers from this one on changes
+    /// nothing. It looks at the last request only.
+    pub fn none_begins_from(&self, number: u64) -> bool
+        ensures { result ≡ true → (end : ℕ) → self.now.flights.items ≡
+            map (after_arrival self.now.state.now number end) self.now.flights.items }
+    {
+        all_begin_below(&self.flights, number)
+    }
+
     // Returns the request for a free number.
     fn ask_for(&self, free: Free, before: Option<Flight>) -> Ask
         requires passed { ArePassed self.now.flights.items self.now.state.now free.index free.first }

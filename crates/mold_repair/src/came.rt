@@ -61,6 +61,10 @@ fn report_from(arbiter: &Arbiter, pacer: &mut Pacer, first: u64)
     ensures now { pacer.new.state.now ≡ pacer.old.state.now }
     ensures options { pacer.new.options ≡ pacer.old.options }
 {
+    // Most datagrams of a line are above all requests. They need no look at what is missing.
+    if pacer.none_begins_from(first) {
+        return;
+    }
     pacer.arrive(Gap {
         first,
         end: held_end(arbiter, first),
