@@ -224,7 +224,7 @@ accepted : TrueLaws → (v : View) (published : List Message) (closed : Bool) (b
     IsHonest v published closed → BringsFirst v published closed bytes
     → (r : Reception) × ((receive v bytes ≡ Ok r) × (v.next < r.view.next))
 accepted laws v published closed bytes honest brings =
-    let told = brings.told in
+    let told = brings.truth in
     let took = laws.takes v told.packet bytes published closed honest told.spelled told.session told.so in
     let packet = laws.taken v bytes took.reception took.received in
     let same = ok_packet (sym packet.read ∙ laws.read told.packet bytes told.spelled) in

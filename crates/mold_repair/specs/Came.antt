@@ -42,8 +42,8 @@ abbrev pub response_steps : RepairOrigin → Gap → List Step
 response_steps (Line line) came = []
 response_steps (Server server) came = Respond server came ∷ []
 
--- What the pacer learns of a request of which a number came: all numbers from its first one on that have come. These
--- may be the whole request, of which other datagrams brought the rest.
+-- What the pacer learns of the request for the datagram's first number: the numbers that have come, from the request's
+-- first one on. If other datagrams brought the rest, this is the whole request.
 abbrev pub filled_steps : View → Option Flight → List Step
 filled_steps v None = []
 filled_steps v (Some request) = Arrive (held_from v request.first) ∷ []

@@ -26,9 +26,9 @@ count_deliveries limit (o ∷ os) =
 -- The datagram is true of the session, and has the first message that the view misses. A response to a request for that
 -- message is such a datagram if it begins at the number requested and has at least one message.
 pub record BringsFirst (v : View) (published : List Message) (closed : Bool) (bytes : List ℕ) : Type 0 where
-  pub told : IsTrueDatagram v.session published closed bytes
-  pub begins : told.packet.sequence ≤ v.next
-  pub some : v.next < top_of told.packet
+  pub truth : IsTrueDatagram v.session published closed bytes
+  pub begins : truth.packet.sequence ≤ v.next
+  pub some : v.next < top_of truth.packet
 
 -- The step takes such a datagram.
 abbrev pub TakesFirst : View → List Message → Bool → RepairStep → Type 0

@@ -130,7 +130,7 @@ pub fn frugal_law()
 }
 
 /// No request stays in flight in vain: in a run that begins without requests, each request in flight asks for a message
-/// that is still missing. So a request is freed as soon as its last message came, by whatever datagrams.
+/// that is still missing. So a request is freed as soon as all its messages came, whichever datagrams brought them.
 pub fn needed_law()
     ensures { (old new : Repairer) (steps : List RepairStep) (outcomes : List Outcome) →
         IsRepaired old new steps outcomes → IsWellFormed old.arbiter.view → old.pacer.flights.items ≡ [] →
