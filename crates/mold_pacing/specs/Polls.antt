@@ -1,7 +1,7 @@
 -- What a pacer does when it is polled.
 use Rattle.std.specs.Prelude.{◌≡◌, ◌⊎◌, ℕ, ◌+◌, ◌-◌, ◌<◌, ◌≤◌, false, List, Option, find}
 use Rattle.mold_pacing.specs.Asks.{AreAllInFlight, AsksFrom, IsFirstFree}
-use Rattle.mold_pacing.specs.Flight.{is_stale}
+use Rattle.mold_pacing.specs.Flight.{covers, is_stale}
 use Rattle.mold_pacing.specs.Most.{ends_request, learned, request_most}
 use Rattle.mold_pacing.specs.Repeat.{end_for, flight_for, server_for}
 use Rattle.mold_pacing.specs.State.{asked}
@@ -14,6 +14,10 @@ use Rattle.mold_pacing.specs.declared.pacer.Pacer.{Pacer}
 -- The last request for the number, if it is over.
 abbrev pub last_request : Pacer → ℕ → Option Flight
 last_request p number = find (is_stale p.state.now number) p.flights.items
+
+-- The request in flight for the number, if there is one.
+abbrev pub request_for : Pacer → ℕ → Option Flight
+request_for p number = find (covers p.state.now number) p.flights.items
 
 -- The request in flight that a response with the numbers from `first` to `end - 1` ends, if there is one.
 abbrev pub ended_request : Pacer → ℕ → ℕ → Option Flight

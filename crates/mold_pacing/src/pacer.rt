@@ -14,7 +14,7 @@ use crate::repeat::{next_flight, next_server, repeat_end};
 use crate::response::{ended_request, take_arrival, take_response};
 use crate::state::PacerState;
 use crate::step::Step;
-use crate::table::{Free, all_begin_below, first_free, free_end};
+use crate::table::{Free, all_begin_below, find_covering, first_free, free_end};
 use crate::waiting::{free_from, next_over, over_from};
 use std::alloc::{AllocError, Global};
 
@@ -39,7 +39,7 @@ impl Pacer {
     ghost use Rattle.std.specs.List.{list_all};
     ghost use Rattle.mold_pacing.specs.Asks.{are_gaps, AreAllInFlight, AsksFrom, IsFirstFree};
     ghost use Rattle.mold_pacing.specs.Deadline.{CanAsk, can_send};
-    ghost use Rattle.mold_pacing.specs.Polls.{HasAsked, IsIdle, ended_request, last_request};
+    ghost use Rattle.mold_pacing.specs.Polls.{HasAsked, IsIdle, ended_request, last_request, request_for};
     ghost use Rattle.mold_pacing.specs.Flight.{ArePassed, BeginAbove, in_flight};
     ghost use Rattle.mold_pacing.specs.Repeat.{attempts_of, end_for, flight_for, server_for};
     ghost use Rattle.mold_pacing.specs.Most.{learned, request_most};
@@ -113,6 +113,15 @@ impl Pacer {
             return;
         }
         take_arrival(&mut self.flights, self.state.now, came);
+    }
+
+    /// Returns whether no request begins at or above this number. Then the arrival of numbers from this one on changes
+    /// nothing. It looks at the last request only.
+    pub fn none_begins_from(&self, number: u64) -> bool
+        ensures { result ≡ true → (end : ℕ) → self.now.flights.items ≡
+            map (after_arrival self.now.state.now number end) self.now.flights.items }
+    {
+        all_begin_below(&self.flights, number)
     }
 
     // Returns the request for a free number.
@@ -250,6 +259,13 @@ impl Pacer {
     {
         let index = stale_index(&self.flights, self.state.now, number)?;
         Some(self.flights[index])
+    }
+
+    /// Returns the request in flight for this number, if there is one. The cost is linear in the requests.
+    pub fn request_for(&self, number: u64) -> Option<Flight>
+        ensures { result ≡ request_for self.now number }
+    {
+        find_covering(&self.flights, self.state.now, number)
     }
 
     /// Returns how many requests in a row for this number had no response. A request in flight doesn't count.

@@ -1,8 +1,9 @@
 //! Walks over the table of requests, which is in ascending order of their first numbers.
 
-ghost use Rattle.std.specs.Prelude.{◌≡◌, ◌≤◌, ◌<◌, ◌⊎◌, ◌&&◌, true, false, nat_lt, length, IfSome, IfNone};
+ghost use Rattle.std.specs.Prelude.{◌≡◌, ◌≤◌, ◌<◌, ◌⊎◌, ◌&&◌, true, false, nat_lt, length, find, IfSome, IfNone};
 ghost use Rattle.mold_pacing.specs.Table.{AreBelow};
-ghost use Rattle.mold_pacing.specs.Flight.{AllInFlight, ArePassed, BeginAbove, NoneInFlight, in_flight, is_ascending};
+ghost use Rattle.mold_pacing.specs.Flight.{AllInFlight, ArePassed, BeginAbove, NoneInFlight, covers, in_flight};
+ghost use Rattle.mold_pacing.specs.Flight.{is_ascending};
 ghost use Rattle.mold_pacing.specs.Asks.{AreGaps, AreAllInFlight, IsFirstFree};
 
 use crate::flight::Flight;
@@ -98,6 +99,23 @@ pub(crate) fn all_begin_below(flights: &[Flight], number: u64) -> bool
         return true;
     }
     flights[count - 1].first < number
+}
+
+// Returns whether the request is in flight and asks for this number.
+fn is_covering(flight: Flight, now: u64, number: u64) -> bool
+    ensures { result ≡ covers now number flight }
+{
+    now < flight.until && flight.first <= number && number < flight.end
+}
+
+/// Returns the first request in flight that asks for this number.
+pub(crate) fn find_covering(flights: &[Flight], now: u64, number: u64) -> Option<Flight>
+    ensures { result ≡ find (covers now number) flights.now }
+{
+    flights
+        .iter()
+        .copied()
+        .find(|flight| is_covering(*flight, now, number))
 }
 
 // Returns whether the request is in flight and asks for a number.

@@ -17,6 +17,8 @@ pub mod GivingUpLemmas
 pub mod LawLemmas
 pub mod RefusalLemmas
 pub mod HonestLemmas
+pub mod HonestSkipLemmas
+pub mod HavingLemmas
 pub mod MissingLemmas
 pub mod GapLemmas
 pub mod ArbiterLemmas

@@ -3,6 +3,7 @@ use Rattle.std.specs.Prelude.{◌≡◌, ℕ, ◌+◌, ◌≤◌, Bool, true, Li
 use Rattle.std.specs.FinMap as finite
 use Rattle.mold_wire.specs.Truth.{published_at}
 use Rattle.mold_receiver.specs.Receive.{Reception, receive}
+use Rattle.mold_receiver.specs.Skip.{skipped, skipped_run}
 use Rattle.mold_receiver.specs.Store.{Message}
 use Rattle.mold_receiver.specs.View.{View, IsWellFormed}
 
@@ -23,3 +24,10 @@ pub record IsTakenHonestly (v : View) (bytes : List ℕ) (published : List Messa
   pub honest : IsHonest reception.view published closed
   pub handed : (i : ℕ) (message : Message) → slice_get reception.handed i ≡ Some message →
       published_at published (v.next + i) ≡ Some message
+
+-- The view is honest after the messages below `to` were given up. Each message that is then delivered is the one that
+-- was published with its number.
+pub record IsSkippedHonestly (v : View) (to : ℕ) (published : List Message) (closed : Bool) : Type 0 where
+  pub honest : IsHonest (skipped v to) published closed
+  pub handed : (i : ℕ) (message : Message) → slice_get (skipped_run v to) i ≡ Some message →
+      published_at published (to + i) ≡ Some message

@@ -4,6 +4,7 @@ pub mod Origin
 pub mod Receive
 pub mod Wanted
 pub mod Skip
+pub mod Having
 pub mod Batch
 pub mod Slots
 pub mod Occupied

@@ -14,8 +14,10 @@ ghost use Rattle.mold_rule.specs.Ranges.{lacking, size};
 ghost use Rattle.mold_rule.specs.declared.refusal.Refusal.TheVariants.{Memory};
 ghost use Rattle.mold_receiver.specs.Batch.{Handed, Follows, followed_by};
 ghost use Rattle.mold_wire.specs.Truth.{Carries, IsTruePacket};
-ghost use Rattle.mold_receiver.specs.Honest.{IsHonest, IsTakenHonestly};
+ghost use Rattle.mold_receiver.specs.Having.{HasAllOf, HasMessage};
+ghost use Rattle.mold_receiver.specs.Honest.{IsHonest, IsSkippedHonestly, IsTakenHonestly};
 ghost use Rattle.mold_receiver.specs.Receive.{IsTakenPacket, Reception, data_packet, handed_on, receive, view_after};
+ghost use Rattle.mold_receiver.specs.Skip.{skipped};
 ghost use Rattle.mold_receiver.specs.Store.{Message, available};
 ghost use Rattle.mold_receiver.specs.View.{View, IsWellFormed, fresh};
 ghost use Rattle.mold_receiver.specs.Wanted.{IsGap, gap_end, gaps, lacks, missing, wanted};
@@ -37,8 +39,7 @@ pub fn least_missing_law()
 {}
 
 /// A receiver invents nothing. Each message that it delivers or stores was already stored with the same number, or the
-/// packet carries it with the same number.
-#[tactic(auto, using(crate::proofs::LawLemmas::handed_had, crate::proofs::LawLemmas::stored_had))]
+/// packet carries it with the same number. When messages are given up, no other message enters the store.
 pub fn nothing_new_law()
     ensures handed { (v : View) (p : Packet) (i : ℕ) (m : Message) →
         slice_get (handed_on v p.sequence (messages_of p.body)) i ≡ Some m →
@@ -46,12 +47,25 @@ pub fn nothing_new_law()
     ensures stored { (v : View) (p : Packet) (number : ℕ) (m : Message) →
         finite.get (view_after v p).store number ≡ Some m →
         (finite.get v.store number ≡ Some m) ⊎ Carries p number m }
+    ensures skipped { (v : View) (to number : ℕ) (m : Message) →
+        finite.get (skipped v to).store number ≡ Some m → finite.get v.store number ≡ Some m }
 {}
 
-/// A well-formed view that accepts a datagram stays well formed.
+/// A well-formed view stays well formed when it accepts a datagram, and when messages are given up.
 pub fn well_formed_law()
     ensures received { (v : View) (bytes : List ℕ) (r : Reception) →
         IsWellFormed v → receive v bytes ≡ Ok r → IsWellFormed r.view }
+    ensures skipped { (v : View) (to : ℕ) →
+        IsWellFormed v → v.next ≤ to → to ≤ v.known → IsWellFormed (skipped v to) }
+{}
+
+/// A message that came is never missing again. After a packet is accepted, the view has each of its messages whose
+/// number is in the window. What a view has, it has after each later packet, and after messages are given up.
+pub fn having_law()
+    ensures came { (v : View) (p : Packet) (number : ℕ) → IsWellFormed v → p.sequence ≤ number → number < top_of p →
+        number < (view_after v p).next + v.window → HasMessage (view_after v p) number }
+    ensures received { (v : View) (p : Packet) → IsWellFormed v → HasAllOf v (view_after v p) }
+    ensures skipped { (v : View) (to : ℕ) → IsWellFormed v → v.next ≤ to → to ≤ v.known → HasAllOf v (skipped v to) }
 {}
 
 /// An honest view accepts every datagram that encodes a true packet of its session, and stays honest. Each message
@@ -76,6 +90,13 @@ pub fn honest_stays_law()
     ensures fresh { (session : Session) (next window : ℕ) (published : List Message) (closed : Bool) →
         1 ≤ next → next ≤ length published + 1 → length published < MAX_NUMBER →
         IsHonest (fresh session next window) published closed }
+{}
+
+/// A view stays honest when the messages below `to` are given up. Each message that it then delivers is the one that
+/// was published with its number.
+pub fn honest_skip_law()
+    ensures { (v : View) (to : ℕ) (published : List Message) (closed : Bool) →
+        IsHonest v published closed → v.next ≤ to → to ≤ v.known → IsSkippedHonestly v to published closed }
 {}
 
 /// A datagram that is accepted encodes a packet of the view's session to which no refusal applies. The result is the

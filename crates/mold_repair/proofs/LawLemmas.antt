@@ -61,12 +61,12 @@ moved_still old new ask handed same empty = record {
   session = ap (λ (v : View). v.session) same;
 }
 
-taken_view : (line : Option TheLine) (bytes : List ℕ) (old : Arbitration) (r : Reception) →
+pub taken_view : (line : Option TheLine) (bytes : List ℕ) (old : Arbitration) (r : Reception) →
     (arbitrated line bytes old (Ok r)).view ≡ r.view
 taken_view None bytes old r = refl
 taken_view (Some line) bytes old r = refl
 
-refused_view : (line : Option TheLine) (bytes : List ℕ) (old : Arbitration) (e : Refusal) →
+pub refused_view : (line : Option TheLine) (bytes : List ℕ) (old : Arbitration) (e : Refusal) →
     (arbitrated line bytes old (Err e)).view ≡ old.view
 refused_view None bytes old e = refl
 refused_view (Some line) bytes old e = refl
@@ -186,13 +186,13 @@ pub record IsPacedStep (old new : Repairer) (step : RepairStep) (o : Outcome) : 
       returned_all old.arbiter.view.session old.options.servers (sent ++ rest)
       ≡ listed o.ask (returned_all old.arbiter.view.session old.options.servers rest)
 
-none_returned : (session : Session) (servers : ℕ) (steps : List Step) (rest : List (Option Sent)) →
+pub none_returned : (session : Session) (servers : ℕ) (steps : List Step) (rest : List (Option Sent)) →
     returned_all session servers (map no_ask steps ++ rest) ≡ returned_all session servers rest
 none_returned session servers [] rest = refl
 none_returned session servers (step ∷ steps) rest = none_returned session servers steps rest
 
 -- A step that sends nothing.
-paced_none : (old new : Repairer) (step : RepairStep) (o : Outcome) (steps : List Step) → o.ask ≡ None
+unfoldable pub paced_none : (old new : Repairer) (step : RepairStep) (o : Outcome) (steps : List Step) → o.ask ≡ None
     → ArePacerSteps old.options step steps → HasLearned old.pacer new.pacer steps → IsPacedStep old new step o
 paced_none old new step o steps none are learned = record {
   steps = steps;
@@ -203,7 +203,7 @@ paced_none old new step o steps none are learned = record {
       ∙ ap (λ (a : Option Ask). listed a (returned_all old.arbiter.view.session old.options.servers rest)) (sym none);
 }
 
-paced_taken : (old new : Repairer) (step : RepairStep) (o : Outcome) (time : ℕ) (steps : List Step)
+unfoldable pub paced_taken : (old new : Repairer) (step : RepairStep) (o : Outcome) (time : ℕ) (steps : List Step)
     (r : Result Taken Refusal) → o.ask ≡ None → ArePacerSteps old.options step steps
     → ArePacerSteps old.options step (Advance time old.arbiter.view.known ∷ [])
     → OnOk r (HasLearned old.pacer new.pacer steps) → OnErr r (HasPassed time old.arbiter.view old.pacer new.pacer)
@@ -214,7 +214,7 @@ paced_taken old new step o time steps (Err e) none are idle learned passed =
     paced_none old new step o (Advance time old.arbiter.view.known ∷ []) none idle passed
 
 -- What a pacer does in a poll.
-paced_sent : (give_up : ℕ) (v : View) (old new : Pacer) (sent : Option Sent)
+unfoldable pub paced_sent : (give_up : ℕ) (v : View) (old new : Pacer) (sent : Option Sent)
     → MatchOption sent (IsStill give_up v old new) (HasRequested give_up v old new)
     → (gaps : List Gap) × MatchOption sent (IsIdle old new gaps) (HasAsked old new gaps)
 paced_sent give_up v old new None still = (
@@ -228,7 +228,7 @@ paced_sent give_up v old new None still = (
 )
 paced_sent give_up v old new (Some sent) did = (did.gaps, did.asked)
 
-paced_poll : (old new : Repairer) (time : ℕ) (o : Outcome)
+unfoldable pub paced_poll : (old new : Repairer) (time : ℕ) (o : Outcome)
     → HasPolled old.options old.arbiter.view old.pacer new.pacer time o.ask → IsPacedStep old new (Poll time) o
 paced_poll old new time o did =
     let gave = paced_sent old.options.give_up old.arbiter.view did.between new.pacer did.sent did.polled in
@@ -242,7 +242,7 @@ paced_poll old new time o did =
           ap (λ (a : Option Ask). listed a (returned_all old.arbiter.view.session old.options.servers rest)) (sym did.answer);
     }
 
-paced_lost : (old new : Repairer) (time : ℕ) (o : Outcome) (handed : Handed) (between : Pacer) (lost : Option Gap)
+unfoldable pub paced_lost : (old new : Repairer) (time : ℕ) (o : Outcome) (handed : Handed) (between : Pacer) (lost : Option Gap)
     → o.ask ≡ None → Takes old.pacer between (Advance time old.arbiter.view.known) None
     → MatchOption lost (IsKept old.options.give_up old.arbiter new.arbiter nothing handed between new.pacer)
     (IsLost old.options.give_up old.arbiter new.arbiter nothing handed between new.pacer)
@@ -254,14 +254,15 @@ paced_lost old new time o handed between (Some gap) none took gave =
     paced_none old new (Lost time) o (Advance time old.arbiter.view.known ∷ Arrive (range 0 new.arbiter.view.next) ∷ []) none
     (inl (old.arbiter.view.known, new.arbiter.view.next, refl)) (between, took, (new.pacer, gave.pacer, refl))
 
-pub has_paced : (old new : Repairer) (step : RepairStep) (o : Outcome) (handed : Handed) → HasStepped old new step handed o
+unfoldable pub has_paced : (old new : Repairer) (step : RepairStep) (o : Outcome) (handed : Handed) → HasStepped old new step handed o
     → IsPacedStep old new step o
 has_paced old new (Take time origin datagram) o handed did =
     let t = did.0 in
     let v = old.arbiter.view in
     paced_taken old new (Take time origin datagram) o time
-    (taken_steps old.options time origin datagram.now v new.arbiter.view new.delays) t.result
-    (ap (λ (x : Outcome). x.ask) did.1) (inl (v, new.arbiter.view, new.delays, refl)) (inr (v.known, refl)) t.learned t.passed
+    (taken_steps old.options time origin datagram.now v new.arbiter.view new.delays old.pacer) t.result
+    (ap (λ (x : Outcome). x.ask) did.1) (inl (v, new.arbiter.view, new.delays, old.pacer, refl))
+    (inr (v.known, refl)) t.learned t.passed
 has_paced old new (Poll time) o handed did = paced_poll old new time o did.polled
 has_paced old new (Lost time) o handed (inl did) =
     paced_lost old new time o handed did.gave.between o.lost (ap (λ (x : Outcome). x.ask) did.returned) did.gave.time
@@ -290,7 +291,7 @@ pub record IsPacedBy (old new : Repairer) (steps : List RepairStep) (os : List O
   pub ran : IsRun old.pacer new.pacer pacer_steps sent
   pub requests : requests_of os ≡ returned_all old.arbiter.view.session old.options.servers sent
 
-pub paced : TakenLaw → (old new : Repairer) (steps : List RepairStep) (os : List Outcome) → IsRepaired old new steps os →
+unfoldable pub paced : TakenLaw → (old new : Repairer) (steps : List RepairStep) (os : List Outcome) → IsRepaired old new steps os →
     IsPacedBy old new steps os
 paced law old new [] [] ran = record {
   pacer_steps = [];

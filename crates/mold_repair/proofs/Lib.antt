@@ -1,3 +1,4 @@
+pub mod HeldLemmas
 pub mod TakingLemmas
 pub mod GapLemmas
 pub mod PollLemmas
@@ -5,3 +6,9 @@ pub mod GivingUpLemmas
 pub mod RunLemmas
 pub mod LawLemmas
 pub mod ReadyLemmas
+pub mod SafeLemmas
+pub mod ProgressLemmas
+pub mod CatchUpLemmas
+pub mod FrugalLemmas
+pub mod TableLemmas
+pub mod NeededLemmas

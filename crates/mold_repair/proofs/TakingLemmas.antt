@@ -1,5 +1,5 @@
 -- What a pacer learns of a datagram.
-use Rattle.std.proofs.Common.{◌≡◌, true, false, ℕ, ◌+◌, ◌<◌, ◌≤◌, List, [], ◌∷◌, ◌++◌, ◌==◌, ◌&&◌, Bool, max, ◌-◌, map, nat_lt, cond, None, refl, subst, sym, ap, ◌∙◌, arith}
+use Rattle.std.proofs.Common.{◌≡◌, true, false, ℕ, ◌<◌, ◌≤◌, List, [], ◌∷◌, ◌++◌, ◌==◌, ◌&&◌, Bool, max, ◌-◌, map, nat_lt, cond, Option, None, refl, subst, sym, ap, ◌∙◌, arith}
 use Rattle.std.proofs.lemmas.Bool.Decides.{nat_tests}
 use Rattle.mold_pacing.specs.Responses.{after_arrival}
 use Rattle.mold_pacing.specs.Run.{Takes}
@@ -10,44 +10,46 @@ use Rattle.mold_pacing.specs.declared.state.PacerState.{PacerState}
 use Rattle.mold_pacing.specs.declared.step.Step.{Step}
 use Rattle.mold_pacing.specs.declared.step.Step.TheVariants.{Adapt, Advance, Arrive}
 use Rattle.mold_receiver.specs.View.{View}
-use Rattle.mold_repair.specs.Came.{came_below, came_steps, noted, origin_step, range}
+use Rattle.mold_repair.specs.Came.{came_steps, filled_steps, held_from, range, response_steps}
+use Rattle.mold_pacing.specs.declared.flight.Flight.{Flight}
 use Rattle.mold_pacing.specs.Delays.{patience_for}
 use Rattle.mold_pacing.specs.declared.delays.Delays.{Delays}
 use Rattle.mold_repair.specs.Taking.{HasLearned, HasPassed}
 use Rattle.mold_repair.specs.Timing.{adapted_from, is_line, is_timed}
 use Rattle.mold_repair.specs.declared.options.RepairOptions.{RepairOptions}
 use Rattle.mold_repair.specs.declared.origin.RepairOrigin.{RepairOrigin}
-use Rattle.mold_wire.specs.Reading.{reading}
 
-pub noted_is : (origin : RepairOrigin) (bytes : List ℕ) (v : View) (came : Gap) (next window : ℕ)
-    → came ≡ came_below (next + window) (reading bytes) → next ≡ v.next → window ≡ v.window
-    → came_steps origin came next ≡ noted origin bytes v
-noted_is origin bytes v came next window is n w =
-    ap (λ (g : Gap). came_steps origin g next) is
-    ∙ (λ i. came_steps origin (came_below (n i + w i) (reading bytes)) (n i))
+-- The pacer that took no step.
+pub learned_none : (p : Pacer) → HasLearned p p []
+learned_none p = refl
 
-pub steps_none : (origin : RepairOrigin) (came : Gap) (next : ℕ) → came.end ≤ came.first →
-    came_steps origin came next ≡ []
-steps_none origin came next empty =
+pub run_more : (p q r : Pacer) (steps more : List Step) → HasLearned p q steps → HasLearned q r more →
+    HasLearned p r (steps ++ more)
+run_more p q r [] more first then = subst (λ (s : Pacer). HasLearned s r more) first then
+run_more p q r (step ∷ steps) more first then =
+    (first.0, first.1, run_more first.0 q r steps more first.2 then)
+
+pub came_none : (origin : RepairOrigin) (came : Gap) (v : View) (request : Option Flight) → came.end ≤ came.first →
+    came_steps origin came v request ≡ []
+came_none origin came v request empty =
     let off : nat_lt came.first came.end ≡ false = grind (arith, nat_tests, empty) in
-    ap (λ b. cond b (origin_step origin came ∷ Arrive (range 0 next) ∷ []) []) off
+    ap (λ b. cond b (response_steps origin came ++ (Arrive (held_from v came.first) ∷ filled_steps v request)) []) off
 
-pub steps_some : (origin : RepairOrigin) (came : Gap) (next : ℕ) → came.first < came.end →
-    came_steps origin came next ≡ origin_step origin came ∷ Arrive (range 0 next) ∷ []
-steps_some origin came next some =
+pub came_some : (origin : RepairOrigin) (came : Gap) (v : View) (request : Option Flight) → came.first < came.end →
+    came_steps origin came v request
+    ≡ response_steps origin came ++ (Arrive (held_from v came.first) ∷ filled_steps v request)
+came_some origin came v request some =
     let on : nat_lt came.first came.end ≡ true = grind (arith, nat_tests, some) in
-    ap (λ b. cond b (origin_step origin came ∷ Arrive (range 0 next) ∷ []) []) on
+    ap (λ b. cond b (response_steps origin came ++ (Arrive (held_from v came.first) ∷ filled_steps v request)) []) on
 
-pub learned_none : (origin : RepairOrigin) (came : Gap) (next : ℕ) (p : Pacer) → came.end ≤ came.first →
-    HasLearned p p (came_steps origin came next)
-learned_none origin came next p empty =
-    subst (HasLearned p p) (sym (steps_none origin came next empty)) refl
-
-pub learned_two : (origin : RepairOrigin) (came : Gap) (next : ℕ) (old between new : Pacer) → came.first < came.end
-    → Takes old between (origin_step origin came) None → Takes between new (Arrive (range 0 next)) None
-    → HasLearned old new (came_steps origin came next)
-learned_two origin came next old between new some first second =
-    subst (HasLearned old new) (sym (steps_some origin came next some)) (between, first, (new, second, refl))
+pub came_all : (origin : RepairOrigin) (came : Gap) (v : View) (request : Option Flight) (old p q new : Pacer) →
+    came.first < came.end → HasLearned old p (response_steps origin came) →
+    HasLearned p q (Arrive (held_from v came.first) ∷ []) → HasLearned q new (filled_steps v request) →
+    HasLearned old new (came_steps origin came v request)
+came_all origin came v request old p q new some first then last =
+    subst (HasLearned old new) (sym (came_some origin came v request some))
+    (run_more old p new (response_steps origin came) (Arrive (held_from v came.first) ∷ filled_steps v request) first
+    (run_more p q new (Arrive (held_from v came.first) ∷ []) (filled_steps v request) then last))
 
 pub advanced_by : (now known : ℕ) (v : View) (old new : Pacer) → known ≡ v.known → new.options ≡ old.options
     → new.state ≡ advanced now known old.state → new.flights.items ≡ old.flights.items
@@ -73,12 +75,6 @@ pub passed : (now known : ℕ) (v : View) (old new : Pacer) → known ≡ v.know
     → new.state ≡ advanced now known old.state → new.flights.items ≡ old.flights.items → HasPassed now v old new
 passed now known v old new is options state flights =
     (new, advanced_by now known v old new is options state flights, refl)
-
-pub run_more : (p q r : Pacer) (steps more : List Step) → HasLearned p q steps → HasLearned q r more →
-    HasLearned p r (steps ++ more)
-run_more p q r [] more first then = subst (λ (s : Pacer). HasLearned s r more) first then
-run_more p q r (step ∷ steps) more first then =
-    (first.0, first.1, run_more first.0 q r steps more first.2 then)
 
 pub learned_all : (now : ℕ) (flag : Bool) (before : View) (steps more : List Step) (old p q new : Pacer)
     → HasPassed now before old p → flag ≡ nat_lt before.next before.known → HasLearned p q (cond flag steps [])

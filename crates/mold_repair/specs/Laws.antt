@@ -5,6 +5,7 @@ use Rattle.mold_pacing.specs.Run.{IsRun}
 use Rattle.mold_pacing.specs.declared.ask.Ask.{Ask as Sent}
 use Rattle.mold_pacing.specs.declared.delays.Delays.{Delays}
 use Rattle.mold_pacing.specs.declared.gap.Gap.{Gap}
+use Rattle.mold_pacing.specs.declared.pacer.Pacer.{Pacer}
 use Rattle.mold_pacing.specs.declared.step.Step.{Step}
 use Rattle.mold_pacing.specs.declared.step.Step.TheVariants.{Adapt, Advance, Arrive, Poll as PollGaps, Respond}
 use Rattle.mold_receiver.specs.Batch.{Handed, followed_by}
@@ -67,8 +68,8 @@ IsPollStep (Arrive came) = ⊥
 -- The steps of the pacer in a step of the repairer: the time, then a poll, or what came.
 abbrev pub ArePacerSteps : RepairOptions → RepairStep → List Step → Type 0
 ArePacerSteps options (Take time origin datagram) steps =
-    ((before after : View) × (delays : Delays)
-    × (steps ≡ taken_steps options time origin datagram.now before after delays))
+    ((before after : View) × (delays : Delays) × (p : Pacer)
+    × (steps ≡ taken_steps options time origin datagram.now before after delays p))
     ⊎ ((known : ℕ) × (steps ≡ Advance time known ∷ []))
 ArePacerSteps options (Poll time) steps =
     (known : ℕ) × (step : Step) × IsPollStep step × (steps ≡ Advance time known ∷ step ∷ [])

@@ -11,3 +11,7 @@ pub mod Stats
 pub mod StatsOf
 pub mod Run
 pub mod Laws
+pub mod Safe
+pub mod CatchUp
+pub mod Frugal
+pub mod Needed

@@ -59,7 +59,7 @@ pub record HasTaken (old new : Repairer) (time : ℕ) (origin : RepairOrigin) (b
       (λ refused. HasRefused (line_of (receiver_origin origin)) old.arbiter bytes new.arbiter refused)
   pub batch : OnErr result (handed ≡ nothing)
   pub learned : OnOk result (HasLearned old.pacer new.pacer
-      (taken_steps old.options time origin bytes old.arbiter.view new.arbiter.view new.delays))
+      (taken_steps old.options time origin bytes old.arbiter.view new.arbiter.view new.delays old.pacer))
   pub timed : OnOk result (IsTimed old.options (max old.pacer.state.now time) origin (numbers (reading bytes))
       old.delays new.delays)
   pub passed : OnErr result (HasPassed time old.arbiter.view old.pacer new.pacer)

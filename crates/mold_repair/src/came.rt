@@ -1,14 +1,17 @@
 //! The numbers that a datagram brought.
 
-ghost use Rattle.std.specs.Prelude.{◌≡◌, ◌+◌, None};
+ghost use Rattle.std.specs.Prelude.{◌≡◌, ◌+◌, ◌∷◌, []};
 ghost use Rattle.mold_wire.specs.Reading.{reading};
-ghost use Rattle.mold_pacing.specs.Run.{Takes};
-ghost use Rattle.mold_repair.specs.Came.{came_below, numbers, origin_step};
+ghost use Rattle.mold_pacing.specs.declared.step.Step.TheVariants.{Arrive};
+ghost use Rattle.mold_repair.specs.Came.{came_below, filled_steps, held_end, held_from, noted_from, numbers};
+ghost use Rattle.mold_repair.specs.Came.{response_steps};
+ghost use Rattle.mold_repair.specs.Taking.{HasLearned};
 ghost use Rattle.mold_repair.specs.Timing.{is_timed};
 
 use crate::options::RepairOptions;
 use crate::origin::RepairOrigin;
-use mold_pacing::{Gap, Pacer};
+use mold_pacing::{Flight, Gap, Pacer};
+use mold_receiver::Arbiter;
 use mold_wire::decode;
 
 /// Returns the numbers of the datagram's messages. The range is empty if the datagram has no message.
@@ -37,14 +40,76 @@ pub(crate) fn came_below(datagram: &[u8], next: u64, window: u32) -> Gap
     }
 }
 
-/// Reports to the pacer that these numbers came.
-pub(crate) fn report(pacer: &mut Pacer, origin: RepairOrigin, came: Gap)
-    ensures { Takes pacer.old pacer.new (origin_step origin came) None }
+// Returns the first number at or above `from` that is missing, or one more than the greatest known number.
+fn held_end(arbiter: &Arbiter, from: u64) -> u64
+    ensures { result ≡ held_end arbiter.now.view from }
 {
-    match origin {
-        RepairOrigin::Line(_) => pacer.arrive(came),
-        RepairOrigin::Server(server) => pacer.respond(server, came),
+    let receiver = arbiter.receiver();
+    let next = receiver.next();
+    if from < next {
+        return next;
     }
+    match arbiter.next_missing(from) {
+        Some(gap) => gap.first,
+        None => receiver.known().max(from),
+    }
+}
+
+// Reports to the pacer that the numbers from `first` on came, up to the first missing one.
+fn report_from(arbiter: &Arbiter, pacer: &mut Pacer, first: u64)
+    ensures learned { HasLearned pacer.old pacer.new (Arrive (held_from arbiter.now.view first) ∷ []) }
+    ensures now { pacer.new.state.now ≡ pacer.old.state.now }
+    ensures options { pacer.new.options ≡ pacer.old.options }
+{
+    // Most datagrams of a line are above all requests. They need no look at what is missing.
+    if pacer.none_begins_from(first) {
+        return;
+    }
+    pacer.arrive(Gap {
+        first,
+        end: held_end(arbiter, first),
+    });
+}
+
+// Reports to the pacer which numbers of the request came, from its first one on.
+fn report_filled(arbiter: &Arbiter, pacer: &mut Pacer, request: Option<Flight>)
+    ensures learned { HasLearned pacer.old pacer.new (filled_steps arbiter.now.view request) }
+    ensures now { pacer.new.state.now ≡ pacer.old.state.now }
+    ensures options { pacer.new.options ≡ pacer.old.options }
+{
+    let Some(request) = request else {
+        return;
+    };
+    report_from(arbiter, pacer, request.first);
+}
+
+// Reports to the pacer that these numbers came, if a server sent them.
+fn report_response(pacer: &mut Pacer, origin: RepairOrigin, came: Gap)
+    ensures learned { HasLearned pacer.old pacer.new (response_steps origin came) }
+    ensures now { pacer.new.state.now ≡ pacer.old.state.now }
+    ensures options { pacer.new.options ≡ pacer.old.options }
+{
+    let RepairOrigin::Server(server) = origin else {
+        return;
+    };
+    pacer.respond(server, came);
+}
+
+/// Reports to the pacer what a datagram with these numbers brought. A request is no longer in flight if they were the
+/// last of its numbers that were missing.
+pub(crate) fn report(arbiter: &Arbiter, pacer: &mut Pacer, origin: RepairOrigin, came: Gap)
+    ensures learned { HasLearned pacer.old pacer.new (noted_from origin came arbiter.now.view pacer.old.state.now
+        pacer.old.flights.items) }
+    ensures now { pacer.new.state.now ≡ pacer.old.state.now }
+    ensures options { pacer.new.options ≡ pacer.old.options }
+{
+    if came.first >= came.end {
+        return;
+    }
+    let request = pacer.request_for(came.first);
+    report_response(pacer, origin, came);
+    report_from(arbiter, pacer, came.first);
+    report_filled(arbiter, pacer, request);
 }
 
 /// Returns whether a datagram with these numbers counts for the delays between the lines.

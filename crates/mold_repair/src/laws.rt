@@ -2,27 +2,38 @@
 //! `run::run` returns such a run.
 
 ghost use Rattle.std.specs.Prelude.{◌≡◌, ◌+◌, ◌-◌, ◌*◌, ◌<◌, ◌≤◌, ℕ, [], List, Option, IfSome, Some, false, length};
-ghost use Rattle.std.specs.Prelude.{max};
+ghost use Rattle.std.specs.Prelude.{◌∷◌, ◌⊎◌, Bool, max};
 ghost use Rattle.mold_pacing.specs.Attempts.{count_asks_for};
 ghost use Rattle.mold_pacing.specs.Deadline.{CanAsk};
 ghost use Rattle.mold_pacing.specs.State.{advanced};
 ghost use Rattle.mold_pacing.specs.declared.pacer.Pacer.{Pacer};
 ghost use Rattle.mold_receiver.specs.Batch.{Handed};
-ghost use Rattle.mold_receiver.specs.View.{View};
+ghost use Rattle.mold_receiver.specs.Honest.{IsHonest};
+ghost use Rattle.mold_receiver.specs.Store.{Message};
+ghost use Rattle.mold_receiver.specs.View.{IsWellFormed, View};
+ghost use Rattle.mold_receiver.specs.Wanted.{missing};
+ghost use Rattle.mold_repair.specs.CatchUp.{RanOutOfMemory, TakesFirst, count_deliveries, missing_below};
+ghost use Rattle.mold_repair.specs.Frugal.{IsFrugalRun};
 ghost use Rattle.mold_repair.specs.GivingUp.{is_due};
 ghost use Rattle.mold_repair.specs.Laws.{AreInOrder, HasNumbers, IsPaced, RequestsFirst, requests_of};
 ghost use Rattle.mold_repair.specs.Missing.{IsWanted};
+ghost use Rattle.mold_repair.specs.Needed.{AreNeeded};
 ghost use Rattle.mold_repair.specs.Options.{tolerance};
 ghost use Rattle.mold_repair.specs.Polls.{HasPolled};
 ghost use Rattle.mold_repair.specs.Run.{HasLostSome, IsRepaired, IsStepOf};
+ghost use Rattle.mold_repair.specs.Safe.{AreHarmless, ArePieces, AreWithoutLoss, IsPiece, all_delivered};
 ghost use Rattle.mold_repair.specs.declared.ask.Ask.{Ask};
 ghost use Rattle.mold_repair.specs.declared.options.RepairOptions.{RepairOptions};
 ghost use Rattle.mold_repair.specs.declared.outcome.Outcome.{Outcome};
 ghost use Rattle.mold_repair.specs.declared.repairer.Repairer.{Repairer};
 ghost use Rattle.mold_repair.specs.declared.step.RepairStep.{RepairStep};
 
-use mold_pacing::laws::{apart_law, attempts_law, limit_law};
-use mold_receiver::laws::taken_law;
+use mold_pacing::laws::{apart_law, attempts_law, frugal_law as pacer_frugal_law, limit_law};
+use mold_receiver::laws::{
+    having_law, honest_skip_law, honest_take_law, missing_law, nothing_new_law, taken_law,
+    through_law, well_formed_law,
+};
+use mold_wire::laws::reading_law;
 
 /// Each message is delivered once, or given up once, or neither yet. The numbers of what the steps of a run delivered
 /// and gave up follow each other, from the old `next` to just below the new one, without a number left out or repeated.
@@ -36,6 +47,64 @@ pub fn order_law()
     taken_law();
 }
 
+/// What is delivered is what was published. Each datagram of the run is true of the session, or does not encode a
+/// packet of it, and the receiver is honest at the start: it knows nothing false. Then each step delivers the published
+/// messages with its numbers, and the receiver stays honest. From one loss to the next, all that is delivered is one
+/// consecutive piece of the published messages: only the first step of such a part may have given up messages.
+pub fn safe_law()
+    ensures pieces { (old new : Repairer) (steps : List RepairStep) (outcomes : List Outcome)
+        (ran : IsRepaired old new steps outcomes) (published : List Message) (closed : Bool) →
+        IsHonest old.arbiter.view published closed →
+        AreHarmless old.arbiter.view.session published closed steps →
+        ArePieces published old new steps outcomes ran }
+    ensures honest { (old new : Repairer) (steps : List RepairStep) (outcomes : List Outcome)
+        (ran : IsRepaired old new steps outcomes) (published : List Message) (closed : Bool) →
+        IsHonest old.arbiter.view published closed →
+        AreHarmless old.arbiter.view.session published closed steps → IsHonest new.arbiter.view published closed }
+    ensures piece { (old new : Repairer) (step : RepairStep) (steps : List RepairStep) (outcome : Outcome)
+        (outcomes : List Outcome) (ran : IsRepaired old new (step ∷ steps) (outcome ∷ outcomes))
+        (published : List Message) (closed : Bool) → IsHonest old.arbiter.view published closed →
+        AreHarmless old.arbiter.view.session published closed (step ∷ steps) → AreWithoutLoss outcomes →
+        IsPiece published outcome.delivered.first new.arbiter.view.next
+        (all_delivered old new (step ∷ steps) (outcome ∷ outcomes) ran) }
+{
+    honest_skip_law();
+    honest_take_law();
+    reading_law();
+    taken_law();
+}
+
+/// Catching up takes no more deliveries than messages are missing. `limit` is any number, as `known` at the start.
+///
+/// - A true datagram that has the first missing message is accepted, and delivers it, unless an allocation fails.
+///   `stuck_law` states when this message is requested.
+/// - In a run, each step that delivers messages from a number below `limit` on leaves at least one message less missing
+///   below it. No other step leaves more of them missing.
+/// - After as many such steps as messages below `limit` were missing, all messages below it were delivered or given up.
+pub fn catch_up_law()
+    ensures response { (old new : Repairer) (step : RepairStep) (outcome : Outcome)
+        (is : IsStepOf old new step outcome) (published : List Message) (closed : Bool) (limit : ℕ) →
+        IsHonest old.arbiter.view published closed → TakesFirst old.arbiter.view published closed step →
+        old.arbiter.view.next < limit →
+        (count_deliveries limit (outcome ∷ []) ≡ 1) ⊎ RanOutOfMemory old new step outcome is }
+    ensures fewer { (old new : Repairer) (steps : List RepairStep) (outcomes : List Outcome) (limit : ℕ) →
+        IsRepaired old new steps outcomes → IsWellFormed old.arbiter.view →
+        count_deliveries limit outcomes + missing_below new.arbiter.view limit
+        ≤ missing_below old.arbiter.view limit }
+    ensures done { (old new : Repairer) (steps : List RepairStep) (outcomes : List Outcome) (limit : ℕ) →
+        IsRepaired old new steps outcomes → IsWellFormed old.arbiter.view →
+        missing_below old.arbiter.view limit ≤ count_deliveries limit outcomes → limit ≤ new.arbiter.view.next }
+    ensures known { (v : View) → IsWellFormed v → missing_below v v.known ≡ missing v }
+{
+    having_law();
+    honest_take_law();
+    missing_law();
+    reading_law();
+    taken_law();
+    through_law();
+    well_formed_law();
+}
+
 /// Each run of a repairer is a run of its pacer, so the laws of `mold_pacing` hold of it. No number is requested twice
 /// within the timeout, unless a step freed the request for it.
 pub fn pacing_law()
@@ -44,6 +113,33 @@ pub fn pacing_law()
 {
     apart_law();
     taken_law();
+}
+
+/// Few requests are wasted, from a repairer without requests on. Those that did not run out, and are not in flight at
+/// the end, are at most the distinct numbers that came while a request for them was in flight. A request runs out when
+/// its timeout passes, or the settle time after a response.
+pub fn frugal_law()
+    ensures { (old new : Repairer) (steps : List RepairStep) (outcomes : List Outcome) →
+        IsRepaired old new steps outcomes → IsWellFormed old.arbiter.view → old.pacer.flights.items ≡ [] →
+        IsFrugalRun old new steps outcomes }
+{
+    pacer_frugal_law();
+    having_law();
+    taken_law();
+    well_formed_law();
+}
+
+/// No request stays in flight in vain: in a run that begins without requests, each request in flight asks for a message
+/// that is still missing. So a request is freed as soon as all its messages came, whichever datagrams brought them.
+pub fn needed_law()
+    ensures { (old new : Repairer) (steps : List RepairStep) (outcomes : List Outcome) →
+        IsRepaired old new steps outcomes → IsWellFormed old.arbiter.view → old.pacer.flights.items ≡ [] →
+        AreNeeded new }
+{
+    having_law();
+    nothing_new_law();
+    taken_law();
+    well_formed_law();
 }
 
 /// In each run, and so in each part of a run, the requests times the interval are at most the time that passed, the

@@ -107,7 +107,8 @@ impl Repairer {
 
     // Reports to the pacer what a datagram brought that was accepted.
     fn note(&mut self, origin: RepairOrigin, datagram: &[u8])
-        ensures noted { HasLearned self.old.pacer self.new.pacer (noted origin datagram.now self.old.arbiter.view) }
+        ensures noted { HasLearned self.old.pacer self.new.pacer (noted origin datagram.now self.old.arbiter.view
+            self.old.pacer.state.now self.old.pacer.flights.items) }
         ensures now { self.new.pacer.state.now ≡ self.old.pacer.state.now }
         ensures arbiter { self.new.arbiter ≡ self.old.arbiter }
         ensures options { self.new.options ≡ self.old.options }
@@ -115,23 +116,16 @@ impl Repairer {
         ensures delays { self.new.delays ≡ self.old.delays }
     {
         let receiver = self.arbiter.receiver();
-        let next = receiver.next();
-        let came = came_below(datagram, next, receiver.window());
-        if came.first >= came.end {
-            return;
-        }
-        report(&mut self.pacer, origin, came);
-        self.pacer.arrive(Gap {
-            first: 0,
-            end: next,
-        });
+        let came = came_below(datagram, receiver.next(), receiver.window());
+        report(&self.arbiter, &mut self.pacer, origin, came);
     }
 
     // Does the same if messages were missing before the datagram. Otherwise no request can be for its numbers.
     #[inline(always)]
     fn learn(&mut self, origin: RepairOrigin, datagram: &[u8], is_missing: bool)
         ensures learned { HasLearned self.old.pacer self.new.pacer
-            (if is_missing then noted origin datagram.now self.old.arbiter.view else []) }
+            (if is_missing then noted origin datagram.now self.old.arbiter.view self.old.pacer.state.now
+            self.old.pacer.flights.items else []) }
         ensures now { self.new.pacer.state.now ≡ self.old.pacer.state.now }
         ensures arbiter { self.new.arbiter ≡ self.old.arbiter }
         ensures options { self.new.options ≡ self.old.options }
@@ -191,7 +185,7 @@ impl Repairer {
             datagram.now self.new.arbiter refused) }
         ensures batch { OnErr result (batch.new ≡ batch.old) }
         ensures learned { OnOk result (HasLearned self.old.pacer self.new.pacer (taken_steps self.old.options now origin
-            datagram.now self.old.arbiter.view self.new.arbiter.view self.new.delays)) }
+            datagram.now self.old.arbiter.view self.new.arbiter.view self.new.delays self.old.pacer)) }
         ensures timed { OnOk result (IsTimed self.old.options (max self.old.pacer.state.now now) origin
             (numbers (reading datagram.now)) self.old.delays self.new.delays) }
         ensures passed { OnErr result (HasPassed now self.old.arbiter.view self.old.pacer self.new.pacer) }

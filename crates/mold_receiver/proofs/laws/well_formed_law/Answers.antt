@@ -1,5 +1,9 @@
+use Rattle.mold_receiver.proofs.HonestSkipLemmas.{skips_well}
 use Rattle.mold_receiver.proofs.LawLemmas.{receives_well}
 use Rattle.mold_receiver.proofs.laws.well_formed_law.Goals as goal
 
-pub returns : goal.returns
-returns c = record { received = λ v bytes r well is. receives_well v bytes r well is }
+pub returns-clause-received : goal.returns-clause-received
+returns-clause-received c = receives_well
+
+pub returns-clause-skipped : goal.returns-clause-skipped
+returns-clause-skipped c = skips_well

@@ -1,7 +1,8 @@
-use Rattle.std.proofs.Common.{◌∙◌, ℕ, max, nat_lt, ap, subst, sym, Result, Ok, Err}
+use Rattle.std.proofs.Common.{◌∙◌, ℕ, List, [], cond, max, nat_lt, ap, subst, sym, Result, Ok, Err}
 use Rattle.std.specs.Prelude.{OnErr}
 use Rattle.mold_pacing.specs.declared.delays.Delays.{Delays}
 use Rattle.mold_pacing.specs.declared.state.PacerState.{PacerState}
+use Rattle.mold_pacing.specs.declared.step.Step.{Step}
 use Rattle.mold_receiver.specs.Arbiter.{Arbitration}
 use Rattle.mold_receiver.specs.View.{View}
 use Rattle.mold_repair.specs.Came.{noted, numbers}
@@ -36,14 +37,21 @@ returns-clause-learned c =
     let took = passed now c.known-known.result v old.pacer c.advance.new.self
     known c.advance.ensures.options c.advance.ensures.state c.advance.ensures.flights in
     let after = ap (λ (a : Arbitration). a.view) (c.adapt.ensures.arbiter ∙ c.learn.ensures.arbiter) in
-    let all = learned_all now (nat_lt c.next.result c.known-known.result) v (noted origin bytes c.take_from.new.self.view)
-    (adapted_from c.learn.new.self.options origin (numbers (reading bytes)) new.delays) old.pacer c.advance.new.self
-    c.learn.new.self.pacer new.pacer took (λ i. nat_lt (next i) (known i)) c.learn.ensures.learned
-    c.adapt.ensures.learned in
-    subst (λ (w : View). HasLearned old.pacer new.pacer (taken_steps old.options now origin bytes v w new.delays))
-    (sym after)
+    let between = c.advance.new.self in
+    let time = ap (λ (s : PacerState). s.now) c.advance.ensures.state ∙ advanced_now now c.known-known.result old.pacer.state in
+    let flights = c.advance.ensures.flights in
+    let taken = c.take_from.new.self.view in
+    let learned = subst (λ (steps : List Step). HasLearned between c.learn.new.self.pacer
+    (cond (nat_lt c.next.result c.known-known.result) steps []))
+    (λ i. noted origin bytes taken (time i) (flights i)) c.learn.ensures.learned in
+    let all = learned_all now (nat_lt c.next.result c.known-known.result) v
+    (noted origin bytes taken (max old.pacer.state.now now) old.pacer.flights.items)
+    (adapted_from c.learn.new.self.options origin (numbers (reading bytes)) new.delays) old.pacer between
+    c.learn.new.self.pacer new.pacer took (λ i. nat_lt (next i) (known i)) learned c.adapt.ensures.learned in
+    subst (λ (w : View). HasLearned old.pacer new.pacer
+    (taken_steps old.options now origin bytes v w new.delays old.pacer)) (sym after)
     (subst (λ (o : RepairOptions). HasLearned old.pacer new.pacer
-    (taken_steps o now origin bytes v c.take_from.new.self.view new.delays)) c.learn.ensures.options all)
+    (taken_steps o now origin bytes v taken new.delays old.pacer)) c.learn.ensures.options all)
 
 pub returns-clause-timed : goal.returns-clause-timed
 returns-clause-timed c =
