@@ -1,7 +1,7 @@
 //! A list of messages in a buffer whose bytes are copied in larger pieces.
 
 ghost use Rattle.std.specs.Prelude.{◌≡◌, ◌+◌, ◌-◌, ◌<◌, ◌≤◌, ◌^◌, ◌++◌, ◌∷◌, [], length, take, drop, slice_get, IfOk};
-ghost use Rattle.std.specs.Prelude.{min, replicate, OnOk, OnErr, ◌==◌, if◌then◌else◌};
+ghost use Rattle.std.specs.Prelude.{replicate, OnOk, OnErr, ◌==◌};
 ghost use Rattle.std.specs.Option.{option_copied};
 
 use crate::iterator::MessageIterator;
@@ -13,24 +13,6 @@ use std::marker::Model;
 /// The number of bytes before each message of a `PartList` that belong to no message.
 pub const SPACING: usize = 2;
 
-// Room that a list lacked: a number of messages, and a number of bytes.
-#[derive(Clone, Copy, Debug)]
-struct Room {
-    messages: usize,
-    bytes: usize,
-}
-
-// Returns how much one more than `room` is beyond `used`, or 0 if nothing is lacking.
-fn room_beyond(is_lacking: bool, room: usize, used: usize) -> usize
-    ensures { result ≡ (if is_lacking then min (room + 1) (2 ^ 64 - 1) - used else 0) }
-{
-    if is_lacking {
-        room.saturating_add(1).saturating_sub(used)
-    } else {
-        0
-    }
-}
-
 /// Messages of any lengths as parts of one buffer, in order, with `SPACING` other bytes before each of them. The bytes
 /// of many messages are copied at once, and each message is then marked where it ends. A message takes its bytes and 10
 /// more: the bytes before it, and 8 for the offset at which it ends. The list keeps its memory until it is dropped.
@@ -39,8 +21,6 @@ pub struct PartList {
     // The offset at which each message ends in the bytes.
     ends: Vec<usize>,
     bytes: Vec<u8>,
-    // The room that was lacking when `take_back` was last called.
-    lacking: Room,
 }
 
 impl Model for PartList {
@@ -62,10 +42,6 @@ impl PartList {
         PartList {
             ends: Vec::new(alloc),
             bytes: Vec::new(alloc),
-            lacking: Room {
-                messages: 0,
-                bytes: 0,
-            },
         }
     }
 
@@ -183,28 +159,20 @@ impl PartList {
         self.cut();
     }
 
-    /// Discards messages as `truncate` does, after a call that failed for memory. The list remembers a lower bound of
-    /// the room that was lacking, and `make_room` makes that much room.
-    pub fn take_back(&mut self, keep: usize)
-        ensures messages { self.new.messages ≡ take keep self.old.messages }
-        ensures bytes { self.new.bytes ≡ take self.new.end self.old.bytes }
-        ensures whole { self.new.end ≡ length self.new.bytes }
-    {
-        let is_full = self.ends.len() == self.ends.capacity();
-        self.truncate(keep);
-        self.lacking = Room {
-            messages: room_beyond(is_full, self.ends.capacity(), self.ends.len()),
-            bytes: room_beyond(!is_full, self.bytes.capacity(), self.bytes.len()),
-        };
+    /// Returns whether there is room for this many more messages, which have this many bytes together with those before
+    /// them.
+    pub fn has_room(&self, messages: usize, bytes: usize) -> bool {
+        self.ends.capacity().saturating_sub(self.ends.len()) >= messages
+            && self.bytes.capacity().saturating_sub(self.bytes.len()) >= bytes
     }
 
-    /// Makes the room that was lacking when `take_back` was last called. It fails if an allocation fails. The messages
-    /// and bytes are unchanged.
-    pub fn make_room(&mut self) -> Result<(), AllocError>
+    /// Makes room for this many more messages, which have this many bytes together with those before them. It fails if
+    /// an allocation fails. The messages and bytes are unchanged.
+    pub fn reserve(&mut self, messages: usize, bytes: usize) -> Result<(), AllocError>
         ensures { self.new ≡ self.old }
     {
-        self.ends.reserve(self.lacking.messages)?;
-        self.bytes.reserve(self.lacking.bytes)
+        self.ends.reserve(messages)?;
+        self.bytes.reserve(bytes)
     }
 
     /// Removes all messages and bytes and keeps the allocated room.

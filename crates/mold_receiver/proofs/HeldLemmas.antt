@@ -1,29 +1,31 @@
--- Each segment but one has a stored message, so the stored messages bound the segments.
-use Rattle.std.proofs.Common.{◌≡◌, ℕ, zero, suc, ◌+◌, ◌<◌, ◌≤◌, Bool, cond, List, [], ◌∷◌, length}
-use Rattle.std.proofs.Common.{refl, sym, ap, subst, ◌∙◌, inl, inr, arith}
+-- Each segment has a stored message, so the stored messages bound the segments.
+use Rattle.std.proofs.Common.{◌≡◌, ℕ, zero, suc, ◌+◌, ◌<◌, ◌≤◌, Bool, cond, List, [], ◌∷◌, length, length-take}
+use Rattle.std.proofs.Common.{refl, sym, ap, subst, inl, inr, arith}
 use Rattle.std.specs.Prelude.{Option, None, Some, slice_index_or}
 use Rattle.std.proofs.lemmas.Bool.{cases_eq, eq-eqb, ne_eqb}
 use Rattle.slab.proofs.SlabLemmas.{length-entries}
-use Rattle.slab.specs.Slab.{entries_from, slab_len}
+use Rattle.slab.specs.Slab.{entries_from, get, slab_len}
 use Rattle.mold_receiver.specs.declared.place.Place.{Place}
 use Rattle.mold_receiver.specs.declared.segment.Segment.{Segment}
 use Rattle.mold_receiver.specs.declared.segments.Segments.{Segments}
 use Rattle.mold_receiver.specs.declared.shelf.Shelf.{Shelf}
 use Rattle.mold_receiver.specs.Places.{count_in}
-use Rattle.mold_receiver.specs.Segments.{live_of, one_at}
+use Rattle.mold_receiver.specs.Segments.{bytes_of, one_at}
 use Rattle.mold_receiver.specs.Shelf.{IsKept, slots_in, slots_on}
 use Rattle.mold_receiver.specs.Slots.{count_held}
+use Rattle.mold_receiver.specs.Tight.{IsTight}
+use Rattle.mold_receiver.proofs.TightLemmas.{count_nonzero}
 
 -- The sum of a function over `count` keys from `at` on.
-abbrev sum_from : (ℕ → ℕ) → ℕ → ℕ → ℕ
+abbrev pub sum_from : (ℕ → ℕ) → ℕ → ℕ → ℕ
 sum_from f at zero = 0
 sum_from f at (suc count) = f at + sum_from f (at + 1) count
 
-sum_zero : (at count : ℕ) → sum_from (λ _. 0) at count ≡ 0
+pub sum_zero : (at count : ℕ) → sum_from (λ _. 0) at count ≡ 0
 sum_zero at zero = refl
 sum_zero at (suc count) = omega (arith, sum_zero (at + 1) count)
 
-sum_both : (f g : ℕ → ℕ) (at count : ℕ) →
+pub sum_both : (f g : ℕ → ℕ) (at count : ℕ) →
     sum_from (λ key. f key + g key) at count ≡ sum_from f at count + sum_from g at count
 sum_both f g at zero = refl
 sum_both f g at (suc count) = omega (arith, sum_both f g (at + 1) count)
@@ -66,15 +68,6 @@ sum_places segments (Some place ∷ places) at count =
       sum_places segments places at count,
     )
 
--- The current segment counts once.
-abbrev current_at : Option ℕ → ℕ → ℕ
-current_at None key = 0
-current_at (Some current) key = one_at current key
-
-sum_current : (current : Option ℕ) (at count : ℕ) → sum_from (current_at current) at count ≤ 1
-sum_current None at count = omega (arith, sum_zero at count)
-sum_current (Some key) at count = sum_one key at count
-
 some_counts : (f : ℕ → ℕ) (at : ℕ) (slots : List (Option Segment))
     → ((i : ℕ) (segment : Segment) → slice_index_or slots i None ≡ Some segment → 0 < f (at + i))
     → length (entries_from at slots) ≤ sum_from f at (length slots)
@@ -96,30 +89,34 @@ some_counts f at (Some segment ∷ slots) each =
           subst (λ (n : ℕ). 0 < f n) next (each (suc i) s is)),
     )
 
-current_is : (current : Option ℕ) (key : ℕ) → current ≡ Some key → current_at current key ≡ 1
-current_is current key is = ap (λ (o : Option ℕ). current_at o key) is ∙ one_is key
+-- Each segment has a stored message.
+held_there : (shelf : Shelf) (key : ℕ) (segment : Segment) → IsKept shelf → IsTight shelf →
+    get shelf.segments.table key ≡ Some segment → 0 < count_in key shelf.ring
+held_there shelf key segment kept tight is =
+    let some = kept.segments.each key segment is in
+    count_nonzero shelf.segments shelf.ring key (omega (
+      arith,
+      tight.exact key,
+      ap (λ (o : Option Segment). length (bytes_of o)) is,
+      length-take segment.used segment.bytes.items,
+      some.some,
+      some.used,
+    ))
 
--- The table has at most one segment more than there are stored messages.
-pub segments_few : (shelf : Shelf) → IsKept shelf →
-    slab_len shelf.segments.table ≤ count_held (slots_on shelf) + 1
-segments_few shelf kept =
+-- There are at most as many segments as stored messages.
+pub segments_few : (shelf : Shelf) → IsKept shelf → IsTight shelf →
+    slab_len shelf.segments.table ≤ count_held (slots_on shelf)
+segments_few shelf kept tight =
     let table = shelf.segments.table in
-    let current = shelf.segments.current in
     let places = shelf.ring in
-    let f : ℕ → ℕ = λ key. count_in key places + current_at current key in
+    let f : ℕ → ℕ = λ key. count_in key places in
     let each : (i : ℕ) (segment : Segment) → slice_index_or table.slots i None ≡ Some segment → 0 < f (0 + i) =
     λ i segment is.
     let key : 0 + i ≡ i = omega arith in
-    subst (λ (n : ℕ). 0 < f n) (sym key)
-    (elim (kept.segments.held i segment is) [
-      | inl some ↦ omega (arith, some, kept.live i, ap live_of is)
-      | inr at ↦ omega (arith, current_is current i at)
-    ]) in
+    subst (λ (n : ℕ). 0 < f n) (sym key) (held_there shelf i segment kept tight is) in
     omega (
       arith,
       length-entries table,
       some_counts f 0 table.slots each,
-      sum_both (λ key. count_in key places) (current_at current) 0 (length table.slots),
       sum_places shelf.segments places 0 (length table.slots),
-      sum_current current 0 (length table.slots),
     )

@@ -1,13 +1,13 @@
 -- Messages that are put into empty slots.
 use Rattle.std.proofs.Common.{◌≡◌, ℕ, suc, ◌+◌, ◌<◌, Bool, true, false, cond, ltb, leb, ◌&&◌, List, [], ◌∷◌}
 use Rattle.std.proofs.Common.{length, slice_set, refl, sym, ap, subst, ◌∙◌, inl, inr, arith, zero, ◌-◌}
-use Rattle.std.specs.Prelude.{Option, None, Some, is_some, is_none, slice_get}
+use Rattle.std.specs.Prelude.{Option, None, Some, is_some, is_none, map, slice_get}
 use Rattle.std.specs.Option.{option_or}
 use Rattle.std.proofs.lemmas.Bool.{cases_Bool, cases_eq, cases_order, cond-true, cond-false, ltb-true, eq-eqb}
 use Rattle.std.proofs.lemmas.Bool.{ne_eqb, le-leb, lt-leb, lt-ltb, le-ltb, and_parts, cases_lt}
-use Rattle.std.proofs.lemmas.List.{length-set}
+use Rattle.std.proofs.lemmas.List.{length-map, length-set}
 use Rattle.mold_wire.specs.Truth.{message_at}
-use Rattle.mold_receiver.specs.Keeping.{is_fresh, fresh, put_fresh, filled}
+use Rattle.mold_receiver.specs.Keeping.{is_fresh, fresh, fresh_messages, put_fresh, filled}
 use Rattle.mold_receiver.specs.Slots.{Slot, slot_at}
 use Rattle.mold_receiver.specs.Store.{Message}
 use Rattle.mold_receiver.proofs.SlotLemmas.{slot_put}
@@ -49,7 +49,7 @@ some_or : (o p : Option Message) → is_none o ≡ false → option_or o p ≡ o
 some_or None p some = absurd (cc some)
 some_or (Some m) p some = refl
 
-none_is : (o : Option Message) → is_none o ≡ true → o ≡ None
+pub none_is : (o : Option Message) → is_none o ≡ true → o ≡ None
 none_is None none = refl
 none_is (Some m) none = absurd (cc none)
 
@@ -170,6 +170,27 @@ count_fresh slots first m ms =
 pub fresh_later : (slots : List Slot) (first : ℕ) (m : Message) (ms : List Message) → is_fresh slots first ≡ false →
     fresh slots first (m ∷ ms) ≡ fresh slots (suc first) ms
 fresh_later slots first m ms taken = cond-false _ _ _ taken
+
+-- The messages to put, without their slots.
+pub messages_yes : (slots : List Slot) (first : ℕ) (m : Message) (ms : List Message) → is_fresh slots first ≡ true →
+    fresh_messages slots first (m ∷ ms) ≡ m ∷ fresh_messages slots (suc first) ms
+messages_yes slots first m ms free =
+    ap (λ (t : List (ℕ × Message)). map (λ pair. pair.1) t)
+    (cond-true (is_fresh slots first) ((first, m) ∷ fresh slots (suc first) ms) (fresh slots (suc first) ms) free)
+
+pub messages_no : (slots : List Slot) (first : ℕ) (m : Message) (ms : List Message) → is_fresh slots first ≡ false →
+    fresh_messages slots first (m ∷ ms) ≡ fresh_messages slots (suc first) ms
+messages_no slots first m ms taken =
+    ap (λ (t : List (ℕ × Message)). map (λ pair. pair.1) t) (fresh_later slots first m ms taken)
+
+pub messages_behind : (slots : List Slot) (i : ℕ) (m : Message) (first : ℕ) (ms : List Message) → i < first →
+    fresh_messages (put_fresh slots i m) first ms ≡ fresh_messages slots first ms
+messages_behind slots i m first ms below =
+    ap (λ (t : List (ℕ × Message)). map (λ pair. pair.1) t) (fresh_behind slots i m first ms below)
+
+pub length-messages : (slots : List Slot) (first : ℕ) (ms : List Message) →
+    length (fresh_messages slots first ms) ≡ length (fresh slots first ms)
+length-messages slots first ms = length-map (fresh slots first ms) (λ pair. pair.1)
 
 pub fresh_some : (slots : List Slot) (first : ℕ) (m : Message) (ms : List Message) → is_fresh slots first ≡ true →
     0 < length (fresh slots first (m ∷ ms))

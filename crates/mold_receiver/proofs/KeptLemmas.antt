@@ -1,7 +1,7 @@
 -- The fields of a shelf stay consistent.
-use Rattle.std.proofs.Common.{◌≡◌, ℕ, ◌+◌, ◌-◌, ◌<◌, ◌≤◌, Bool, true, false, cond, ltb, List, [], ◌∷◌, ◌++◌, length, drop}
+use Rattle.std.proofs.Common.{◌≡◌, ℕ, ◌+◌, ◌<◌, ◌≤◌, Bool, true, false, ltb, List, [], length}
 use Rattle.std.proofs.Common.{slice_set, replicate, refl, sym, ap, subst, ◌∙◌, arith}
-use Rattle.std.specs.Prelude.{Option, None, Some, is_some, is_none}
+use Rattle.std.specs.Prelude.{Option, None, Some, is_none}
 use Rattle.std.specs.Option.{option_map}
 use Rattle.std.proofs.lemmas.Bool.{and_parts, ltb-true}
 use Rattle.std.proofs.lemmas.List.{append-nil, map-set, length-map}
@@ -9,15 +9,15 @@ use Rattle.mold_receiver.specs.declared.place.Place.{Place}
 use Rattle.mold_receiver.specs.declared.segments.Segments.{Segments}
 use Rattle.mold_receiver.specs.declared.shelf.Shelf.{Shelf}
 use Rattle.mold_receiver.specs.Keeping.{is_fresh}
-use Rattle.mold_receiver.specs.Places.{IsBlockAt, count_in, place_at}
-use Rattle.mold_receiver.specs.Segments.{AreMore, AreSegments, HasGained, HasLost, bytes_at, live_at, one_at}
+use Rattle.mold_receiver.specs.Places.{IsBlockAt, count_in}
+use Rattle.mold_receiver.specs.Segments.{AreSegments, HasGained, bytes_at, live_at, one_at}
 use Rattle.mold_receiver.specs.Shelf.{AreBlocksAt, IsKept, message_on, slots_in, slots_on}
-use Rattle.mold_receiver.specs.Slots.{AreSlots, Slot, count_held, slot_at}
+use Rattle.mold_receiver.specs.Slots.{AreSlots, Slot, slot_at}
 use Rattle.mold_receiver.specs.Store.{Message}
-use Rattle.mold_receiver.proofs.ShelfLemmas.{HasOld, count_moved_none, count_moved_some, count_none, count_put, count_some}
-use Rattle.mold_receiver.proofs.ShelfLemmas.{no_place, slot_in, slots_more, within_more, within_moved, within_put}
-use Rattle.mold_receiver.proofs.SlotLemmas.{are_empty, are_moved, are_put, empty_view, moved_view}
-use Rattle.mold_receiver.proofs.StoreLemmas.{none_some}
+use Rattle.mold_receiver.proofs.ShelfLemmas.{HasOld, count_none, count_put, count_some}
+use Rattle.mold_receiver.proofs.ShelfLemmas.{no_place, slots_more, within_more, within_put}
+use Rattle.mold_receiver.proofs.SlotLemmas.{are_empty, are_put, empty_view}
+use Rattle.mold_receiver.proofs.SegmentLemmas.{AreMore}
 
 -- The places of a shelf.
 abbrev pub places_on : Shelf → List (Option Place)
@@ -26,8 +26,7 @@ places_on shelf = shelf.ring
 -- Segments with a stored message keep their bytes, and blocks may be appended to them.
 has_more : (old : Shelf) (new : Segments) → IsKept old → AreMore old.segments new →
     HasOld old.segments new (places_on old)
-has_more old new kept more = λ i place is.
-    more.bytes place.segment (omega (arith, kept.live place.segment, count_some (places_on old) i place is))
+has_more old new kept more = λ i place is. more.bytes place.segment
 
 pub more_on : (old : Shelf) (new : Segments) → IsKept old → AreMore old.segments new →
     slots_in new (places_on old) ≡ slots_on old
@@ -109,116 +108,6 @@ kept_put old ring segments slot place occupied kept is are gained free block fla
           (no_place old.segments (places_on old) slot empty))
           ∙ ap (count_in key) (sym is);
     }
-
--- The slots move by one.
-moved_on : (old : Shelf) (segments : Segments) (places : List (Option Place)) →
-    places ≡ drop 1 (places_on old) ++ None ∷ [] → AreBlocksAt old.segments places →
-    HasOld old.segments segments places → slots_in segments places ≡ drop 1 (slots_on old) ++ None ∷ []
-moved_on old segments places is within has =
-    slots_more old.segments segments places within has
-    ∙ ap (slots_in old.segments) is
-    ∙ moved_view (message_on old.segments) (places_on old)
-
--- The state after the slots moved by one.
-pub record HasMoved (old : Shelf) (ring : List (Option Place)) (segments : Segments) : Type 0 where
-  pub moved : ring ≡ drop 1 (places_on old) ++ None ∷ []
-  pub whole : AreSegments segments
-  pub has : HasOld old.segments segments ring
-  pub live : (key : ℕ) → live_at segments key ≡ count_in key ring
-
-within_after : (old : Shelf) (ring : List (Option Place)) (segments : Segments) → IsKept old → HasMoved old ring segments →
-    AreBlocksAt old.segments ring
-within_after old ring segments kept moved =
-    subst (λ (t : List (Option Place)). AreBlocksAt old.segments t) (sym moved.moved)
-    (within_moved old.segments (places_on old) kept.within)
-
-pub moved_slots : (old : Shelf) (ring : List (Option Place)) (segments : Segments) → IsKept old → HasMoved old ring segments →
-    slots_in segments ring ≡ drop 1 (slots_on old) ++ None ∷ []
-moved_slots old ring segments kept moved =
-    moved_on old segments ring moved.moved (within_after old ring segments kept moved) moved.has
-
-pub kept_moved : (old : Shelf) (ring : List (Option Place)) (segments : Segments) (held : ℕ) (occupied : List Bool) → IsKept old →
-    HasMoved old ring segments → held ≡ old.held - cond (is_some (slot_at (slots_on old) 0)) 1 0 →
-    occupied ≡ drop 1 old.occupied ++ false ∷ [] →
-    IsKept (record { ring = ring; occupied = occupied; segments = segments; held = held })
-kept_moved old ring segments held occupied kept moved counted flags =
-    let slots = slots_on old in
-    record {
-      slots = rw (moved_slots old ring segments kept moved, counted, flags)
-          (are_moved slots old.held old.occupied kept.slots);
-      segments = moved.whole;
-      within = within_more old.segments segments ring (within_after old ring segments kept moved)
-          moved.has;
-      live = moved.live;
-    }
-
--- The first slot was empty.
-pub moved_none : (old : Shelf) (ring : List (Option Place)) → IsKept old →
-    ring ≡ drop 1 (places_on old) ++ None ∷ []
-    → place_at (places_on old) 0 ≡ None → HasMoved old ring old.segments
-moved_none old ring kept is first = record {
-  moved = is;
-  whole = kept.segments;
-  has = has_same old.segments old.segments ring (λ key. refl);
-  live = λ key. kept.live key ∙ sym (count_moved_none (places_on old) key first) ∙ ap (count_in key) (sym is);
-}
-
-pub count_after_none : (old : Shelf) → place_at (places_on old) 0 ≡ None →
-    old.held ≡ old.held - cond (is_some (slot_at (slots_on old) 0)) 1 0
-count_after_none old first =
-    let none : slot_at (slots_on old) 0 ≡ None =
-    slot_in old.segments (places_on old) 0 ∙ ap (option_map (message_on old.segments)) first in
-    let same : old.held ≡ old.held - 0 = omega arith in
-    same ∙ ap (λ (o : Option Message). old.held - cond (is_some o) 1 0) (sym none)
-
--- The first slot had a message.
-pub moved_some : (old : Shelf) (ring : List (Option Place)) (segments : Segments) (place : Place) → IsKept old →
-    ring ≡ drop 1 (places_on old) ++ None ∷ []
-    → place_at (places_on old) 0 ≡ Some place → AreSegments segments
-    → HasLost old.segments segments place.segment 1 → HasMoved old ring segments
-moved_some old ring segments place kept is first are lost =
-    let live : (key : ℕ) → live_at segments key ≡ count_in key ring = λ key.
-    lost.live key
-    ∙ ap (λ (n : ℕ). n - one_at place.segment key) (kept.live key)
-    ∙ sym (count_moved_some (places_on old) place key first)
-    ∙ ap (count_in key) (sym is) in
-    record {
-      moved = is;
-      whole = are;
-      has = λ i p at. (
-        [],
-        lost.bytes p.segment (omega (arith, live p.segment, count_some ring i p at))
-            ∙ sym (append-nil (bytes_at old.segments p.segment)),
-      );
-      live = live;
-    }
-
-some_first : (old : Shelf) (place : Place) → place_at (places_on old) 0 ≡ Some place →
-    slot_at (slots_on old) 0 ≡ Some (message_on old.segments place)
-some_first old place first =
-    slot_in old.segments (places_on old) 0 ∙ ap (option_map (message_on old.segments)) first
-
-pub count_after_some : (old : Shelf) (place : Place) → place_at (places_on old) 0 ≡ Some place →
-    old.held - 1 ≡ old.held - cond (is_some (slot_at (slots_on old) 0)) 1 0
-count_after_some old place first =
-    ap (λ (o : Option Message). old.held - cond (is_some o) 1 0) (sym (some_first old place first))
-
-count_first : (slots : List Slot) (m : Message) → slot_at slots 0 ≡ Some m → 0 < count_held slots
-count_first [] m is = absurd (none_some is)
-count_first (None ∷ slots) m is = absurd (none_some is)
-count_first (Some x ∷ slots) m is = omega arith
-
--- Facts about the first slot's message.
-pub first_held : (old : Shelf) (place : Place) → IsKept old → place_at (places_on old) 0 ≡ Some place →
-    (0 < old.held) × (0 < live_at old.segments place.segment)
-first_held old place kept first = (
-  omega (
-    arith,
-    kept.slots.counted,
-    count_first (slots_on old) (message_on old.segments place) (some_first old place first),
-  ),
-  omega (arith, kept.live place.segment, count_some (places_on old) 0 place first),
-)
 
 -- All slots are empty, and no segment has a message.
 pub new_on : (ring : List (Option Place)) (segments : Segments) (window : ℕ) →

@@ -26,7 +26,9 @@ pub mod MarkLemmas
 pub mod ShelfLemmas
 pub mod SegmentLemmas
 pub mod KeptLemmas
+pub mod TightLemmas
 pub mod HeldLemmas
+pub mod SizeLemmas
 pub mod ReleaseLemmas
 pub mod PlacedLemmas
 pub mod SkipLemmas

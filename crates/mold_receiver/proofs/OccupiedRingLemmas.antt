@@ -1,5 +1,5 @@
 -- The ring of flags that the bits of words represent.
-use Rattle.std.proofs.Common.{◌≡◌, ℕ, ◌+◌, ◌-◌, ◌<◌, ◌≤◌, List, ◌++◌, length, drop, replicate}
+use Rattle.std.proofs.Common.{◌≡◌, ℕ, zero, suc, ◌+◌, ◌-◌, ◌<◌, ◌≤◌, List, [], ◌∷◌, ◌++◌, length, drop, replicate, refl}
 use Rattle.std.proofs.Common.{◌⊎◌, cond, take, set, subst, sym, ap, ◌∙◌, inl, inr, arith, Bool, true, false, eqb, min, true≢false, ◌↔◌}
 use Rattle.std.specs.Prelude.{IsTrue}
 use Rattle.std.proofs.lemmas.Bool.{cases_lt, eq-eqb, ne_eqb}
@@ -222,3 +222,11 @@ module _ (words : List ℕ) (head count from to : ℕ) (within : head < count) w
             λ is. absurd (true≢false (sym (subst IsTrue not is))),
             λ unset. tells.1 (subst (λ n. AreClear words start n) last (clear_first unset)),
           )
+
+-- One flag is a range of one.
+pub set_one : (flags : List Bool) (slot : ℕ) (to : Bool) → slot < length flags →
+    set flags slot to ≡ take slot flags ++ replicate 1 to ++ drop (suc slot) flags
+set_one [] slot to there = absurd (omega (arith, there))
+set_one (f ∷ flags) zero to there = refl
+set_one (f ∷ flags) (suc slot) to there =
+    ap (λ (t : List Bool). f ∷ t) (set_one flags slot to (omega (arith, there)))

@@ -6,9 +6,10 @@ use Rattle.std.proofs.lemmas.Bool.{cases_eq, eq-eqb, ne_eqb}
 use Rattle.mold_receiver.specs.declared.place.Place.{Place}
 use Rattle.mold_receiver.specs.declared.segments.Segments.{Segments}
 use Rattle.mold_receiver.specs.Places.{count_in, place_at}
-use Rattle.mold_receiver.specs.Segments.{HasLost, bytes_at, count_at, live_at, one_at}
+use Rattle.mold_receiver.specs.Segments.{HasLost, StaysOrGoes, count_at, live_at, one_at}
 use Rattle.mold_receiver.specs.Shelf.{slots_in}
 use Rattle.mold_receiver.specs.Slots.{count_held}
+use Rattle.mold_receiver.proofs.SegmentLemmas.{stays_twice}
 use Rattle.mold_receiver.proofs.StoreLemmas.{none_some}
 
 -- Counts of the first places.
@@ -80,7 +81,7 @@ at_other key count at other = ap {B = ℕ} (λ (b : Bool). cond b count 0) (ne_e
 -- What is left to subtract, `pending` of the segment `key`, after the messages at some places have left.
 pub record IsReleasing (old now : Segments) (places : List (Option Place)) (key pending : ℕ) : Type 0 where
   pub live : (k : ℕ) → live_at now k + count_in k places ≡ live_at old k + count_at key pending k
-  pub bytes : (k : ℕ) → 0 < live_at now k → bytes_at now k ≡ bytes_at old k
+  pub bytes : (k : ℕ) → StaysOrGoes old now k
 
 pub pending_there : (old now : Segments) (ring : List (Option Place)) (n key pending : ℕ) →
     ((k : ℕ) → count_in k ring ≤ live_at old k) → IsReleasing old now (take n ring) key pending →
@@ -102,7 +103,7 @@ flushed old now after places key pending next is there lost = record {
             omega (arith, lost.live k, is.live k, all, here, none next k)
         | inr other ↦ omega (arith, lost.live k, is.live k, at_other key pending k other, none next k)
       ];
-  bytes = λ k some. lost.bytes k some ∙ is.bytes k (omega (arith, some, lost.live k));
+  bytes = λ k. stays_twice old now after k (is.bytes k) (lost.bytes k) (omega (arith, lost.live k));
 }
   where
     none : (next k : ℕ) → count_at next 0 k ≡ 0

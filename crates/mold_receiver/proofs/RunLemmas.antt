@@ -1,14 +1,15 @@
 -- Runs of stored messages.
 use Rattle.std.proofs.Common.{◌≡◌, ℕ, zero, suc, ◌+◌, ◌-◌, ◌<◌, ◌≤◌, List, [], ◌∷◌, ◌++◌, length, length-append, take, drop}
-use Rattle.std.proofs.Common.{append_assoc, refl, sym, ap, subst, ◌∙◌, arith, add-one}
-use Rattle.std.specs.Prelude.{Some, slice_get}
+use Rattle.std.proofs.Common.{append_assoc, inl, inr, refl, sym, ap, subst, ◌∙◌, arith, add-one}
+use Rattle.std.specs.Prelude.{Option, None, Some, min, slice_get}
 use Rattle.std.proofs.lemmas.List.{drop-drop, drop-take, length-drop, length-take}
 use Rattle.byteorder.specs.Endian.{big_number}
 use Rattle.mold_receiver.specs.Batch.{Handed, followed_by}
 use Rattle.mold_receiver.specs.Handing.{run_in}
 use Rattle.mold_receiver.specs.Places.{end_from, length_at, message_in, messages_from}
 use Rattle.mold_receiver.specs.Slots.{Slot, slot_at}
-use Rattle.mold_receiver.specs.Store.{Message}
+use Rattle.std.proofs.lemmas.Bool.{cases_lt}
+use Rattle.mold_receiver.specs.Store.{Message, behind_some, run_from}
 use Rattle.mold_receiver.proofs.BatchLemmas.{IsHanding, followed_twice, run_more}
 use Rattle.mold_receiver.proofs.StoreLemmas.{none_some}
 
@@ -200,3 +201,37 @@ module _ (bytes span : List ℕ) (start end count : ℕ) (ends : end ≡ end_fro
             ∙ ap (λ (t : List Message). slice_get t i) (sym span_messages)
             ∙ at,
       )
+
+-- The slot after a run is empty. Slots that don't exist are empty.
+slot_past : (slots : List Slot) (at : ℕ) → length slots ≤ at → slot_at slots at ≡ None
+slot_past [] at past = refl
+slot_past (s ∷ slots) zero past = absurd (omega (arith, past))
+slot_past (s ∷ slots) (suc at) past = slot_past slots at (omega (arith, past))
+
+run_ends_from : (slots : List Slot) (most at : ℕ) → length slots ≤ at + most →
+    slot_at slots (at + length (run_from (slot_at slots) at most)) ≡ None
+unfolding run_from
+run_ends_from slots zero at past = slot_past slots (at + 0) (omega (arith, past))
+run_ends_from slots (suc most) at past =
+    go (slot_at slots at) refl (run_ends_from slots most (suc at) (omega (arith, past)))
+  where
+    rest : List Message
+    rest = run_from (slot_at slots) (suc at) most
+
+    go : (o : Option Message) → slot_at slots at ≡ o → slot_at slots (suc at + length rest) ≡ None →
+        slot_at slots (at + length (behind_some o rest)) ≡ None
+    go None is later = ap (λ (n : ℕ). slot_at slots n) (let e : at + 0 ≡ at = omega arith in e) ∙ is
+    go (Some m) is later =
+        ap (λ (n : ℕ). slot_at slots n) (let e : at + suc (length rest) ≡ suc at + length rest = omega arith in e)
+        ∙ later
+
+pub run_ends : (slots : List Slot) (at : ℕ) → slot_at slots (at + length (run_in slots at)) ≡ None
+run_ends slots at = run_ends_from slots (length slots - at) at (omega arith)
+
+-- The same for a slot that is at most the number of slots.
+pub ends_within : (slots : List Slot) (at : ℕ) → slot_at slots at ≡ None → slot_at slots (min at (length slots)) ≡ None
+ends_within slots at none =
+    elim (cases_lt at (length slots)) [
+      | inl low ↦ ap (λ (n : ℕ). slot_at slots n) (let e : min at (length slots) ≡ at = omega (arith, low) in e) ∙ none
+      | inr past ↦ slot_past slots (min at (length slots)) (omega (arith, past))
+    ]

@@ -1,15 +1,17 @@
 -- Segments after one of them changes.
-use Rattle.std.proofs.Common.{◌≡◌, ℕ, zero, suc, ◌+◌, ◌-◌, ◌<◌, ◌≤◌, ◌^◌, ◌⊎◌, Bool, cond, List, [], ◌∷◌, ◌++◌}
-use Rattle.std.proofs.Common.{length, length-append, max, append_assoc, refl, sym, ap, subst, ◌∙◌, inl, inr, arith}
+use Rattle.std.proofs.Common.{◌≡◌, ℕ, zero, suc, ◌+◌, ◌-◌, ◌<◌, ◌≤◌, ◌^◌, ◌⊎◌, Bool, true, false, cond, eqb, List, [], ◌∷◌, ◌++◌}
+use Rattle.std.proofs.Common.{length, length-append, length-take, drop, refl, sym, ap, subst, ◌∙◌, inl, inr, arith}
 use Rattle.std.proofs.Common.{Vec, Global}
-use Rattle.std.specs.Prelude.{Option, None, Some, slice_get, slice_index_or, vec_capacity}
+use Rattle.std.specs.Prelude.{Option, None, Some, Result, Ok, Err, IfOk, OnErr, slice_get, slice_index_or, vec_capacity}
 use Rattle.std.proofs.lemmas.Bool.{cases_eq, eq-eqb, ne_eqb}
-use Rattle.std.proofs.lemmas.List.{append-nil}
+use Rattle.std.proofs.lemmas.List.{append-nil, drop_at}
 use Rattle.slab.specs.Slab.{Slab, Updates, get}
 use Rattle.mold_receiver.specs.declared.segment.Segment.{Segment}
 use Rattle.mold_receiver.specs.declared.segments.Segments.{Segments}
-use Rattle.mold_receiver.specs.Segments.{AreMore, AreSegments, AreSpare, HasGained, HasLost, IsFilled, IsMemory, IsSegment}
-use Rattle.mold_receiver.specs.Segments.{bytes_at, bytes_of, count_at, live_at, live_of, used_bytes}
+use Rattle.mold_receiver.specs.declared.place.Place.{Place}
+use Rattle.mold_receiver.specs.Segments.{AreLeft, AreSegments, AreSpare, HasAppended, HasGained, HasLost, IsFilled, StaysOrGoes}
+use Rattle.mold_receiver.specs.Segments.{IsMemoryFor, IsSegment, bytes_at, bytes_of, count_at, live_at, live_of, more_at}
+use Rattle.mold_receiver.specs.Segments.{used_bytes}
 use Rattle.mold_receiver.proofs.StoreLemmas.{none_some}
 
 count_same : (key count : ℕ) → count_at key count key ≡ count
@@ -45,125 +47,162 @@ module _ (old new : Segments) (key : ℕ) (slot : Option Segment) (up : Updates 
             subst (λ (o : Option Segment). P at (get old.table at) o) (sym (up.others at other)) (there at other)
       ]
 
--- Other segments that were current still are.
-abbrev pub StaysCurrent : Segments → Segments → ℕ → Type 0
-StaysCurrent old new key = (other : ℕ) → (other ≡ key → ⊥) → old.current ≡ Some other → new.current ≡ Some other
-
-held_still : (old new : Segments) (key at live : ℕ) → StaysCurrent old new key → (at ≡ key → ⊥)
-    → (0 < live) ⊎ (old.current ≡ Some at) → (0 < live) ⊎ (new.current ≡ Some at)
-held_still old new key at live stays other held =
-    elim held [
-      | inl some ↦ inl some
-      | inr is ↦ inr (stays at other is)
-    ]
-
 some_same : {X : Type 0} (x y : X) → Some x ≡ Some y → x ≡ y
 some_same x y e = cc e
 
 pub are_with : (old new : Segments) (key : ℕ) (segment : Segment) → AreSegments old
-    → Updates old.table new.table key (Some segment) → IsSegment segment → key < 2 ^ 32
-    → (0 < segment.live) ⊎ (new.current ≡ Some key) → StaysCurrent old new key → AreSpare new.spare
+    → Updates old.table new.table key (Some segment) → IsSegment segment → key < 2 ^ 32 → AreSpare new.spare
     → AreSegments new
-are_with old new key segment are up is few held stays spare = record {
+are_with old new key segment are up is few spare = record {
   each = each_of old new key (Some segment) up (λ _ s. IsSegment s)
       (λ s e. subst IsSegment (some_same segment s e) is) (λ at s _ had. are.each at s had);
   keys = each_of old new key (Some segment) up (λ at _. at < 2 ^ 32)
       (λ s e. few) (λ at s _ had. are.keys at s had);
-  held = each_of old new key (Some segment) up (λ at s. (0 < s.live) ⊎ (new.current ≡ Some at))
-      (λ s e. subst (λ (x : Segment). (0 < x.live) ⊎ (new.current ≡ Some key)) (some_same segment s e) held)
-      (λ at s other had. held_still old new key at s.live stays other (are.held at s had));
   spare = spare;
 }
 
 pub are_without : (old new : Segments) (key : ℕ) → AreSegments old → Updates old.table new.table key None
-    → StaysCurrent old new key → AreSpare new.spare → AreSegments new
-are_without old new key are up stays spare = record {
+    → AreSpare new.spare → AreSegments new
+are_without old new key are up spare = record {
   each = each_of old new key None up (λ _ s. IsSegment s) (λ s e. absurd (none_some e))
       (λ at s _ had. are.each at s had);
   keys = each_of old new key None up (λ at _. at < 2 ^ 32) (λ s e. absurd (none_some e))
       (λ at s _ had. are.keys at s had);
-  held = each_of old new key None up (λ at s. (0 < s.live) ⊎ (new.current ≡ Some at)) (λ s e. absurd (none_some e))
-      (λ at s other had. held_still old new key at s.live stays other (are.held at s had));
   spare = spare;
 }
 
--- The same segments stay consistent if none is current only because of its key.
-pub more_same : (segments : Segments) → AreMore segments segments
-more_same segments = record {
-  live = λ key. refl;
-  bytes = λ key some. ([], sym (append-nil (bytes_at segments key)));
+-- Segments with the same table have the same bytes and counts.
+pub left_of : (old new : Segments) → new.table ≡ old.table → AreLeft old new
+left_of old new same = record {
+  live = λ key. ap (λ (t : Slab Segment). live_of (get t key)) same;
+  bytes = λ key. ap (λ (t : Slab Segment). bytes_of (get t key)) same;
 }
 
-pub more_twice : (first second third : Segments) → AreMore first second → AreMore second third → AreMore first third
-more_twice first second third one two = record {
+pub left_twice : (first second third : Segments) → AreLeft first second → AreLeft second third → AreLeft first third
+left_twice first second third one two = record {
   live = λ key. two.live key ∙ one.live key;
-  bytes = λ key some.
-      let a = one.bytes key some in
-      let b = two.bytes key (omega (arith, some, one.live key)) in (
-        a.0 ++ b.0,
-        b.1 ∙ ap (λ (t : List ℕ). t ++ b.0) a.1 ∙ append_assoc (bytes_at first key) a.0 b.0,
-      );
+  bytes = λ key. two.bytes key ∙ one.bytes key;
 }
 
-abbrev Keeps : ℕ → Option Segment → Option Segment → Type 0
-Keeps _ old new =
-    (live_of new ≡ live_of old) × (0 < live_of old → (more : List ℕ) × (bytes_of new ≡ bytes_of old ++ more))
+-- Bytes that are appended after nothing else changed.
+pub appended_left : (first second third : Segments) (place : Place) (more : List ℕ) → AreLeft first second →
+    HasAppended second third place more → HasAppended first third place more
+appended_left first second third place more left added = record {
+  start = added.start ∙ ap (λ (t : List ℕ). length t) (left.bytes place.segment);
+  live = λ key. added.live key ∙ left.live key;
+  bytes = λ key. added.bytes key ∙ ap (λ (t : List ℕ). t ++ more_at place.segment more key) (left.bytes key);
+}
 
-keeps_same : (slot : Option Segment) (at : ℕ) → Keeps at slot slot
-keeps_same slot at = (refl, λ some. ([], sym (append-nil (bytes_of slot))))
+more_here : (key : ℕ) (more : List ℕ) → more_at key more key ≡ more
+more_here key more = ap {B = List ℕ} (λ (b : Bool). cond b more []) (eq-eqb key key refl)
 
-more_of : (old new : Segments) → ((key : ℕ) → Keeps key (get old.table key) (get new.table key)) → AreMore old new
-more_of old new keeps = record { live = λ key. (keeps key).0; bytes = λ key. (keeps key).1 }
+more_other : (key : ℕ) (more : List ℕ) (at : ℕ) → (at ≡ key → ⊥) → more_at key more at ≡ []
+more_other key more at other = ap {B = List ℕ} (λ (b : Bool). cond b more []) (ne_eqb key at (λ e. other (sym e)))
+
+abbrev Appends : ℕ → List ℕ → ℕ → Option Segment → Option Segment → Type 0
+Appends key more at old new = (live_of new ≡ live_of old) × (bytes_of new ≡ bytes_of old ++ more_at key more at)
 
 -- The bytes of one segment grow.
-pub more_with : (old new : Segments) (key : ℕ) (before after : Segment) (more : List ℕ)
-    → get old.table key ≡ Some before → Updates old.table new.table key (Some after) → after.live ≡ before.live
-    → used_bytes after ≡ used_bytes before ++ more → AreMore old new
-more_with old new key before after more was up live bytes =
-    more_of old new (key_of old new key (Some after) up Keeps
-    (subst (λ (o : Option Segment). Keeps key o (Some after)) (sym was) (live, λ some. (more, bytes)))
-    (λ at _. keeps_same (get old.table at) at))
+pub appended_with : (old new : Segments) (place : Place) (slot : Option Segment) (after : Segment) (more : List ℕ)
+    → get old.table place.segment ≡ slot → Updates old.table new.table place.segment (Some after)
+    → place.start ≡ length (bytes_of slot) → after.live ≡ live_of slot
+    → used_bytes after ≡ bytes_of slot ++ more → HasAppended old new place more
+appended_with old new place slot after more was up start live bytes =
+    let key = place.segment in
+    let all : (at : ℕ) → Appends key more at (get old.table at) (get new.table at) =
+    key_of old new key (Some after) up (Appends key more)
+    (subst (λ (o : Option Segment). Appends key more key o (Some after)) (sym was)
+    (live, bytes ∙ ap (λ (t : List ℕ). bytes_of slot ++ t) (sym (more_here key more))))
+    (λ at other. (
+      refl,
+      sym (ap (λ (t : List ℕ). bytes_of (get old.table at) ++ t) (more_other key more at other)
+          ∙ append-nil (bytes_of (get old.table at))),
+    )) in
+    record {
+      start = start ∙ ap (λ (o : Option Segment). length (bytes_of o)) (sym was);
+      live = λ at. (all at).0;
+      bytes = λ at. (all at).1;
+    }
 
--- A segment without a stored message is new, or is given back.
-pub more_new : (old new : Segments) (key : ℕ) (segment : Segment) → get old.table key ≡ None
-    → Updates old.table new.table key (Some segment) → segment.live ≡ 0 → AreMore old new
-more_new old new key segment was up live =
-    more_of old new (key_of old new key (Some segment) up Keeps
-    (subst (λ (o : Option Segment). Keeps key o (Some segment)) (sym was) (live, λ some. absurd (omega (arith, some))))
-    (λ at _. keeps_same (get old.table at) at))
+-- Segments with a stored message keep their bytes in use, and may have more bytes after them. No count changed.
+pub record AreMore (old new : Segments) : Type 0 where
+  pub live : (key : ℕ) → live_at new key ≡ live_at old key
+  pub bytes : (key : ℕ) → (more : List ℕ) × (bytes_at new key ≡ bytes_at old key ++ more)
 
-pub more_gone : (old new : Segments) (key : ℕ) → live_at old key ≡ 0 → Updates old.table new.table key None →
+pub more_left : (old new : Segments) → AreLeft old new → AreMore old new
+more_left old new left = record {
+  live = left.live;
+  bytes = λ key. ([], left.bytes key ∙ sym (append-nil (bytes_at old key)));
+}
+
+pub more_appended : (old new : Segments) (place : Place) (more : List ℕ) → HasAppended old new place more →
     AreMore old new
-more_gone old new key none up =
-    more_of old new (key_of old new key None up Keeps
-    (sym none, λ some. absurd (omega (arith, some, none)))
-    (λ at _. keeps_same (get old.table at) at))
+more_appended old new place more added = record {
+  live = added.live;
+  bytes = λ key. (more_at place.segment more key, added.bytes key);
+}
+
+pub more_either : {E : Type 0} (old new : Segments) (more : List ℕ) (r : Result Place E) →
+    IfOk r (λ place. HasAppended old new place more) → OnErr r (AreLeft old new) → AreMore old new
+more_either old new more (Ok place) added left = more_appended old new place more added
+more_either old new more (Err e) added left = more_left old new left
+
+-- The bytes that were appended are the last ones of their segment.
+pub appended_there : (old new : Segments) (place : Place) (more : List ℕ) → HasAppended old new place more →
+    drop place.start (bytes_at new place.segment) ≡ more
+appended_there old new place more added =
+    let key = place.segment in
+    ap (drop place.start) (added.bytes key ∙ ap (λ (t : List ℕ). bytes_at old key ++ t) (more_here key more))
+    ∙ drop_at (bytes_at old key) more place.start (sym added.start)
+
+-- A segment with a stored message has the bytes that it had.
+pub stays : (old new : Segments) (key : ℕ) → StaysOrGoes old new key → 0 < live_at new key →
+    bytes_at new key ≡ bytes_at old key
+stays old new key (inl (same, _)) some = same
+stays old new key (inr (_, none)) some = absurd (omega (arith, none, some))
+
+pub stays_twice : (one two three : Segments) (key : ℕ) → StaysOrGoes one two key → StaysOrGoes two three key →
+    live_at three key ≤ live_at two key → StaysOrGoes one three key
+stays_twice one two three key (inl (a, x)) (inl (b, y)) less = inl (b ∙ a, λ none. x (y none))
+stays_twice one two three key (inr (a, x)) (inl (b, y)) less = inr (b ∙ a, omega (arith, less, x))
+stays_twice one two three key first (inr gone) less = inr gone
 
 abbrev Loses : ℕ → ℕ → ℕ → Option Segment → Option Segment → Type 0
 Loses key count at old new =
-    (live_of new ≡ live_of old - count_at key count at) × (0 < live_of new → bytes_of new ≡ bytes_of old)
+    (live_of new ≡ live_of old - count_at key count at)
+    × (((bytes_of new ≡ bytes_of old) × (live_of new ≡ 0 → live_of old ≡ 0))
+    ⊎ ((bytes_of new ≡ []) × (live_of new ≡ 0)))
 
 loses_other : (key count at : ℕ) (slot : Option Segment) → (at ≡ key → ⊥) → Loses key count at slot slot
-loses_other key count at slot other = (omega (arith, count_other key count at other), λ some. refl)
+loses_other key count at slot other = (omega (arith, count_other key count at other), inl (refl, λ none. none))
 
 lost_of : (old new : Segments) (key count : ℕ)
     → ((at : ℕ) → Loses key count at (get old.table at) (get new.table at)) → HasLost old new key count
 lost_of old new key count loses = record { live = λ at. (loses at).0; bytes = λ at. (loses at).1 }
 
+pub lost_none : (segments : Segments) (key : ℕ) → HasLost segments segments key 0
+lost_none segments key = record {
+  live = λ at. omega (arith, zero_at at);
+  bytes = λ at. inl (refl, λ none. none);
+}
+  where
+    zero_at : (at : ℕ) → count_at key 0 at ≡ 0
+    zero_at at = elim (eqb key at) as (λ (b : Bool). ◌≡◌ {A = ℕ} (cond b 0 0) 0) [ true ↦ refl | false ↦ refl ]
+
 pub lost_gone : (old new : Segments) (key count : ℕ) → live_at old key ≤ count →
     Updates old.table new.table key None → HasLost old new key count
 lost_gone old new key count all up =
     lost_of old new key count (key_of old new key None up (Loses key count)
-    (omega (arith, all, count_same key count), λ some. absurd (omega (arith, some)))
+    (omega (arith, all, count_same key count), inr (refl, refl))
     (λ at other. loses_other key count at (get old.table at) other))
 
 pub lost_with : (old new : Segments) (key count : ℕ) (before after : Segment) → get old.table key ≡ Some before
-    → Updates old.table new.table key (Some after) → after.live ≡ before.live - count
+    → Updates old.table new.table key (Some after) → count < before.live → after.live ≡ before.live - count
     → used_bytes after ≡ used_bytes before → HasLost old new key count
-lost_with old new key count before after was up live bytes =
+lost_with old new key count before after was up some live bytes =
     lost_of old new key count (key_of old new key (Some after) up (Loses key count)
     (subst (λ (o : Option Segment). Loses key count key o (Some after)) (sym was)
-    (omega (arith, live, count_same key count), λ some. bytes))
+    (omega (arith, live, count_same key count), inl (bytes, λ none. absurd (omega (arith, none, live, some)))))
     (λ at other. loses_other key count at (get old.table at) other))
 
 abbrev Gains : ℕ → ℕ → ℕ → Option Segment → Option Segment → Type 0
@@ -191,24 +230,37 @@ updates_kept first second third key slot same up = record {
 
 -- More bytes of a segment are in use.
 pub filled_segment : (before after : Segment) (more : ℕ) → IsSegment before → IsFilled before after more
-    → before.used + more ≤ length before.bytes.items → before.used + more < 4294967295 → IsSegment after
-filled_segment before after more is filled fits few = record {
+    → before.used + more ≤ length before.bytes.items → IsSegment after
+filled_segment before after more is filled fits = record {
+  some = omega (arith, is.some, filled.used);
   used = omega (arith, fits, filled.used, filled.size);
   size = omega (arith, is.size, filled.used, filled.size);
   exact = omega (arith, is.exact, filled.size, filled.room);
-  few = omega (arith, few, filled.used);
+  few = omega (arith, is.few, filled.size);
 }
 
-pub new_segment : (segment : Segment) (memory : Vec ℕ Global) (bytes : List ℕ)
-    → IsMemory memory (max 16384 (length bytes)) → segment.used ≡ length bytes
-    → length segment.bytes.items ≡ length memory.items → vec_capacity segment.bytes ≡ vec_capacity memory
-    → length bytes < 4294967295 → IsSegment segment
-new_segment segment memory bytes is used size room few = record {
-  used = omega (arith, is.0, used, size);
-  size = omega (arith, is.0, used, size);
-  exact = omega (arith, is.0, is.1, size, room);
-  few = omega (arith, few, used);
+-- A segment with this memory, of which `used` bytes are in use.
+pub new_segment : (segment : Segment) (memory : Vec ℕ Global) (used most : ℕ) → IsMemoryFor memory used most
+    → segment.used ≡ used → length segment.bytes.items ≡ length memory.items
+    → vec_capacity segment.bytes ≡ vec_capacity memory → 0 < used → most < 4294967295 → IsSegment segment
+new_segment segment memory used most is filled size room some few = record {
+  some = omega (arith, some, filled);
+  used = omega (arith, is.least, filled, size);
+  size = omega (arith, is.twice, filled, size);
+  exact = omega (arith, is.exact, size, room);
+  few = omega (arith, is.few, size, few);
 }
+
+-- Offsets in a segment's bytes fit a place.
+pub bytes_few : (segments : Segments) (key : ℕ) → AreSegments segments →
+    length (bytes_at segments key) < 4294967295
+bytes_few segments key are = go (get segments.table key) refl
+  where
+    go : (o : Option Segment) → get segments.table key ≡ o → length (bytes_of o) < 4294967295
+    go None is = omega arith
+    go (Some s) is =
+        let it = are.each key s is in
+        omega (arith, length-take s.used s.bytes.items, it.used, it.few)
 
 last_or : (list : List (Vec ℕ Global)) (last : Vec ℕ Global) (i : ℕ) (bytes : Vec ℕ Global)
     → slice_get (list ++ last ∷ []) i ≡ Some bytes → (slice_get list i ≡ Some bytes) ⊎ (last ≡ bytes)
@@ -219,13 +271,14 @@ last_or (first ∷ list) last (suc i) bytes is = last_or list last i bytes is
 
 -- One more segment's memory is spare.
 pub spare_pushed : (old new : Vec (Vec ℕ Global) Global) (bytes : Vec ℕ Global) → AreSpare old
-    → new.items ≡ old.items ++ bytes ∷ [] → vec_capacity new ≡ vec_capacity old → IsMemory bytes 16384
-    → length old.items < 4 → AreSpare new
+    → new.items ≡ old.items ++ bytes ∷ [] → vec_capacity new ≡ vec_capacity old
+    → (length bytes.items ≤ 16384) × (vec_capacity bytes ≤ length bytes.items)
+    → length old.items < 16 → AreSpare new
 spare_pushed old new bytes are is room memory few = record {
   each = λ i b at.
       elim (last_or old.items bytes i b (ap (λ (t : List (Vec ℕ Global)). slice_get t i) (sym is) ∙ at)) [
         | inl had ↦ are.each i b had
-        | inr same ↦ subst (λ (x : Vec ℕ Global). IsMemory x 16384) same memory
+        | inr same ↦ subst (λ (x : Vec ℕ Global). (length x.items ≤ 16384) × (vec_capacity x ≤ length x.items)) same memory
       ];
   few = omega (
     arith,

@@ -1,5 +1,5 @@
 -- Places, and the slots that they represent.
-use Rattle.std.proofs.Common.{◌≡◌, ℕ, zero, suc, ◌+◌, ◌-◌, ◌<◌, ◌≤◌, Bool, true, false, cond, eqb, List, [], ◌∷◌, ◌++◌, length}
+use Rattle.std.proofs.Common.{◌≡◌, ℕ, zero, suc, ◌+◌, ◌<◌, ◌≤◌, Bool, true, false, cond, eqb, List, [], ◌∷◌, ◌++◌, length}
 use Rattle.std.proofs.Common.{take, drop, slice_set, replicate, refl, sym, ap, subst, ◌∙◌, inl, inr, arith}
 use Rattle.std.specs.Prelude.{Option, None, Some, slice_get}
 use Rattle.std.specs.Option.{option_map}
@@ -84,13 +84,13 @@ within_more old new places within has = λ i place is.
     subst (λ (t : List ℕ). IsBlockAt t place.start) (sym here.1)
     (block_more (bytes_at old place.segment) here.0 place.start (within i place is))
 
-place_put_same : (places : List (Option Place)) (i : ℕ) (slot : Option Place) → i < length places →
+pub place_put_same : (places : List (Option Place)) (i : ℕ) (slot : Option Place) → i < length places →
     place_at (slice_set places i slot) i ≡ slot
 place_put_same [] i slot within = absurd (omega arith)
 place_put_same (s ∷ places) zero slot within = refl
 place_put_same (s ∷ places) (suc i) slot within = place_put_same places i slot (omega arith)
 
-place_put_other : (places : List (Option Place)) (i : ℕ) (slot : Option Place) (at : ℕ) → (at ≡ i → ⊥) →
+pub place_put_other : (places : List (Option Place)) (i : ℕ) (slot : Option Place) (at : ℕ) → (at ≡ i → ⊥) →
     place_at (slice_set places i slot) at ≡ place_at places at
 place_put_other [] i slot at other = refl
 place_put_other (s ∷ places) zero slot zero other = absurd (other refl)
@@ -110,22 +110,6 @@ within_put segments places i place within there block = λ at p is. elim (cases_
       subst (λ (x : Place). IsBlockAt (bytes_at segments x.segment) x.start) it block
   | inr other ↦ within at p (sym (place_put_other places i (Some place) at other) ∙ is)
 ]
-
-place_padded : (places : List (Option Place)) (i : ℕ) → place_at (places ++ None ∷ []) i ≡ place_at places i
-place_padded [] zero = refl
-place_padded [] (suc i) = refl
-place_padded (s ∷ places) zero = refl
-place_padded (s ∷ places) (suc i) = place_padded places i
-
-place_moved : (places : List (Option Place)) (i : ℕ) →
-    place_at (drop 1 places ++ None ∷ []) i ≡ place_at places (suc i)
-place_moved [] zero = refl
-place_moved [] (suc i) = refl
-place_moved (s ∷ places) i = place_padded places i
-
-pub within_moved : (segments : Segments) (places : List (Option Place)) → AreBlocksAt segments places →
-    AreBlocksAt segments (drop 1 places ++ None ∷ [])
-within_moved segments places within = λ i place is. within (suc i) place (sym (place_moved places i) ∙ is)
 
 -- Counts of the places in a segment.
 one_itself : (key : ℕ) → one_at key key ≡ 1
@@ -151,25 +135,6 @@ count_put (Some p ∷ places) zero place key within free = absurd (none_some (sy
 count_put (None ∷ places) (suc i) place key within free = count_put places i place key (omega arith) free
 count_put (Some p ∷ places) (suc i) place key within free =
     omega (arith, count_put places i place key (omega arith) free)
-
-count_padded : (places : List (Option Place)) (key : ℕ) → count_in key (places ++ None ∷ []) ≡ count_in key places
-count_padded [] key = refl
-count_padded (None ∷ places) key = count_padded places key
-count_padded (Some p ∷ places) key = ap (λ (n : ℕ). one_at p.segment key + n) (count_padded places key)
-
-pub count_moved_none : (places : List (Option Place)) (key : ℕ) → place_at places 0 ≡ None →
-    count_in key (drop 1 places ++ None ∷ []) ≡ count_in key places
-count_moved_none [] key none = refl
-count_moved_none (None ∷ places) key none = count_padded places key
-count_moved_none (Some p ∷ places) key none = absurd (none_some (sym none))
-
-pub count_moved_some : (places : List (Option Place)) (place : Place) (key : ℕ) → place_at places 0 ≡ Some place →
-    count_in key (drop 1 places ++ None ∷ []) ≡ count_in key places - one_at place.segment key
-count_moved_some [] place key is = absurd (none_some is)
-count_moved_some (None ∷ places) place key is = absurd (none_some is)
-count_moved_some (Some p ∷ places) place key is =
-    let it : p ≡ place = cc is in
-    omega (arith, count_padded places key, ap (λ (x : Place). one_at x.segment key) it)
 
 pub count_none : (n key : ℕ) → count_in key (replicate n None) ≡ 0
 count_none zero key = refl

@@ -12,6 +12,7 @@ use Rattle.mold_receiver.specs.Segments.{AreLost, AreSegments, bytes_at, live_at
 use Rattle.mold_receiver.specs.Shelf.{AreBlocksAt, IsKept, message_on, slots_in, slots_on}
 use Rattle.mold_receiver.specs.Slots.{AreSlots, Slot, count_held, flags_of}
 use Rattle.mold_receiver.proofs.ShelfLemmas.{HasOld, count_some, slots_more, within_more}
+use Rattle.mold_receiver.proofs.SegmentLemmas.{stays}
 use Rattle.mold_receiver.proofs.SlotLemmas.{empty_view, flags_empty}
 
 -- Items of a list of which the first were dropped, and to which empty ones were appended.
@@ -35,7 +36,7 @@ module _ {A : Type 0} where
       item_dropped n xs i
       ∙ ap (λ (k : ℕ). option_flatten (slice_get (x ∷ xs) k)) (let e : suc (n + i) ≡ suc n + i = omega arith in e)
 
-place_skipped : (n : ℕ) (places : List (Option Place)) (i : ℕ) →
+pub place_skipped : (n : ℕ) (places : List (Option Place)) (i : ℕ) →
     place_at (drop n places ++ replicate n None) i ≡ place_at places (n + i)
 place_skipped n places i = item_padded (drop n places) n i ∙ item_dropped n places i
 
@@ -133,7 +134,7 @@ held_first segments places n =
 module _ (old : Shelf) (ring : List (Option Place)) (segments : Segments) (n : ℕ) (kept : IsKept old)
     (fits : n ≤ length (slots_on old)) (is : ring ≡ drop n old.ring ++ replicate n None)
     (whole : AreSegments segments) (lost : AreLost old.segments segments (take n old.ring)) where
-  live_left : (key : ℕ) → live_at segments key ≡ count_in key ring
+  pub live_left : (key : ℕ) → live_at segments key ≡ count_in key ring
   live_left key =
       omega (
         arith,
@@ -147,7 +148,8 @@ module _ (old : Shelf) (ring : List (Option Place)) (segments : Segments) (n : �
   has_left : HasOld old.segments segments ring
   has_left i place at = (
     [],
-    lost.bytes place.segment (omega (arith, live_left place.segment, count_some ring i place at))
+    stays old.segments segments place.segment (lost.bytes place.segment)
+        (omega (arith, live_left place.segment, count_some ring i place at))
         ∙ sym (append-nil (bytes_at old.segments place.segment)),
   )
 

@@ -1,6 +1,6 @@
 -- Definitions for the functions that put a packet's messages into the store.
-use Rattle.std.specs.Prelude.{ℕ, suc, ◌+◌, ◌≤◌, Bool, ◌&&◌, nat_lt, is_none, List, [], ◌∷◌, length, Some, slice_set}
-use Rattle.std.specs.Prelude.{if◌then◌else◌}
+use Rattle.std.specs.Prelude.{ℕ, suc, ◌+◌, ◌≤◌, Bool, ◌&&◌, nat_lt, is_none, List, [], ◌∷◌, length, map, Some}
+use Rattle.std.specs.Prelude.{slice_set, if◌then◌else◌}
 use Rattle.std.specs.List.{filter}
 use Rattle.mold_receiver.specs.Slots.{AreEmpty, Slot, slot_at}
 use Rattle.mold_receiver.specs.Store.{Message, numbered}
@@ -16,6 +16,10 @@ AreFree slots first count = (first + count ≤ length slots) × AreEmpty slots f
 -- The messages for which the slot exists and is empty, each with its slot. The slot of the first message is `first`.
 abbrev pub fresh : List Slot → ℕ → List Message → List (ℕ × Message)
 fresh slots first messages = filter (λ pair. is_fresh slots pair.0) (numbered first messages)
+
+-- These messages without their slots.
+abbrev pub fresh_messages : List Slot → ℕ → List Message → List Message
+fresh_messages slots first messages = map (λ pair. pair.1) (fresh slots first messages)
 
 -- The slots after a message was put into a slot. They are unchanged unless the slot exists and is empty.
 abbrev pub put_fresh : List Slot → ℕ → Message → List Slot

@@ -12,6 +12,7 @@ pub mod Places
 pub mod Ring
 pub mod Segments
 pub mod Shelf
+pub mod Tight
 pub mod Keeping
 pub mod Handing
 pub mod Honest

@@ -1,6 +1,6 @@
 -- The segments of the store.
-use Rattle.std.specs.Prelude.{◌≡◌, ℕ, ◌+◌, ◌-◌, ◌<◌, ◌≤◌, ◌^◌, ◌⊎◌, ◌++◌, List, [], Option, None, Some, length, take}
-use Rattle.std.specs.Prelude.{drop, max, if◌then◌else◌, nat_eq, slice_get, vec_capacity, Vec}
+use Rattle.std.specs.Prelude.{◌≡◌, ℕ, ◌+◌, ◌*◌, ◌-◌, ◌<◌, ◌≤◌, ◌^◌, ◌⊎◌, ◌++◌, List, [], ◌∷◌, Option, None, Some}
+use Rattle.std.specs.Prelude.{length, take, drop, if◌then◌else◌, nat_eq, slice_get, vec_capacity, Vec}
 use Rattle.std.specs.Global.{Global}
 use Rattle.slab.specs.Slab.{get}
 use Rattle.mold_receiver.specs.Places.{count_in}
@@ -26,13 +26,18 @@ pub record IsFilled (old new : Segment) (more : ℕ) : Type 0 where
   pub size : length new.bytes.items ≡ length old.bytes.items
   pub room : vec_capacity new.bytes ≡ vec_capacity old.bytes
 
--- The segment's bytes in use are within its memory. The memory has at most `SEGMENT_BYTES` bytes, or those in use if
--- these are more. Offsets in it fit a place.
+-- The segment's bytes in use are within its memory, which is at most twice as large. Offsets in it fit a place.
 pub record IsSegment (segment : Segment) : Type 0 where
+  pub some : 0 < segment.used
   pub used : segment.used ≤ length segment.bytes.items
-  pub size : length segment.bytes.items ≤ max SEGMENT_BYTES segment.used
+  pub size : length segment.bytes.items ≤ 2 * segment.used
   pub exact : vec_capacity segment.bytes ≤ length segment.bytes.items
-  pub few : segment.used < NO_START
+  pub few : length segment.bytes.items < NO_START
+
+-- The memory of these segments, in bytes. Each segment has its key.
+abbrev pub memory_of : List (ℕ × Segment) → ℕ
+memory_of [] = 0
+memory_of (entry ∷ entries) = vec_capacity entry.1.bytes + memory_of entries
 
 -- The bytes in use of a segment. No segment has none.
 abbrev pub bytes_of : Option Segment → List ℕ
@@ -56,39 +61,62 @@ live_at segments key = live_of (get segments.table key)
 abbrev pub one_at : ℕ → ℕ → ℕ
 one_at segment key = if nat_eq segment key then 1 else 0
 
--- The memory is that of spare segments: at most `MAX_SPARE`, each of `SEGMENT_BYTES` bytes. The list has room for all
--- of them.
+-- The memory has room for these bytes, is at most twice as large, and has at most `most` bytes.
+pub record IsMemoryFor (bytes : Vec ℕ Global) (used most : ℕ) : Type 0 where
+  pub least : used ≤ length bytes.items
+  pub twice : length bytes.items ≤ 2 * used
+  pub few : length bytes.items ≤ most
+  pub exact : vec_capacity bytes ≤ length bytes.items
+
+-- The memory is that of spare segments: at most `MAX_SPARE`, each of at most `SEGMENT_BYTES` bytes. The list has room
+-- for all of them.
 pub record AreSpare (spare : Vec (Vec ℕ Global) Global) : Type 0 where
-  pub each : (i : ℕ) (bytes : Vec ℕ Global) → slice_get spare.items i ≡ Some bytes → IsMemory bytes SEGMENT_BYTES
+  pub each :
+      (i : ℕ) (bytes : Vec ℕ Global) → slice_get spare.items i ≡ Some bytes →
+      (length bytes.items ≤ SEGMENT_BYTES) × (vec_capacity bytes ≤ length bytes.items)
   pub few : length spare.items ≤ MAX_SPARE
   pub room : MAX_SPARE ≤ vec_capacity spare
 
--- The segments are consistent. Each has a stored message, except the current one, and a key that fits a place.
+-- The segments are consistent, and each has a key that fits a place.
 pub record AreSegments (segments : Segments) : Type 0 where
   pub each : (key : ℕ) (segment : Segment) → get segments.table key ≡ Some segment → IsSegment segment
   pub keys : (key : ℕ) (segment : Segment) → get segments.table key ≡ Some segment → key < 2 ^ 32
-  pub held : (key : ℕ) (segment : Segment) → get segments.table key ≡ Some segment →
-      (0 < segment.live) ⊎ (segments.current ≡ Some key)
   pub spare : AreSpare segments.spare
 
 -- The count for the key itself, zero for another one.
 abbrev pub count_at : ℕ → ℕ → ℕ → ℕ
 count_at segment count key = if nat_eq segment key then count else 0
 
--- Segments with a stored message keep their bytes in use, and may have more bytes after them. No count changed.
-pub record AreMore (old new : Segments) : Type 0 where
+-- Each segment has the bytes and the count that it had.
+pub record AreLeft (old new : Segments) : Type 0 where
   pub live : (key : ℕ) → live_at new key ≡ live_at old key
-  pub bytes : (key : ℕ) → 0 < live_at old key → (more : List ℕ) × (bytes_at new key ≡ bytes_at old key ++ more)
+  pub bytes : (key : ℕ) → bytes_at new key ≡ bytes_at old key
 
--- The segment with this key lost `count` of its stored messages. Segments with a stored message keep their bytes.
+-- The bytes for the key itself, no bytes for another one.
+abbrev pub more_at : ℕ → List ℕ → ℕ → List ℕ
+more_at segment more key = if nat_eq segment key then more else []
+
+-- These bytes were appended to the segment of the place, and begin there. No count changed.
+pub record HasAppended (old new : Segments) (place : Place) (more : List ℕ) : Type 0 where
+  pub start : place.start ≡ length (bytes_at old place.segment)
+  pub live : (key : ℕ) → live_at new key ≡ live_at old key
+  pub bytes : (key : ℕ) → bytes_at new key ≡ bytes_at old key ++ more_at place.segment more key
+
+-- The segment with this key has the bytes that it had, and it has a stored message if it had one. Or it is gone.
+abbrev pub StaysOrGoes : Segments → Segments → ℕ → Type 0
+StaysOrGoes old new key =
+    ((bytes_at new key ≡ bytes_at old key) × (live_at new key ≡ 0 → live_at old key ≡ 0))
+    ⊎ ((bytes_at new key ≡ []) × (live_at new key ≡ 0))
+
+-- The segment with this key lost `count` of its stored messages. It is gone if these were the last ones.
 pub record HasLost (old new : Segments) (lost count : ℕ) : Type 0 where
   pub live : (key : ℕ) → live_at new key ≡ live_at old key - count_at lost count key
-  pub bytes : (key : ℕ) → 0 < live_at new key → bytes_at new key ≡ bytes_at old key
+  pub bytes : (key : ℕ) → StaysOrGoes old new key
 
--- Each segment lost the messages at these places. Segments with a stored message keep their bytes.
+-- Each segment lost the messages at these places. It is gone if these were its last ones.
 pub record AreLost (old new : Segments) (places : List (Option Place)) : Type 0 where
   pub live : (key : ℕ) → live_at new key ≡ live_at old key - count_in key places
-  pub bytes : (key : ℕ) → 0 < live_at new key → bytes_at new key ≡ bytes_at old key
+  pub bytes : (key : ℕ) → StaysOrGoes old new key
 
 -- The segment with this key got `count` more stored messages. All segments keep their bytes.
 pub record HasGained (old new : Segments) (gained count : ℕ) : Type 0 where

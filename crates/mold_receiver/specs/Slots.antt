@@ -4,6 +4,7 @@ use Rattle.std.specs.Prelude.{slice_get, map, is_some, if◌then◌else◌}
 use Rattle.std.specs.FinMap as finite
 use Rattle.std.specs.Option.{option_flatten, option_map}
 use Rattle.mold_receiver.specs.Store.{Message, Store}
+use Rattle.mold_wire.specs.declared.block.TheConstants.{LENGTH_BYTES}
 use Rattle.mold_wire.specs.declared.limits.TheConstants.{MAX_WIDE_WINDOW}
 
 -- A slot, which is empty or has a message.
@@ -32,6 +33,12 @@ slots_of bytes slots = map (option_map bytes) slots
 abbrev pub count_held : List Slot → ℕ
 count_held [] = 0
 count_held (slot ∷ slots) = (if is_some slot then 1 else 0) + count_held slots
+
+-- The bytes of the messages in the slots and of the length fields of their blocks.
+abbrev pub slots_bytes : List Slot → ℕ
+slots_bytes [] = 0
+slots_bytes (None ∷ slots) = slots_bytes slots
+slots_bytes (Some message ∷ slots) = LENGTH_BYTES + length message + slots_bytes slots
 
 -- Whether each slot has a message.
 abbrev pub flags_of : List Slot → List Bool

@@ -1,8 +1,18 @@
 -- Messages by number: what a receiver stores, and what a packet and a store have together.
-use Rattle.std.specs.Prelude.{ℕ, zero, suc, ◌+◌, ◌&&◌, nat_le, nat_lt, List, [], ◌∷◌, ◌++◌, Option, None, Some}
+use Rattle.std.specs.Prelude.{ℕ, zero, suc, ◌+◌, ◌&&◌, nat_le, nat_lt, List, [], ◌∷◌, ◌++◌, Option, None, Some, length}
 use Rattle.std.specs.List.{filter}
 use Rattle.std.specs.FinMap as finite
+use Rattle.mold_wire.specs.declared.block.TheConstants.{LENGTH_BYTES}
 pub use Rattle.mold_rule.specs.Held.{Message, Store, numbered, differs, first_conflict}
+
+-- The bytes of messages and of the length fields of their blocks. Each message has its number.
+abbrev pub entry_bytes : List (ℕ × Message) → ℕ
+entry_bytes [] = 0
+entry_bytes (entry ∷ entries) = LENGTH_BYTES + length entry.1 + entry_bytes entries
+
+-- The bytes of all stored messages and of the length fields of their blocks.
+abbrev pub stored_bytes : Store → ℕ
+stored_bytes store = entry_bytes (finite.entries store)
 
 -- The messages whose number is at least `next`, each with its number. The first of the messages has the number
 -- `number`.

@@ -11,12 +11,20 @@ ghost use Rattle.mold_receiver.specs.Handing.{Grew, HasMore};
 ghost use Rattle.mold_receiver.specs.Run.{IsWhole, messages_in};
 ghost use Rattle.mold_wire.specs.Block.{blocks as packed};
 
+use crate::room::Room;
 use crate::run::Run;
 use crate::segment::length_at;
 use mold_messages::{MessageIterator, PartList};
 use mold_wire::{Blocks, LENGTH_BYTES};
 use std::alloc::{AllocError, Global};
 use std::marker::Model;
+
+// A run that was refused for memory: the number that it begins with, or 0, and the room that it needs.
+#[derive(Clone, Copy, Debug)]
+struct Refused {
+    next: u64,
+    room: Room,
+}
 
 /// A list of delivered messages with consecutive sequence numbers. The messages are copied one after the other into
 /// one buffer. The buffer grows ahead of need, and its memory is freed only when the batch is dropped.
@@ -26,8 +34,8 @@ pub struct Batch {
     first: u64,
     // The messages, each after two bytes: its length field, or zeros. No bytes follow the last message.
     list: PartList,
-    // The number from which a run was last refused for memory, or 0.
-    refused: u64,
+    // The run that was last refused for memory.
+    refused: Refused,
 }
 
 impl Model for Batch {
@@ -49,7 +57,13 @@ impl Batch {
         Batch {
             first: 0,
             list: PartList::new(alloc),
-            refused: 0,
+            refused: Refused {
+                next: 0,
+                room: Room {
+                    messages: 0,
+                    bytes: 0,
+                },
+            },
         }
     }
 
@@ -130,24 +144,37 @@ impl Batch {
         }
     }
 
-    /// Makes room for the run from `next` on, if `take_back` was last called for it. Returns an error if an allocation
-    /// fails. So a run that was refused for memory isn't copied again while its room is lacking.
+    /// Returns an error if the run from `next` on was the last one that was refused for memory, and an allocation for
+    /// it still fails.
     #[inline(always)]
-    pub(crate) fn make_room(&mut self, next: u64) -> Result<(), AllocError>
+    pub(crate) fn recall(&mut self, next: u64) -> Result<(), AllocError>
         ensures { self.new ≡ self.old }
     {
-        if self.refused == next {
-            self.list.make_room()?;
+        if self.refused.next == next {
+            self.make_room(self.refused.room)?;
         }
         Ok(())
     }
 
-    /// Keeps the first `keep` messages, after the run from `next` on was refused for memory.
-    pub(crate) fn take_back(&mut self, keep: usize, next: u64)
-        ensures { self.new ≡ handed_from self.old.first (take keep self.old.messages) }
+    /// Returns whether there is this room for more messages.
+    pub(crate) fn has_room(&self, room: Room) -> bool {
+        self.list.has_room(room.messages, room.bytes)
+    }
+
+    // Makes this room for more messages. Returns an error if an allocation fails.
+    fn make_room(&mut self, room: Room) -> Result<(), AllocError>
+        ensures { self.new ≡ self.old }
     {
-        self.refused = next;
-        self.list.take_back(keep);
+        self.list.reserve(room.messages, room.bytes)
+    }
+
+    /// Makes the room that the run from `next` on needs. Returns an error if an allocation fails. Then `recall` does so
+    /// too, at once, until there is that room.
+    pub(crate) fn make_room_for(&mut self, next: u64, room: Room) -> Result<(), AllocError>
+        ensures { self.new ≡ self.old }
+    {
+        self.refused = Refused { next, room };
+        self.make_room(room)
     }
 
     /// Appends the message with the number `next`. Returns an error if an allocation fails.

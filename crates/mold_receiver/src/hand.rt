@@ -9,6 +9,7 @@ ghost use Rattle.mold_receiver.specs.Batch.{Follows, followed_by};
 ghost use Rattle.mold_receiver.specs.Handing.{AreNumbered, Grew, HasHandedOn, HasNext, run_in, run_of};
 
 use crate::batch::Batch;
+use crate::room::Room;
 use crate::slots::Slots;
 use mold_wire::Blocks;
 use std::alloc::AllocError;
@@ -114,8 +115,27 @@ fn push_run(
     Ok(next + end as u64)
 }
 
+// Makes room for a packet's messages and the stored ones from the slot `start` on, up to the first empty slot. Returns
+// an error if an allocation fails. These messages are only counted if there is no room for all stored messages.
+fn make_room(
+    batch: &mut Batch,
+    next: u64,
+    packet: Room,
+    slots: &Slots,
+    start: usize,
+) -> Result<(), AllocError>
+    ensures { batch.new ≡ batch.old }
+{
+    batch.recall(next)?;
+    if batch.has_room(packet.and(slots.room())) {
+        return Ok(());
+    }
+    batch.make_room_for(next, packet.and(slots.room_of_run(start)))
+}
+
 /// Delivers the packet's messages from `next` on and the stored messages that follow them. Returns the new `next`. If
-/// an allocation fails, it returns an error and the batch is unchanged.
+/// an allocation fails, it returns an error and the batch is unchanged. Stored messages are copied only after the
+/// memory for all of them was allocated.
 #[inline(always)]
 pub(crate) fn hand_on(
     batch: &mut Batch,
@@ -131,17 +151,24 @@ pub(crate) fn hand_on(
         (λ after. HasHandedOn batch.old batch.new next (run_of slots.now next first top blocks.now) after) }
     ensures same { OnErr result (batch.new ≡ batch.old) }
 {
-    batch.make_room(next)?;
+    if slots.held() > 0 {
+        let packet = Room {
+            messages: usize::from(blocks.len()),
+            bytes: blocks.bytes().len(),
+        };
+        make_room(batch, next, packet, slots, (top - next) as usize)?;
+    }
     let before = batch.len();
     let handed = push_run(batch, next, first, top, blocks, slots);
     if handed.is_err() {
-        batch.take_back(before, next);
+        batch.truncate(before);
     }
     handed
 }
 
 /// Delivers the stored messages from the slot `start` on, up to the first empty slot, and returns that slot. The first
-/// slot has the number `next`. If an allocation fails, it returns an error and the batch is unchanged.
+/// slot has the number `next`. If an allocation fails, it returns an error and the batch is unchanged. Messages are
+/// copied only after the memory for all of them was allocated.
 pub(crate) fn hand_stored(
     batch: &mut Batch,
     next: u64,
@@ -160,12 +187,15 @@ pub(crate) fn hand_stored(
     let Some(_first) = slots.get(start) else {
         return Ok(start);
     };
-    let number = next + start as u64;
-    batch.make_room(number)?;
+    let none = Room {
+        messages: 0,
+        bytes: 0,
+    };
+    make_room(batch, next + start as u64, none, slots, start)?;
     let before = batch.len();
     let end = push_stored(batch, next, slots, start);
     if end.is_err() {
-        batch.take_back(before, number);
+        batch.truncate(before);
     }
     end
 }

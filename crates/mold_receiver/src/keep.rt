@@ -2,9 +2,10 @@
 
 ghost use Rattle.std.specs.Prelude.{◌≡◌, ◌↔◌, ◌+◌, ◌<◌, ◌^◌, length, IfOk, OnOk, OnErr, IsTrue};
 ghost use Rattle.std.specs.List.{AllByRecursion};
-ghost use Rattle.mold_receiver.specs.Keeping.{filled, fresh};
+ghost use Rattle.mold_receiver.specs.Keeping.{filled, fresh, fresh_messages};
 ghost use Rattle.mold_receiver.specs.Segments.{IsAppended};
 ghost use Rattle.mold_receiver.specs.Shelf.{IsKept, slots_on};
+ghost use Rattle.mold_receiver.specs.Tight.{HasMarked, IsTight};
 ghost use Rattle.mold_wire.specs.Block.{IsMessage, blocks as packed};
 ghost use Rattle.mold_wire.specs.declared.header.TheConstants.{END_OF_SESSION};
 
@@ -28,38 +29,92 @@ fn has_fresh(shelf: &Shelf, first: u64, blocks: &Blocks<'_>) -> bool
     false
 }
 
-// Puts the messages whose blocks start at the place `begin` into their slots, if these are empty. Returns how many it
-// put.
-fn mark_blocks(shelf: &mut Shelf, first: u64, begin: Place, blocks: &Blocks<'_>) -> u32
+// Returns the blocks of the packet's messages for which there is an empty slot.
+fn fresh_blocks(
+    alloc: Global,
+    shelf: &Shelf,
+    first: u64,
+    blocks: &Blocks<'_>,
+) -> Result<Vec<u8>, AllocError>
+    requires { first + length blocks.now < 2 ^ 64 }
+    ensures each { AllByRecursion IsMessage blocks.now }
+    ensures blocks { IfOk result
+        (λ bytes. bytes.items ≡ packed (fresh_messages (slots_on shelf.now) first blocks.now)) }
+{
+    let mut bytes = Vec::new(alloc);
+    let mut rest = blocks.bytes();
+    let mut slot = first;
+    for message in blocks.iter() {
+        let (block, behind) = rest.split_at(LENGTH_BYTES + message.len());
+        if shelf.is_free(slot) {
+            bytes.extend_from_slice(block)?;
+        }
+        rest = behind;
+        slot += 1;
+    }
+    Ok(bytes)
+}
+
+// Puts messages into their slots, if these are empty. The blocks of those that it puts follow each other from the place
+// `begin` on. Returns how many it put.
+fn mark_fresh(shelf: &mut Shelf, first: u64, begin: Place, blocks: &Blocks<'_>) -> u32
     requires kept { IsKept shelf.old }
     requires numbered { first + length blocks.now < 2 ^ 64 }
     requires few { length blocks.now < END_OF_SESSION }
     requires each { AllByRecursion IsMessage blocks.now }
-    requires there { IsAppended shelf.old.segments begin (packed blocks.now) }
+    requires there { IsAppended shelf.old.segments begin
+        (packed (fresh_messages (slots_on shelf.old) first blocks.now)) }
     ensures kept { IsKept shelf.new }
     ensures filled { slots_on shelf.new ≡ filled (slots_on shelf.old) first blocks.now }
     ensures count { result ≡ length (fresh (slots_on shelf.old) first blocks.now) }
+    ensures marked { HasMarked shelf.old shelf.new first (first + length blocks.now) begin.segment
+        (length (packed (fresh_messages (slots_on shelf.old) first blocks.now))) }
 {
     let mut at = begin.start as usize;
     let mut slot = first;
     let mut count = 0;
     for message in blocks.iter() {
-        let place = Place {
-            segment: begin.segment,
-            start: at as u32,
-        };
-        if shelf.mark_free(slot, place) {
+        if shelf.is_free(slot) {
+            let place = Place {
+                segment: begin.segment,
+                start: at as u32,
+            };
+            shelf.mark(slot as usize, place);
             count += 1;
+            at += LENGTH_BYTES + message.len();
         }
-        at += LENGTH_BYTES + message.len();
         slot += 1;
     }
     count
 }
 
+// Puts each of the packet's messages into its slot, if the slot exists and is empty. There is such a slot. Returns how
+// many it put. Their blocks make a new segment.
+fn keep_some(
+    alloc: Global,
+    shelf: &mut Shelf,
+    first: u64,
+    blocks: &Blocks<'_>,
+) -> Result<u32, AllocError>
+    requires kept { IsKept shelf.old }
+    requires tight { IsTight shelf.old }
+    requires numbered { first + length blocks.now < 2 ^ 64 }
+    requires few { length blocks.now < END_OF_SESSION }
+    requires some { 0 < length (fresh (slots_on shelf.old) first blocks.now) }
+    ensures kept { IsKept shelf.new }
+    ensures tight { IsTight shelf.new }
+    ensures filled { OnOk result (slots_on shelf.new ≡ filled (slots_on shelf.old) first blocks.now) }
+    ensures count { IfOk result (λ count. count ≡ length (fresh (slots_on shelf.old) first blocks.now)) }
+    ensures same { OnErr result (slots_on shelf.new ≡ slots_on shelf.old) }
+{
+    let bytes = fresh_blocks(alloc, shelf, first, blocks)?;
+    let begin = shelf.add_segment(alloc, &bytes)?;
+    Ok(mark_fresh(shelf, first, begin, blocks))
+}
+
 /// Puts each of the packet's messages into its slot, if the slot is in the window and empty. Returns how many it put.
-/// `first` is the slot of the packet's first message. All blocks of the packet are copied at once. If an allocation
-/// fails, it returns an error and the slots are unchanged.
+/// `first` is the slot of the packet's first message. If an allocation fails, it returns an error and the slots are
+/// unchanged.
 pub(crate) fn keep_fresh(
     alloc: Global,
     shelf: &mut Shelf,
@@ -67,9 +122,11 @@ pub(crate) fn keep_fresh(
     blocks: &Blocks<'_>,
 ) -> Result<u32, AllocError>
     requires kept { IsKept shelf.old }
+    requires tight { IsTight shelf.old }
     requires numbered { first + length blocks.now < 2 ^ 64 }
     requires few { length blocks.now < END_OF_SESSION }
     ensures kept { IsKept shelf.new }
+    ensures tight { IsTight shelf.new }
     ensures filled { OnOk result (slots_on shelf.new ≡ filled (slots_on shelf.old) first blocks.now) }
     ensures count { IfOk result (λ count. count ≡ length (fresh (slots_on shelf.old) first blocks.now)) }
     ensures needed { OnErr result (0 < length (fresh (slots_on shelf.old) first blocks.now)) }
@@ -77,13 +134,11 @@ pub(crate) fn keep_fresh(
 {
     let count = blocks.len();
     if shelf.are_free(first, u64::from(count)) {
-        let begin = shelf.append(alloc, blocks.bytes())?;
-        shelf.mark_all(first as usize, begin, blocks);
+        shelf.keep_all(alloc, first as usize, blocks)?;
         return Ok(u32::from(count));
     }
     if !has_fresh(shelf, first, blocks) {
         return Ok(0);
     }
-    let begin = shelf.append(alloc, blocks.bytes())?;
-    Ok(mark_blocks(shelf, first, begin, blocks))
+    keep_some(alloc, shelf, first, blocks)
 }

@@ -17,6 +17,7 @@ mod place;
 mod receiver;
 mod release;
 mod ring;
+mod room;
 mod run;
 mod segment;
 mod segments;

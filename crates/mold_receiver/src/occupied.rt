@@ -381,6 +381,10 @@ impl Occupied {
         requires { slot + count ≤ length self.old }
         ensures { self.new ≡ take slot self.old ++ replicate count true ++ drop (slot + count) self.old }
     {
-        self.write(slot, count, true);
+        if count == 1 {
+            self.set(slot);
+        } else {
+            self.write(slot, count, true);
+        }
     }
 }

@@ -3,8 +3,8 @@
 // For the optimizer: `#[inline(always)]` marks the functions that run for each datagram. Without it, the compiler
 // emits calls that return structs through memory. They take a third of the time of a datagram with one message.
 
-ghost use Rattle.std.specs.Prelude.{◌≡◌, ◌↔◌, IsTrue, ◌⊎◌, [], ◌+◌, ◌-◌, ◌<◌, ◌≤◌, ◌^◌, min, length, Some, None, Ok};
-ghost use Rattle.std.specs.Prelude.{Err, IfOk, IfErr, IfNone, IfSome, OnOk, OnErr, max};
+ghost use Rattle.std.specs.Prelude.{◌≡◌, ◌↔◌, IsTrue, ◌⊎◌, [], ◌+◌, ◌*◌, ◌-◌, ◌<◌, ◌≤◌, ◌^◌, min, length};
+ghost use Rattle.std.specs.Prelude.{Some, None, Ok, Err, IfOk, IfErr, IfNone, IfSome, OnOk, OnErr, max};
 ghost use Rattle.std.specs.FinMap as finite;
 ghost use Rattle.mold_wire.specs.Packet.{IsBody, messages_of, top_of};
 ghost use Rattle.mold_wire.specs.Reading.{reading};
@@ -14,11 +14,12 @@ ghost use Rattle.mold_receiver.specs.Batch.{Follows, followed_by};
 ghost use Rattle.mold_receiver.specs.Handing.{HasNext};
 ghost use Rattle.mold_receiver.specs.Receive.{HasTaken, HasTakenPacket, IsRefusedFor, TakesMemory, data_packet};
 ghost use Rattle.mold_receiver.specs.Receive.{ended_after, handed_on, refusal, top_read};
-ghost use Rattle.mold_receiver.specs.Store.{first_conflict, from_next};
+ghost use Rattle.mold_receiver.specs.Store.{first_conflict, from_next, stored_bytes};
 ghost use Rattle.mold_receiver.specs.Skip.{AreMissing, skipped, skipped_run};
 ghost use Rattle.mold_receiver.specs.Wanted.{HasNoGap, IsNextGap, wanted};
 ghost use Rattle.mold_receiver.specs.View.{View, IsWellFormed, IsWideWindow, IsWindow, fresh};
 ghost use Rattle.mold_receiver.specs.declared.error.ReceiverError.TheVariants.{NextZero, Window, Memory};
+ghost use Rattle.mold_receiver.specs.declared.segment.TheConstants.{SEGMENT_BYTES};
 ghost use Rattle.mold_receiver.specs.declared.segments.TheConstants.{MAX_SPARE};
 ghost use Rattle.mold_rule.specs.Refusals.{end_below, past_end};
 
@@ -358,12 +359,19 @@ impl Receiver {
         self.slots.held()
     }
 
-    /// Returns the number of memory segments that the store has, including the spare ones. A segment has 16,384 bytes,
-    /// or the bytes of one packet's messages if these are more.
+    /// Returns the number of memory segments that the store has, including the spare ones.
     pub fn segments(&self) -> usize
-        ensures { result ≤ finite.len self.now.store + 1 + MAX_SPARE }
+        ensures { result ≤ finite.len self.now.store + MAX_SPARE }
     {
         self.slots.segments()
+    }
+
+    /// Returns the memory of the store's segments in bytes, together with the spare ones. It takes a step for each
+    /// segment. The slots and the table of the segments are not counted.
+    pub fn memory(&self) -> usize
+        ensures { result ≤ MAX_SPARE * SEGMENT_BYTES + 2 * stored_bytes self.now.store }
+    {
+        self.slots.memory()
     }
 
     /// Returns the window, 1 to `MAX_WIDE_WINDOW`: the receiver stores messages with numbers below `next` plus the

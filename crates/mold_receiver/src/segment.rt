@@ -1,4 +1,4 @@
-//! A segment of the store: memory of a fixed size with the blocks of stored messages.
+//! A segment of the store: memory with the blocks of stored messages.
 
 ghost use Rattle.std.specs.Prelude.{◌≡◌, ◌+◌, ◌≤◌, ◌^◌, ◌<◌, ◌++◌, length, IfOk, vec_capacity};
 ghost use Rattle.mold_receiver.specs.Places.{IsBlockAt, length_at as stated_length, message_in};
@@ -10,13 +10,13 @@ use byteorder::{BigEndian, ByteOrder};
 use mold_wire::LENGTH_BYTES;
 use std::alloc::{AllocError, Global};
 
-/// The size of a segment in bytes. If the blocks of a packet are longer, their segment has exactly their length.
+/// A segment grows to at most this many bytes. If the blocks of a packet are longer, their segment has only them.
 pub(crate) const SEGMENT_BYTES: usize = 16384;
 
 /// A block of memory, of which the first bytes are in use.
 #[derive(Debug, Drop)]
 pub(crate) struct Segment {
-    // The memory. Its length never changes.
+    // The memory. Its length is its capacity.
     pub bytes: Vec<u8>,
     // The number of bytes in use.
     pub used: usize,
@@ -93,5 +93,21 @@ impl Segment {
         let end = self.used + bytes.len();
         self.bytes[self.used..end].copy_from_slice(bytes);
         self.used = end;
+    }
+
+    /// Moves the bytes in use to other memory, and appends these bytes.
+    pub(crate) fn move_to(&mut self, memory: Vec<u8>, bytes: &[u8])
+        requires fits { self.old.used + length bytes.now ≤ length memory.items }
+        requires used { self.old.used ≤ length self.old.bytes.items }
+        ensures used { used_bytes self.new ≡ used_bytes self.old ++ bytes.now }
+        ensures filled { self.new.used ≡ self.old.used + length bytes.now }
+        ensures live { self.new.live ≡ self.old.live }
+        ensures size { length self.new.bytes.items ≡ length memory.items }
+        ensures room { vec_capacity self.new.bytes ≡ vec_capacity memory }
+    {
+        let mut moved = Segment::new(memory, self.filled());
+        moved.fill(bytes);
+        moved.live = self.live;
+        *self = moved;
     }
 }

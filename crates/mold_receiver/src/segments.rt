@@ -1,11 +1,10 @@
 //! The segments of the store: where blocks are appended, and when memory is given back.
 
-ghost use Rattle.std.specs.Prelude.{◌≡◌, ◌+◌, ◌<◌, ◌≤◌, ◌^◌, [], length, drop, max, IfOk, IfSome, OnErr, Some, None, ℕ};
-ghost use Rattle.std.specs.Prelude.{◌==◌};
-ghost use Rattle.slab.specs.Slab.{get, slab_len, Updates};
-ghost use Rattle.mold_receiver.specs.Segments.{AreMore, AreSegments, HasGained, HasLost, IsAppended, IsMemory};
-ghost use Rattle.mold_receiver.specs.Segments.{bytes_at, live_at};
-ghost use Rattle.mold_receiver.specs.declared.place.TheConstants.{NO_START};
+ghost use Rattle.std.specs.Prelude.{◌≡◌, ◌+◌, ◌-◌, ◌*◌, ◌<◌, ◌≤◌, ◌^◌, ◌⊎◌, [], length, max, min, IfNone, IfOk};
+ghost use Rattle.std.specs.Prelude.{IfSome, IsTrue, OnErr, Some, None, ℕ, vec_capacity};
+ghost use Rattle.slab.specs.Slab.{entries, slab_len, SameValues, Updates};
+ghost use Rattle.mold_receiver.specs.Segments.{AreLeft, AreSegments, HasAppended, HasGained, HasLost, IsMemoryFor};
+ghost use Rattle.mold_receiver.specs.Segments.{bytes_at, live_at, memory_of};
 ghost use Rattle.mold_receiver.specs.declared.segment.TheConstants.{SEGMENT_BYTES};
 ghost use Rattle.mold_receiver.specs.declared.segments.TheConstants.{MAX_SPARE};
 
@@ -14,18 +13,28 @@ use crate::segment::{SEGMENT_BYTES, Segment, memory};
 use slab::Slab;
 use std::alloc::{AllocError, Global};
 
-/// At most this many segments' memory stays reserved while no stored message needs it.
-pub(crate) const MAX_SPARE: usize = 4;
+/// The memory of at most this many segments is kept while no stored message needs it.
+pub(crate) const MAX_SPARE: usize = 16;
 
-/// The segments in use, each with a key. Blocks are appended to the current segment. A segment is given back when its
-/// last stored message is gone: its memory is kept as spare, or freed.
+// The table of segments keeps its memory while it is empty, if it has room for at most this many.
+const MAX_EMPTY: usize = 256;
+
+// Returns whether the memory has room for `used` bytes, and is at most twice as large.
+fn is_fitting(bytes: &[u8], used: usize) -> bool
+    ensures { IsTrue result → (used ≤ length bytes.now) × (length bytes.now ≤ 2 * used) }
+{
+    used <= bytes.len() && bytes.len() / 2 < used
+}
+
+/// The segments in use, each with a key. A segment's memory is at most twice as large as its bytes. A segment is given
+/// back when its last stored message is gone: its memory is kept as spare, or freed.
 #[derive(Debug, Drop)]
 pub(crate) struct Segments {
     table: Slab<Segment>,
     // Memory of segments that were given back.
     spare: Vec<Vec<u8>>,
-    // The key of the segment that takes the next blocks.
-    current: Option<usize>,
+    // The bytes in use of all segments.
+    used: usize,
 }
 
 impl Segments {
@@ -33,11 +42,12 @@ impl Segments {
     pub(crate) fn new(alloc: Global) -> Result<Segments, AllocError>
         ensures whole { IfOk result (λ segments. AreSegments segments) }
         ensures empty { IfOk result (λ segments. (key : ℕ) → live_at segments key ≡ 0) }
+        ensures none { IfOk result (λ segments. (key : ℕ) → bytes_at segments key ≡ []) }
     {
         Ok(Segments {
             table: Slab::new(alloc),
             spare: Vec::with_capacity(alloc, MAX_SPARE)?,
-            current: None,
+            used: 0,
         })
     }
 
@@ -47,6 +57,24 @@ impl Segments {
         ensures { result ≤ slab_len self.now.table + MAX_SPARE }
     {
         self.table.len().saturating_add(self.spare.len())
+    }
+
+    /// Returns the memory of all segments in bytes, together with the spare memory.
+    pub(crate) fn memory(&self) -> usize
+        requires { AreSegments self.now }
+        ensures { result ≡ min (length self.now.spare.items * SEGMENT_BYTES + memory_of (entries self.now.table))
+            (2 ^ 64 - 1) }
+    {
+        let mut memory = self.spare.len() * SEGMENT_BYTES;
+        for (_, segment) in self.table.iter() {
+            memory = memory.saturating_add(segment.bytes.capacity());
+        }
+        memory
+    }
+
+    /// Returns the number of bytes in use of all segments.
+    pub(crate) fn used(&self) -> usize {
+        self.used
     }
 
     /// Returns the bytes in use of a segment.
@@ -60,43 +88,144 @@ impl Segments {
         }
     }
 
-    // Appends bytes to the current segment, if they fit. Returns where they begin.
-    fn fill(&mut self, bytes: &[u8]) -> Option<Place>
+    // Appends bytes to a segment, if its memory has room for them. Returns where they begin.
+    fn fill(&mut self, key: u32, bytes: &[u8]) -> Option<Place>
         requires { AreSegments self.old }
         ensures whole { AreSegments self.new }
-        ensures more { AreMore self.old self.new }
-        ensures added { IfSome result (λ place. IsAppended self.new place bytes.now) }
+        ensures appended { IfSome result (λ place. HasAppended self.old self.new place bytes.now) }
+        ensures there { IfSome result (λ place. place.segment ≡ key) }
+        ensures same { IfNone result (AreLeft self.old self.new) }
     {
-        let key = self.current?;
-        let segment = self.table.get_mut(key)?;
+        let segment = self.table.get_mut(key as usize)?;
         if bytes.len() > segment.bytes.len() - segment.used {
             return None;
         }
         let start = segment.used;
-        if start + bytes.len() >= NO_START as usize {
-            return None;
-        }
         segment.fill(bytes);
+        self.used = self.used.saturating_add(bytes.len());
         Some(Place {
-            segment: key as u32,
+            segment: key,
             start: start as u32,
         })
     }
 
-    // Returns memory for `size` bytes: spare memory if they fit, otherwise new memory.
-    fn memory_for(&mut self, alloc: Global, size: usize) -> Result<Vec<u8>, AllocError>
-        requires { AreSegments self.old }
+    // Returns memory for `used` bytes: spare memory of a fitting size, or new memory of `size` bytes.
+    fn memory_for(&mut self, alloc: Global, used: usize, size: usize) -> Result<Vec<u8>, AllocError>
+        requires whole { AreSegments self.old }
+        requires least { used ≤ size }
+        requires most { size ≤ 2 * used }
         ensures whole { AreSegments self.new }
         ensures table { self.new.table ≡ self.old.table }
-        ensures size { IfOk result (λ bytes. IsMemory bytes (max SEGMENT_BYTES size)) }
+        ensures fits { IfOk result (λ bytes. IsMemoryFor bytes used (max SEGMENT_BYTES size)) }
     {
-        if size > SEGMENT_BYTES {
-            return memory(alloc, size);
+        if self.has_spare(used) {
+            if let Some(bytes) = self.spare.pop() {
+                if is_fitting(&bytes, used) {
+                    return Ok(bytes);
+                }
+            }
         }
-        match self.spare.pop() {
-            Some(bytes) => Ok(bytes),
-            None => memory(alloc, SEGMENT_BYTES),
+        memory(alloc, size)
+    }
+
+    // Returns whether the memory that became spare last fits `used` bytes.
+    fn has_spare(&self, used: usize) -> bool {
+        match self.spare.last() {
+            Some(bytes) => is_fitting(bytes, used),
+            None => false,
         }
+    }
+
+    // Keeps memory for later use. If there is enough spare memory, it replaces what became spare last.
+    fn save(&mut self, bytes: Vec<u8>)
+        requires whole { AreSegments self.old }
+        requires few { length bytes.items ≤ SEGMENT_BYTES }
+        requires exact { vec_capacity bytes ≤ length bytes.items }
+        ensures whole { AreSegments self.new }
+        ensures table { self.new.table ≡ self.old.table }
+    {
+        if self.spare.len() >= MAX_SPARE {
+            self.spare.pop();
+        }
+        self.spare.push_reserved(bytes);
+    }
+
+    // Moves a segment's bytes to larger memory and appends these bytes. Returns where they begin.
+    fn grow(&mut self, alloc: Global, key: u32, bytes: &[u8]) -> Result<Place, AllocError>
+        requires whole { AreSegments self.old }
+        requires there { 0 < length (bytes_at self.old key) }
+        requires small { length (bytes_at self.old key) + length bytes.now ≤ SEGMENT_BYTES }
+        ensures whole { AreSegments self.new }
+        ensures appended { IfOk result (λ place. HasAppended self.old self.new place bytes.now) }
+        ensures there { IfOk result (λ place. place.segment ≡ key) }
+        ensures same { OnErr result (AreLeft self.old self.new) }
+    {
+        let start = self.bytes(key).len();
+        let used = start + bytes.len();
+        let memory = self.memory_for(alloc, used, SEGMENT_BYTES.min(2 * used))?;
+        if let Some(segment) = self.table.get_mut(key as usize) {
+            segment.move_to(memory, bytes);
+        }
+        self.used = self.used.saturating_add(bytes.len());
+        Ok(Place {
+            segment: key,
+            start: start as u32,
+        })
+    }
+
+    // Makes a segment of these bytes. Returns where they begin.
+    fn open(&mut self, alloc: Global, bytes: &[u8]) -> Result<Place, AllocError>
+        requires whole { AreSegments self.old }
+        requires some { 0 < length bytes.now }
+        ensures whole { AreSegments self.new }
+        ensures appended { IfOk result (λ place. HasAppended self.old self.new place bytes.now) }
+        ensures new { IfOk result (λ place. bytes_at self.old place.segment ≡ []) }
+        ensures same { OnErr result (AreLeft self.old self.new) }
+    {
+        if bytes.len() >= NO_START as usize {
+            return Err(AllocError);
+        }
+        let memory = self.memory_for(alloc, bytes.len(), bytes.len())?;
+        self.table.reserve(1)?;
+        let key = self.table.vacant_key();
+        if key > u32::MAX as usize {
+            return Err(AllocError);
+        }
+        let segment = self.table.insert_reserved(Segment::new(memory, bytes));
+        self.used = self.used.saturating_add(bytes.len());
+        Ok(Place {
+            segment: segment as u32,
+            start: 0,
+        })
+    }
+
+    /// Appends bytes to the segment `beside`, if there is one and it stays small. Otherwise it makes a segment of them.
+    /// Returns where they begin. If an allocation fails, the segments are unchanged.
+    pub(crate) fn append(
+        &mut self,
+        alloc: Global,
+        beside: Option<u32>,
+        bytes: &[u8],
+    ) -> Result<Place, AllocError>
+        requires whole { AreSegments self.old }
+        requires there { IfSome beside (λ key. 0 < length (bytes_at self.old key)) }
+        requires some { 0 < length bytes.now }
+        ensures whole { AreSegments self.new }
+        ensures appended { IfOk result (λ place. HasAppended self.old self.new place bytes.now) }
+        ensures beside { IfOk result
+            (λ place. (beside ≡ Some place.segment) ⊎ (bytes_at self.old place.segment ≡ [])) }
+        ensures same { OnErr result (AreLeft self.old self.new) }
+    {
+        let Some(key) = beside else {
+            return self.open(alloc, bytes);
+        };
+        if let Some(place) = self.fill(key, bytes) {
+            return Ok(place);
+        }
+        if self.bytes(key).len() + bytes.len() > SEGMENT_BYTES {
+            return self.open(alloc, bytes);
+        }
+        self.grow(alloc, key, bytes)
     }
 
     // Gives a segment back. Its memory becomes spare, or is freed.
@@ -104,82 +233,24 @@ impl Segments {
         requires { AreSegments self.old }
         ensures whole { AreSegments self.new }
         ensures gone { Updates self.old.table self.new.table key None }
-        ensures current { self.old.current ≡ Some key → self.new.current ≡ None }
     {
-        if self.current == Some(key) {
-            self.current = None;
-        }
-        let Some(Segment { bytes, .. }) = self.table.try_remove(key) else {
+        let Some(Segment { bytes, used, .. }) = self.table.try_remove(key) else {
             return;
         };
-        if bytes.len() == SEGMENT_BYTES && self.spare.len() < MAX_SPARE {
-            self.spare.push_reserved(bytes);
+        self.used = self.used.saturating_sub(used);
+        if bytes.len() <= SEGMENT_BYTES {
+            self.save(bytes);
         }
     }
 
-    // Returns whether the segment has no stored message.
-    fn is_unused(&self, key: usize) -> bool
-        ensures { result ≡ (live_at self.now key == 0) }
-    {
-        match self.table.get(key) {
-            Some(segment) => segment.live == 0,
-            None => true,
-        }
-    }
-
-    // Leaves no segment current. If the current one has no stored message, it is given back.
-    fn close(&mut self)
+    // Frees the table's memory, if no segment is left and the table is large.
+    fn shrink(&mut self)
         requires { AreSegments self.old }
         ensures whole { AreSegments self.new }
-        ensures more { AreMore self.old self.new }
-        ensures none { self.new.current ≡ None }
+        ensures same { SameValues self.old.table self.new.table }
     {
-        let Some(key) = self.current else {
-            return;
-        };
-        if self.is_unused(key) {
-            self.give_back(key);
-        } else {
-            self.current = None;
-        }
-    }
-
-    // Makes a new current segment with these bytes. Returns where they begin.
-    fn open(&mut self, alloc: Global, bytes: &[u8]) -> Result<Place, AllocError>
-        requires { AreSegments self.old }
-        ensures whole { AreSegments self.new }
-        ensures more { AreMore self.old self.new }
-        ensures added { IfOk result (λ place. IsAppended self.new place bytes.now) }
-    {
-        if bytes.len() >= NO_START as usize {
-            return Err(AllocError);
-        }
-        let memory = self.memory_for(alloc, bytes.len())?;
-        self.close();
-        self.table.reserve(1)?;
-        let key = self.table.vacant_key();
-        if key > u32::MAX as usize {
-            return Err(AllocError);
-        }
-        let segment = self.table.insert_reserved(Segment::new(memory, bytes));
-        self.current = Some(segment);
-        Ok(Place {
-            segment: segment as u32,
-            start: 0,
-        })
-    }
-
-    /// Appends bytes to the current segment. If they don't fit, spare or new memory becomes the current segment.
-    /// Returns where they begin. If an allocation fails, no segment with a stored message has changed.
-    pub(crate) fn append(&mut self, alloc: Global, bytes: &[u8]) -> Result<Place, AllocError>
-        requires { AreSegments self.old }
-        ensures whole { AreSegments self.new }
-        ensures more { AreMore self.old self.new }
-        ensures added { IfOk result (λ place. IsAppended self.new place bytes.now) }
-    {
-        match self.fill(bytes) {
-            Some(place) => Ok(place),
-            None => self.open(alloc, bytes),
+        if self.table.is_empty() && self.table.capacity() > MAX_EMPTY {
+            self.table.shrink_to_fit();
         }
     }
 
@@ -213,5 +284,6 @@ impl Segments {
             }
         }
         self.give_back(key as usize);
+        self.shrink();
     }
 }

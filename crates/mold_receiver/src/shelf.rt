@@ -1,17 +1,20 @@
 //! The store: a ring of slots, and the segments that have the stored messages.
 
-ghost use Rattle.std.specs.Prelude.{◌≡◌, ◌↔◌, ◌^◌, ◌+◌, ◌<◌, ◌≤◌, ◌++◌, ◌∷◌, [], length, drop, replicate, ℕ};
-ghost use Rattle.std.specs.Prelude.{slice_set, is_some, if◌then◌else◌, IfOk, IfNone, IfSome, IsTrue, None, Some};
+ghost use Rattle.std.specs.Prelude.{◌≡◌, ◌↔◌, ◌^◌, ◌+◌, ◌*◌, ◌<◌, ◌≤◌, ◌++◌, ◌∷◌, [], length, drop, replicate, ℕ};
+ghost use Rattle.std.specs.Prelude.{slice_set, is_some, if◌then◌else◌, IfOk, IfNone, IfSome, IsTrue, None};
+ghost use Rattle.std.specs.Prelude.{OnErr, OnOk, Some};
 ghost use Rattle.std.specs.List.{AllByRecursion};
 ghost use Rattle.std.specs.Option.{option_copied};
 ghost use Rattle.mold_wire.specs.Block.{IsMessage, blocks as packed};
-ghost use Rattle.mold_receiver.specs.Keeping.{AreFree, filled, is_fresh, put_fresh};
+ghost use Rattle.mold_receiver.specs.Keeping.{AreFree, filled, is_fresh};
 ghost use Rattle.mold_receiver.specs.Places.{IsBlockAt, place_at};
-ghost use Rattle.mold_receiver.specs.Segments.{IsAppended, bytes_at};
+ghost use Rattle.mold_receiver.specs.Segments.{AreLeft, HasAppended, IsAppended, bytes_at};
 ghost use Rattle.mold_receiver.specs.Run.{IsRunAt};
 ghost use Rattle.mold_receiver.specs.Shelf.{IsExtent, IsKept, message_on, slots_on};
-ghost use Rattle.mold_receiver.specs.Slots.{slot_at, count_held, AreEmpty, IsFirstEmpty, IsNextHeld};
+ghost use Rattle.mold_receiver.specs.Tight.{HasMarked, IsBeside, IsTight};
+ghost use Rattle.mold_receiver.specs.Slots.{slot_at, slots_bytes, count_held, AreEmpty, IsFirstEmpty, IsNextHeld};
 ghost use Rattle.mold_receiver.specs.declared.place.TheConstants.{NO_START};
+ghost use Rattle.mold_receiver.specs.declared.segment.TheConstants.{SEGMENT_BYTES};
 ghost use Rattle.mold_receiver.specs.declared.segments.TheConstants.{MAX_SPARE};
 ghost use Rattle.mold_wire.specs.declared.limits.TheConstants.{MAX_WIDE_WINDOW};
 
@@ -19,6 +22,7 @@ use crate::occupied::Occupied;
 use crate::place::Place;
 use crate::release::release;
 use crate::ring::Ring;
+use crate::room::Room;
 use crate::run::Run;
 use crate::segment::{length_at, message_at};
 use crate::segments::Segments;
@@ -26,8 +30,8 @@ use mold_wire::{Blocks, LENGTH_BYTES};
 use std::alloc::{AllocError, Global};
 
 /// A ring with one slot for each number of a receiver's window. A slot is empty or has the place of a message. The
-/// messages are in segments, as they were in their packets. The ring is allocated once. A segment is allocated when a
-/// packet doesn't fit the current one, and given back when its last message is gone.
+/// messages are in segments, as they were in their packets. The ring is allocated once. A segment has messages between
+/// which no slot is empty. So all its messages leave in one release, and it is given back.
 #[derive(Debug, Drop)]
 pub(crate) struct Shelf {
     ring: Ring,
@@ -44,6 +48,7 @@ impl Shelf {
         requires some { 0 < window }
         requires few { window ≤ MAX_WIDE_WINDOW }
         ensures kept { IfOk result (λ shelf. IsKept shelf) }
+        ensures tight { IfOk result (λ shelf. IsTight shelf) }
         ensures empty { IfOk result (λ shelf. slots_on shelf ≡ replicate window None) }
     {
         Ok(Shelf {
@@ -75,10 +80,20 @@ impl Shelf {
     /// Returns the number of segments, together with the spare ones.
     #[tactic(auto, using(crate::proofs::HeldLemmas::segments_few))]
     pub(crate) fn segments(&self) -> usize
-        requires { IsKept self.now }
-        ensures { result ≤ count_held (slots_on self.now) + 1 + MAX_SPARE }
+        requires kept { IsKept self.now }
+        requires tight { IsTight self.now }
+        ensures { result ≤ count_held (slots_on self.now) + MAX_SPARE }
     {
         self.segments.count()
+    }
+
+    /// Returns the memory of all segments in bytes, together with the spare memory.
+    pub(crate) fn memory(&self) -> usize
+        requires kept { IsKept self.now }
+        requires tight { IsTight self.now }
+        ensures { result ≤ MAX_SPARE * SEGMENT_BYTES + 2 * slots_bytes (slots_on self.now) }
+    {
+        self.segments.memory()
     }
 
     /// Returns the message in a slot, or `None` if the slot is empty or doesn't exist.
@@ -143,6 +158,33 @@ impl Shelf {
         }
     }
 
+    /// Returns the room that all stored messages need in a batch.
+    pub(crate) fn room(&self) -> Room {
+        Room {
+            messages: self.held as usize,
+            bytes: self.segments.used(),
+        }
+    }
+
+    /// Returns the room that the messages from a slot on need in a batch, up to the first empty slot.
+    pub(crate) fn room_of_run(&self, slot: usize) -> Room
+        requires { IsKept self.now }
+    {
+        let mut room = Room {
+            messages: 0,
+            bytes: 0,
+        };
+        let mut slot = slot;
+        while let Some(run) = self.run(slot) {
+            room = room.and(Room {
+                messages: run.count,
+                bytes: run.bytes.len(),
+            });
+            slot += run.count;
+        }
+        room
+    }
+
     /// Returns whether the slot exists and has a message.
     pub(crate) fn has(&self, slot: usize) -> bool
         ensures { result ≡ is_some (slot_at (slots_on self.now) slot) }
@@ -157,25 +199,31 @@ impl Shelf {
         slot < self.ring.len() as u64 && !self.has(slot as usize)
     }
 
-    /// Copies a packet's blocks into a segment, and returns the place where they begin. If an allocation fails, it
-    /// returns an error and the slots are unchanged.
-    pub(crate) fn append(&mut self, alloc: Global, bytes: &[u8]) -> Result<Place, AllocError>
-        requires { IsKept self.old }
-        ensures kept { IsKept self.new }
-        ensures same { slots_on self.new ≡ slots_on self.old }
-        ensures added { IfOk result (λ place. IsAppended self.new.segments place bytes.now) }
+    // Returns the segment of the message before `count` slots, or of the one after them.
+    fn beside(&self, slot: usize, count: usize) -> Option<u32>
+        requires { slot + count < 2 ^ 64 }
+        ensures { IfSome result (λ key. IsBeside self.now.ring slot (slot + count) key) }
     {
-        self.segments.append(alloc, bytes)
+        if slot > 0 {
+            if let Some(place) = self.ring.get(slot - 1) {
+                return Some(place.segment);
+            }
+        }
+        match self.ring.get(slot + count) {
+            Some(place) => Some(place.segment),
+            None => None,
+        }
     }
 
-    // Puts a message into an empty slot. The message's block starts at the place.
-    fn mark(&mut self, slot: usize, place: Place)
+    /// Puts a message into an empty slot. The message's block starts at the place.
+    pub(crate) fn mark(&mut self, slot: usize, place: Place)
         requires kept { IsKept self.old }
         requires free { IsTrue (is_fresh (slots_on self.old) slot) }
         requires there { IsBlockAt (bytes_at self.old.segments place.segment) place.start }
         requires some { place.start < NO_START }
         ensures kept { IsKept self.new }
         ensures bytes { (key : ℕ) → bytes_at self.new.segments key ≡ bytes_at self.old.segments key }
+        ensures ring { self.new.ring ≡ slice_set self.old.ring slot (Some place) }
         ensures marked { slots_on self.new ≡
             slice_set (slots_on self.old) slot (Some (message_on self.old.segments place)) }
     {
@@ -185,33 +233,32 @@ impl Shelf {
         self.ring.write(slot, place);
     }
 
-    /// Puts a message into a slot, if the slot exists and is empty, and returns whether it did. The message's block
-    /// starts at the place.
-    pub(crate) fn mark_free(&mut self, slot: u64, place: Place) -> bool
+    /// Makes a segment of these bytes, and returns the place where they begin. If an allocation fails, it returns an
+    /// error and the slots are unchanged.
+    pub(crate) fn add_segment(&mut self, alloc: Global, bytes: &[u8]) -> Result<Place, AllocError>
         requires kept { IsKept self.old }
-        requires there { IsBlockAt (bytes_at self.old.segments place.segment) place.start }
-        requires some { place.start < NO_START }
+        requires some { 0 < length bytes.now }
         ensures kept { IsKept self.new }
-        ensures bytes { (key : ℕ) → bytes_at self.new.segments key ≡ bytes_at self.old.segments key }
-        ensures marked { slots_on self.new ≡
-            put_fresh (slots_on self.old) slot (message_on self.old.segments place) }
-        ensures told { result ≡ is_fresh (slots_on self.old) slot }
+        ensures same { slots_on self.new ≡ slots_on self.old }
+        ensures ring { self.new.ring ≡ self.old.ring }
+        ensures added { IfOk result
+            (λ place. HasAppended self.old.segments self.new.segments place bytes.now) }
+        ensures new { IfOk result (λ place. bytes_at self.old.segments place.segment ≡ []) }
+        ensures left { OnErr result (AreLeft self.old.segments self.new.segments) }
     {
-        if !self.is_free(slot) {
-            return false;
-        }
-        self.mark(slot as usize, place);
-        true
+        self.segments.append(alloc, None, bytes)
     }
 
-    /// Puts the messages of a packet into the slots from `slot` on, which are empty. Their blocks start at the place
-    /// `begin`.
-    pub(crate) fn mark_all(&mut self, slot: usize, begin: Place, blocks: &Blocks<'_>)
+    // Puts the messages of a packet into the slots from `slot` on, which are empty. Their blocks start at the place
+    // `begin`.
+    fn mark_all(&mut self, slot: usize, begin: Place, blocks: &Blocks<'_>)
         requires kept { IsKept self.old }
         requires free { AreFree (slots_on self.old) slot (length blocks.now) }
         requires each { AllByRecursion IsMessage blocks.now }
         requires there { IsAppended self.old.segments begin (packed blocks.now) }
         ensures kept { IsKept self.new }
+        ensures marked { HasMarked self.old self.new slot (slot + length blocks.now) begin.segment
+            (length (packed blocks.now)) }
         ensures filled { slots_on self.new ≡ filled (slots_on self.old) slot blocks.now }
     {
         let count = blocks.len();
@@ -221,14 +268,39 @@ impl Shelf {
         self.held += u32::from(count);
     }
 
-    /// Drops the first `count` slots and appends as many empty ones. If no slot has a message, nothing needs to
-    /// change.
+    /// Puts the messages of a packet into the slots from `slot` on, which are empty. If an allocation fails, it returns
+    /// an error and the slots are unchanged.
+    pub(crate) fn keep_all(
+        &mut self,
+        alloc: Global,
+        slot: usize,
+        blocks: &Blocks<'_>,
+    ) -> Result<(), AllocError>
+        requires kept { IsKept self.old }
+        requires tight { IsTight self.old }
+        requires free { AreFree (slots_on self.old) slot (length blocks.now) }
+        ensures kept { IsKept self.new }
+        ensures tight { IsTight self.new }
+        ensures filled { OnOk result (slots_on self.new ≡ filled (slots_on self.old) slot blocks.now) }
+        ensures same { OnErr result (slots_on self.new ≡ slots_on self.old) }
+    {
+        let beside = self.beside(slot, usize::from(blocks.len()));
+        let begin = self.segments.append(alloc, beside, blocks.bytes())?;
+        self.mark_all(slot, begin, blocks);
+        Ok(())
+    }
+
+    /// Drops the first `count` slots and appends as many empty ones. The slot after the dropped ones must be empty. If
+    /// no slot has a message, nothing needs to change.
     // This runs for each datagram. `receiver.rt` says why it is `inline(always)`.
     #[inline(always)]
     pub(crate) fn skip(&mut self, count: usize)
         requires kept { IsKept self.old }
+        requires tight { IsTight self.old }
         requires within { count ≤ length (slots_on self.old) }
+        requires ends { slot_at (slots_on self.old) count ≡ None }
         ensures kept { IsKept self.new }
+        ensures tight { IsTight self.new }
         ensures moved { slots_on self.new ≡ drop count (slots_on self.old) ++ replicate count None }
     {
         if self.held > 0 {
@@ -239,8 +311,11 @@ impl Shelf {
     // Drops the first `count` slots with their messages, and appends as many empty ones.
     fn drop_first(&mut self, count: usize)
         requires kept { IsKept self.old }
+        requires tight { IsTight self.old }
         requires within { count ≤ length (slots_on self.old) }
+        requires ends { slot_at (slots_on self.old) count ≡ None }
         ensures kept { IsKept self.new }
+        ensures tight { IsTight self.new }
         ensures moved { slots_on self.new ≡ drop count (slots_on self.old) ++ replicate count None }
     {
         self.held -= release(&mut self.segments, &mut self.ring, count);
@@ -261,6 +336,10 @@ impl Shelf {
         requires numbered { first + count < 2 ^ 64 }
         ensures { IsTrue result ↔ AreFree (slots_on self.now) first count }
     {
+        // For speed: one slot's place tells whether it is empty.
+        if count == 1 {
+            return self.is_free(first);
+        }
         let end = first + count;
         end <= self.ring.len() as u64 && self.is_clear(first as usize, end as usize)
     }

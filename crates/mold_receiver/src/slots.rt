@@ -1,16 +1,18 @@
 //! The slots of the store, as the receiver uses them.
 
-ghost use Rattle.std.specs.Prelude.{◌≡◌, ◌↔◌, IsTrue, ◌+◌, ◌^◌, ◌<◌, ◌≤◌, ◌++◌, length, drop, replicate, IfOk};
+ghost use Rattle.std.specs.Prelude.{◌≡◌, ◌↔◌, IsTrue, ◌+◌, ◌*◌, ◌^◌, ◌<◌, ◌≤◌, ◌++◌, length, drop, replicate, IfOk};
 ghost use Rattle.std.specs.Prelude.{IfNone, IfSome, OnOk, OnErr, None};
 ghost use Rattle.std.specs.Option.{option_copied};
 ghost use Rattle.mold_receiver.specs.Keeping.{filled, fresh};
 ghost use Rattle.mold_receiver.specs.Run.{IsRunAt};
-ghost use Rattle.mold_receiver.specs.Slots.{slot_at, count_held, AreEmpty, IsFirstEmpty, IsNextHeld};
+ghost use Rattle.mold_receiver.specs.Slots.{slot_at, slots_bytes, count_held, AreEmpty, IsFirstEmpty, IsNextHeld};
+ghost use Rattle.mold_receiver.specs.declared.segment.TheConstants.{SEGMENT_BYTES};
 ghost use Rattle.mold_receiver.specs.declared.segments.TheConstants.{MAX_SPARE};
 ghost use Rattle.mold_wire.specs.declared.limits.TheConstants.{MAX_WIDE_WINDOW};
 ghost use Rattle.mold_wire.specs.declared.header.TheConstants.{END_OF_SESSION};
 
 use crate::keep::keep_fresh;
+use crate::room::Room;
 use crate::run::Run;
 use crate::shelf::Shelf;
 use mold_wire::Blocks;
@@ -32,12 +34,13 @@ impl Model for Slots {
     ghost use Rattle.std.specs.Prelude.{List};
     ghost use Rattle.mold_receiver.specs.Slots.{Slot};
     ghost use Rattle.mold_receiver.specs.Shelf.{IsKept, slots_on};
+    ghost use Rattle.mold_receiver.specs.Tight.{IsTight};
 
     ghost Value = { List Slot };
 
     ghost view = { λ s. slots_on s.shelf };
 
-    ghost invariant = { λ s. IsKept s.shelf };
+    ghost invariant = { λ s. IsKept s.shelf × IsTight s.shelf };
 }
 
 impl Slots {
@@ -69,9 +72,16 @@ impl Slots {
 
     /// Returns the number of segments of the store, together with the spare ones.
     pub(crate) fn segments(&self) -> usize
-        ensures { result ≤ count_held self.now + 1 + MAX_SPARE }
+        ensures { result ≤ count_held self.now + MAX_SPARE }
     {
         self.shelf.segments()
+    }
+
+    /// Returns the memory of all segments in bytes, together with the spare memory.
+    pub(crate) fn memory(&self) -> usize
+        ensures { result ≤ MAX_SPARE * SEGMENT_BYTES + 2 * slots_bytes self.now }
+    {
+        self.shelf.memory()
     }
 
     /// Returns the message in a slot, or `None` if the slot is empty or doesn't exist.
@@ -88,6 +98,16 @@ impl Slots {
         ensures none { IfNone result (slot_at self.now slot ≡ None) }
     {
         self.shelf.run(slot)
+    }
+
+    /// Returns the room that all stored messages need in a batch.
+    pub(crate) fn room(&self) -> Room {
+        self.shelf.room()
+    }
+
+    /// Returns the room that the messages from a slot on need in a batch, up to the first empty slot.
+    pub(crate) fn room_of_run(&self, slot: usize) -> Room {
+        self.shelf.room_of_run(slot)
     }
 
     /// Puts each of the packet's messages into its slot, if the slot exists and is empty. Returns how many it put.
@@ -109,12 +129,13 @@ impl Slots {
         keep_fresh(alloc, &mut self.shelf, first, blocks)
     }
 
-    /// Drops the first `count` slots and appends as many empty ones. If no slot has a message, nothing needs to
-    /// change.
+    /// Drops the first `count` slots and appends as many empty ones. The slot after the dropped ones must be empty. If
+    /// no slot has a message, nothing needs to change.
     // This runs for each datagram. `receiver.rt` says why it is `inline(always)`.
     #[inline(always)]
     pub(crate) fn skip(&mut self, count: usize)
-        requires { count ≤ length self.old }
+        requires within { count ≤ length self.old }
+        requires ends { slot_at self.old count ≡ None }
         ensures { self.new ≡ drop count self.old ++ replicate count None }
     {
         self.shelf.skip(count);

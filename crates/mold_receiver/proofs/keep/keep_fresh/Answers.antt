@@ -16,8 +16,8 @@ on_err : {T E : Type 0} {P : Type 0} (r : Result T E) → P → OnErr r P
 on_err (Ok x) p = tt
 on_err (Err e) p = p
 
-pub returns-in_err-begin-clause-needed : goal.returns-in_err-begin-clause-needed
-returns-in_err-begin-clause-needed c =
+pub returns-in_err-keep_all-clause-needed : goal.returns-in_err-keep_all-clause-needed
+returns-in_err-keep_all-clause-needed c =
     let slots = slots_on c.args.shelf.now in
     let free : AreFree slots c.args.first (length c.args.blocks.now) =
     subst (λ (n : ℕ). AreFree slots c.args.first n) (c.from.ensures ∙ c.len-count.ensures.length)

@@ -1,9 +1,11 @@
-use Rattle.std.proofs.Common.{◌≡◌, ◌+◌, ◌-◌, ◌<◌, ◌≤◌, min, length, subst, sym, ap, ◌∙◌, arith, None, refl}
+use Rattle.std.proofs.Common.{◌≡◌, ◌+◌, ◌-◌, ◌<◌, ◌≤◌, min, length, length-append, length-drop, drop, ℕ, subst, sym, ap, ◌∙◌, arith, None, refl}
 use Rattle.std.specs.Prelude.{Result, Ok, Err, OnErr}
 use Rattle.mold_wire.specs.declared.packet.Body.TheVariants.{Data}
 use Rattle.mold_receiver.specs.declared.taken.Taken.{Taken}
 use Rattle.mold_receiver.specs.Batch.{followed_by}
-use Rattle.mold_receiver.specs.Handing.{HasNext, run_of}
+use Rattle.mold_receiver.specs.Handing.{HasNext, run_in, run_of}
+use Rattle.mold_receiver.specs.Slots.{slot_at}
+use Rattle.mold_receiver.proofs.RunLemmas.{ends_within, run_ends}
 use Rattle.mold_receiver.specs.Receive.{TakesMemory, data_packet, handed_on, view_after, taken_of}
 use Rattle.mold_rule.specs.Refusals.{past_end}
 use Rattle.mold_receiver.specs.View.{View, IsWellFormed, view_over}
@@ -113,3 +115,28 @@ returns-in_err-next-clause-needed c =
       some_handed a.session a.next a.known a.ended a.slots c.args.first c.args.top blocks c.self.invariant begun ahead
           c.requires.packet.ends,
     )))
+
+pub skip-requires-clause-ends : goal.skip-requires-clause-ends
+skip-requires-clause-ends c =
+    let a = c.self.inside in
+    let blocks = c.args.blocks.now in
+    let begun = subst (λ (v : View). c.args.first ≤ v.next) (sym c.self.view_is) c.requires.packet.begun in
+    let ahead = subst (λ (v : View). v.next < c.args.top) (sym c.self.view_is) c.requires.packet.ahead in
+    let new : c.in_ok-next.next ≡ a.next + length (run_of a.slots a.next c.args.first c.args.top blocks) =
+    (rw c.in_ok-next.was at c.hand_on.ensures.handed).after in
+    let run = run_in a.slots (c.args.top - a.next) in
+    let handed : c.in_ok-next.next - a.next ≡ c.args.top - a.next + length run =
+    omega (
+      arith,
+      new,
+      length-append (drop (a.next - c.args.first) blocks) run,
+      length-drop (a.next - c.args.first) blocks,
+      begun,
+      ahead,
+      c.requires.packet.ends,
+    ) in
+    let count : c.min-count.result ≡ min (c.args.top - a.next + length run) (length a.slots) =
+    c.min-count.ensures ∙ ap (min (c.in_ok-next.next - a.next)) c.len.ensures.length
+    ∙ ap (λ (n : ℕ). min n (length a.slots)) handed in
+    ap (λ (n : ℕ). slot_at a.slots n) count
+    ∙ ends_within a.slots (c.args.top - a.next + length run) (run_ends a.slots (c.args.top - a.next))

@@ -2,6 +2,8 @@ use Rattle.std.proofs.Common.{◌≡◌, ◌+◌, ◌-◌, ◌<◌, ◌≤◌, �
 use Rattle.std.specs.Prelude.{Result, Ok, Err, OnErr}
 use Rattle.mold_receiver.specs.Batch.{followed_by}
 use Rattle.mold_receiver.specs.Handing.{run_in}
+use Rattle.mold_receiver.specs.Slots.{slot_at}
+use Rattle.mold_receiver.proofs.RunLemmas.{ends_within, run_ends}
 use Rattle.mold_receiver.specs.Skip.{skipped, skipped_run}
 use Rattle.mold_receiver.specs.Store.{Message}
 use Rattle.mold_receiver.specs.View.{View, IsWellFormed, view_over}
@@ -118,3 +120,13 @@ returns-in_err-end-clause-needed c =
     on_err c.from_residual.result
     (subst (λ (t : List Message). 0 < length t) (sym run ∙ ap (λ (w : View). skipped_run w c.args.to) c.self.view_is)
     (rw c.in_err-end.was at c.hand_stored.ensures.needed))
+
+pub skip-requires-clause-ends : goal.skip-requires-clause-ends
+skip-requires-clause-ends c =
+    let a = c.self.inside in
+    let start = c.args.to - a.next in
+    let end : c.in_ok-end.end ≡ start + length (run_in a.slots start) =
+    rw c.in_ok-end.was at c.hand_stored.ensures.stopped in
+    ap (λ (n : ℕ). slot_at a.slots n)
+    (c.min.ensures ∙ ap (min c.in_ok-end.end) c.len.ensures.length ∙ ap (λ (n : ℕ). min n (length a.slots)) end)
+    ∙ ends_within a.slots (start + length (run_in a.slots start)) (run_ends a.slots start)

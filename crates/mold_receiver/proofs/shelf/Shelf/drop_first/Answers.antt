@@ -1,5 +1,7 @@
 use Rattle.std.proofs.Common.{arith}
 use Rattle.mold_receiver.proofs.SkipLemmas.{held_first, kept_skipped, skipped}
+use Rattle.mold_receiver.proofs.ShelfLemmas.{no_place}
+use Rattle.mold_receiver.proofs.TightLemmas.{tight_skipped}
 use Rattle.mold_receiver.proofs.shelf.Shelf.drop_first.Goals as goal
 
 pub overflow_sub-self : goal.overflow_sub-self
@@ -24,3 +26,10 @@ returns-clause-moved c =
     let old = c.args.self.now in
     skipped old c.release.new.ring c.release.new.segments c.args.count c.requires.kept c.requires.within
     c.release.ensures.moved c.release.ensures.whole c.release.ensures.lost
+
+pub returns-clause-tight : goal.returns-clause-tight
+returns-clause-tight c =
+    let old = c.args.self.now in
+    tight_skipped old c.args.count c.requires.kept c.requires.tight
+    (no_place old.segments old.ring c.args.count c.requires.ends) _ c.requires.within c.release.ensures.moved
+    c.release.ensures.whole c.release.ensures.lost

@@ -4,6 +4,7 @@ use Rattle.mold_receiver.specs.Shelf.{slots_on}
 use Rattle.mold_receiver.proofs.PlacedLemmas.{blocks_long, filled_on, kept_filled}
 use Rattle.mold_receiver.proofs.ShelfLemmas.{count_held_in}
 use Rattle.mold_receiver.proofs.SlotLemmas.{count_within}
+use Rattle.mold_receiver.proofs.TightLemmas.{marked_all}
 use Rattle.mold_receiver.proofs.shelf.Shelf.mark_all.Goals as goal
 
 pub hold-requires-clause-some : goal.hold-requires-clause-some
@@ -52,3 +53,8 @@ returns-clause-filled c =
     c.requires.there c.write_blocks.new.self c.hold.new.self c.write_blocks.ensures
     (subst (λ (n : ℕ). HasGained old.segments c.hold.new.self c.args.begin.segment n)
     (c.from-2.ensures ∙ c.len-count.ensures.length) c.hold.ensures.gained)
+
+pub returns-clause-marked : goal.returns-clause-marked
+returns-clause-marked c =
+    marked_all c.args.self.now c.args.slot c.args.begin c.args.blocks.now c.requires.kept c.requires.free
+    c.requires.each c.requires.there _ c.write_blocks.ensures c.hold.ensures.gained.bytes

@@ -1,0 +1,12 @@
+use Rattle.std.proofs.Common.{◌≡◌, ◌+◌, ◌-◌, ◌*◌, ◌<◌, ◌^◌, min, length}
+use Rattle.slab.specs.Slab.{entries}
+use Rattle.mold_receiver.specs.Segments.{memory_of}
+use Rattle.mold_receiver.proofs.segments.Segments.memory.Given as goal
+
+abbrev pub invariant-loop-segment : goal.invariant-loop-segment
+invariant-loop-segment l = record {
+  fits : l.memory < 2 ^ 64;
+  sum :
+      min (l.memory + memory_of l.segment-iterator) (2 ^ 64 - 1) ≡ min
+      (length l.self.spare.items * 16384 + memory_of (entries l.self.table)) (2 ^ 64 - 1);
+}
