@@ -3,6 +3,7 @@ use Rattle.std.proofs.Common.{◌≡◌, ℕ, ◌+◌, ◌-◌, ◌*◌, ◌<◌
 use Rattle.std.proofs.Common.{IfErr, IfOk, IfSome, OnErr, OnOk, MatchOption, Option, None, Some, Result, Ok, Err}
 use Rattle.std.proofs.Common.{refl, ap, ◌∙◌, sym, subst, arith, inl, inr}
 use Rattle.std.proofs.Math.Nat.{mul-le-mul_left}
+use Rattle.std.proofs.lemmas.Bool.{cases_lt}
 use Rattle.mold_pacing.specs.Laws.{AreApart, count_asks}
 use Rattle.mold_pacing.specs.Polls.{HasAsked, IsIdle}
 use Rattle.mold_pacing.specs.Run.{IsRun, Takes}
@@ -22,10 +23,10 @@ use Rattle.mold_receiver.specs.declared.line.Line.{Line as TheLine}
 use Rattle.mold_receiver.specs.declared.taken.Taken.{Taken}
 use Rattle.mold_repair.specs.Came.{range}
 use Rattle.mold_repair.specs.GivingUp.{IsKept, IsLost}
-use Rattle.mold_repair.specs.Laws.{AreAllPacerSteps, AreInOrder, ArePacerSteps, HasNumbers, IsPaced, listed, requests_of, returned_all}
+use Rattle.mold_repair.specs.Laws.{AreAllPacerSteps, AreInOrder, ArePacerSteps, ArePollSteps, HasNumbers, IsPaced, listed, requests_of, returned_all}
 use Rattle.mold_repair.specs.Options.{tolerance}
 use Rattle.mold_repair.specs.Origin.{receiver_origin}
-use Rattle.mold_repair.specs.Polls.{HasPolled, HasRequested, IsStill, returned}
+use Rattle.mold_repair.specs.Polls.{HasPolled, HasRequested, HaveRequested, IsStill, returned}
 use Rattle.mold_repair.specs.Run.{HasStepped, IsRepaired, IsStepOf, after_lost, delivers, nothing}
 use Rattle.mold_repair.specs.Taking.{HasLearned, HasPassed, no_ask, taken_steps}
 use Rattle.mold_repair.specs.declared.ask.Ask.{Ask}
@@ -36,6 +37,7 @@ use Rattle.mold_repair.specs.declared.step.RepairStep.{RepairStep}
 use Rattle.mold_repair.specs.declared.step.RepairStep.TheVariants.{Lost, Pass, Poll, Take}
 use Rattle.mold_rule.specs.declared.refusal.Refusal.{Refusal}
 use Rattle.mold_wire.specs.declared.session.Session.{Session}
+use Rattle.mold_repair.proofs.PollLemmas.{returned_none}
 
 -- The law of the receiver that is used.
 abbrev pub TakenLaw : Type 0
@@ -228,19 +230,76 @@ paced_sent give_up v old new None still = (
 )
 paced_sent give_up v old new (Some sent) did = (did.gaps, did.asked)
 
+-- A run of polls with these requests.
+pub record HasPolls (old new : Pacer) (sent : List (Option Sent)) : Type 0 where
+  pub steps : List Step
+  pub are : ArePollSteps steps
+  pub ran : IsRun old new steps sent
+
+one_poll : (give_up : ℕ) (v : View) (old new : Pacer) (sent : Option Sent)
+    → MatchOption sent (IsStill give_up v old new) (HasRequested give_up v old new) → HasPolls old new (sent ∷ [])
+one_poll give_up v old new sent did =
+    let gave = paced_sent give_up v old new sent did in
+    let step = PollGaps (record { ref_ptr = (0, 0); now = gave.0 }) in
+    record {
+      steps = step ∷ [];
+      are = (tt, tt);
+      ran = (new, gave.1, refl);
+    }
+
+all_polls : (give_up : ℕ) (v : View) (old after new : Pacer) (sent : List Sent) → HaveRequested give_up v old after sent
+    → IsStill give_up v after new → HasPolls old new (map Some sent ++ None ∷ [])
+all_polls give_up v old after new [] have still =
+    subst (λ (p : Pacer). HasPolls p new (None ∷ [])) have (one_poll give_up v after new None still)
+all_polls give_up v old after new (ask ∷ sent) have still =
+    let rest = all_polls give_up v have.0 after new sent have.2 still in
+    let step = PollGaps (record { ref_ptr = (0, 0); now = have.1.gaps }) in
+    record {
+      steps = step ∷ rest.steps;
+      are = (tt, rest.are);
+      ran = (have.0, have.1.asked, rest.ran);
+    }
+
+none_served : (session : Session) (servers : ℕ) (sent : List Sent) (rest : List (Option Sent)) → servers ≡ 0 →
+    returned_all session servers ((map Some sent ++ None ∷ []) ++ rest) ≡ returned_all session servers rest
+none_served session servers [] rest zero = refl
+none_served session servers (ask ∷ sent) rest zero =
+    ap (λ (a : Option Ask). listed a (returned_all session servers ((map Some sent ++ None ∷ []) ++ rest)))
+    (returned_none session servers ask zero)
+    ∙ none_served session servers sent rest zero
+
+paced_polls : (old new : Repairer) (time : ℕ) (o : Outcome) (between : Pacer) (sent : List (Option Sent))
+    → Takes old.pacer between (Advance time old.arbiter.view.known) None → HasPolls between new.pacer sent
+    → ((rest : List (Option Sent)) →
+    returned_all old.arbiter.view.session old.options.servers (sent ++ rest)
+    ≡ listed o.ask (returned_all old.arbiter.view.session old.options.servers rest)) → IsPacedStep old new (Poll time) o
+paced_polls old new time o between sent took polls requests = record {
+  steps = Advance time old.arbiter.view.known ∷ polls.steps;
+  sent = None ∷ sent;
+  are = (old.arbiter.view.known, polls.steps, polls.are, refl);
+  ran = (between, took, polls.ran);
+  requests = requests;
+}
+
 paced_poll : (old new : Repairer) (time : ℕ) (o : Outcome)
     → HasPolled old.options old.arbiter.view old.pacer new.pacer time o.ask → IsPacedStep old new (Poll time) o
 paced_poll old new time o did =
-    let gave = paced_sent old.options.give_up old.arbiter.view did.between new.pacer did.sent did.polled in
-    let step = PollGaps (record { ref_ptr = (0, 0); now = gave.0 }) in
-    record {
-      steps = Advance time old.arbiter.view.known ∷ step ∷ [];
-      sent = None ∷ did.sent ∷ [];
-      are = (old.arbiter.view.known, step, tt, refl);
-      ran = (did.between, did.time, (new.pacer, gave.1, refl));
-      requests = λ rest.
-          ap (λ (a : Option Ask). listed a (returned_all old.arbiter.view.session old.options.servers rest)) (sym did.answer);
-    }
+    let v = old.arbiter.view in
+    let servers = old.options.servers in
+    elim (cases_lt 0 servers) [
+      | inl some ↦
+          let one = did.some some in
+          paced_polls old new time o did.between (one.sent ∷ []) did.time
+          (one_poll old.options.give_up v did.between new.pacer one.sent one.polled)
+          (λ rest. ap (λ (a : Option Ask). listed a (returned_all v.session servers rest)) (sym one.answer))
+      | inr none ↦
+          let zero : servers ≡ 0 = omega (arith, none) in
+          let all = did.none zero in
+          paced_polls old new time o did.between (map Some all.1.sent ++ None ∷ []) did.time
+          (all_polls old.options.give_up v did.between all.1.after new.pacer all.1.sent all.1.requested all.1.still)
+          (λ rest. none_served v.session servers all.1.sent rest zero
+          ∙ ap (λ (a : Option Ask). listed a (returned_all v.session servers rest)) (sym all.0))
+    ]
 
 paced_lost : (old new : Repairer) (time : ℕ) (o : Outcome) (handed : Handed) (between : Pacer) (lost : Option Gap)
     → o.ask ≡ None → Takes old.pacer between (Advance time old.arbiter.view.known) None

@@ -1,5 +1,6 @@
 pub mod TakingLemmas
 pub mod GapLemmas
+pub mod RoomLemmas
 pub mod PollLemmas
 pub mod GivingUpLemmas
 pub mod RunLemmas

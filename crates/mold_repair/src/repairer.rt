@@ -1,13 +1,12 @@
 //! The repairer: a receiver of two lines that requests what is missing.
 
-ghost use Rattle.std.specs.Prelude.{◌≡◌, ◌≤◌, ◌<◌, ◌^◌, true, vec_capacity};
+ghost use Rattle.std.specs.Prelude.{◌≡◌, ◌≤◌, ◌<◌, ◌^◌, true};
 ghost use Rattle.mold_repair.specs.Options.{ArePacerOptions, are_options};
-ghost use Rattle.mold_repair.specs.declared.gaps.TheConstants.{GAPS as THE_GAPS};
 
 use crate::ask::Ask;
 use crate::came::{came_below, is_timed, numbers_of, report};
 use crate::error::RepairError;
-use crate::gaps::{GAPS, find_free};
+use crate::gaps::find_free;
 use crate::options::RepairOptions;
 use crate::origin::RepairOrigin;
 use crate::stats::{RepairCounts, RepairStats};
@@ -29,11 +28,8 @@ pub struct Repairer {
     // The delays between the lines.
     delays: Delays,
     counts: RepairCounts,
-    // Buffer for the gaps that are looked at, so that no call takes memory for them.
-    gaps: Vec<Gap>,
     ghost valid: { are_options options ≡ true },
     ghost paced: { ArePacerOptions options pacer.options },
-    ghost room: { THE_GAPS ≤ vec_capacity gaps },
 }
 
 impl Repairer {
@@ -51,7 +47,7 @@ impl Repairer {
     ghost use Rattle.mold_repair.specs.GivingUp.{HasGivenUp, IsGivenUp, is_due};
     ghost use Rattle.mold_repair.specs.Missing.{IsMissing, IsWanted};
     ghost use Rattle.mold_repair.specs.Origin.{receiver_origin};
-    ghost use Rattle.mold_repair.specs.Polls.{HasPolled, HasRequested, IsDeadline, IsStill};
+    ghost use Rattle.mold_repair.specs.Polls.{HasPolled, HasRequested, HasSentAll, IsDeadline, IsStill, NoneCanBeSent};
     ghost use Rattle.mold_repair.specs.Stats.{counted_answer, counted_lost, counted_poll, no_counts};
     ghost use Rattle.mold_repair.specs.StatsOf.{IsStats};
     ghost use Rattle.mold_repair.specs.Taking.{HasLearned, HasPassed, taken_steps};
@@ -87,9 +83,6 @@ impl Repairer {
         let Ok(delays) = Delays::new(alloc) else {
             return Err(RepairError::Memory);
         };
-        let Ok(gaps) = Vec::with_capacity(alloc, GAPS) else {
-            return Err(RepairError::Memory);
-        };
         Ok(Repairer {
             arbiter,
             pacer,
@@ -101,7 +94,6 @@ impl Repairer {
                 useless: 0,
                 lost: 0,
             },
-            gaps,
         })
     }
 
@@ -285,12 +277,24 @@ impl Repairer {
         if !self.pacer.can_send() {
             return None;
         }
-        find_free(&self.arbiter, &self.pacer, &mut self.gaps)?;
-        self.pacer.poll(&self.gaps)
+        let gap = find_free(&self.arbiter, &self.pacer)?;
+        self.pacer.poll(&[gap])
+    }
+
+    // Sends all requests that may be sent now.
+    fn send_all(&mut self)
+        ensures sent { HasSentAll self.old.options.give_up self.old.arbiter.view self.old.pacer self.new.pacer }
+        ensures arbiter { self.new.arbiter ≡ self.old.arbiter }
+        ensures options { self.new.options ≡ self.old.options }
+        ensures counts { self.new.counts ≡ self.old.counts }
+        ensures delays { self.new.delays ≡ self.old.delays }
+    {
+        while self.send().is_some() {}
     }
 
     /// Returns the next request that may be sent at the time `now`, if there is one. It counts as sent. Call it until
     /// it returns none. It takes no memory. While messages are to be given up, it returns none: call `lost` before.
+    /// Without a server it returns none, and each request that could be sent counts for giving up.
     pub fn poll(&mut self, now: u64) -> Option<Ask>
         requires { now < 2 ^ 62 }
         ensures polled { HasPolled self.old.options self.old.arbiter.view self.old.pacer self.new.pacer now result }
@@ -300,10 +304,11 @@ impl Repairer {
         ensures delays { self.new.delays ≡ self.old.delays }
     {
         self.pacer.advance(now, self.arbiter.receiver().known());
-        let sent = self.send()?;
         if self.options.servers == 0 {
+            self.send_all();
             return None;
         }
+        let sent = self.send()?;
         self.counts = self.counts.request();
         Some(Ask {
             request: Request {
@@ -316,25 +321,22 @@ impl Repairer {
     }
 
     // Returns the time before which no request can be sent, if no datagram comes.
-    fn sends(&mut self) -> u64
-        ensures now { self.old.pacer.state.now ≤ result }
-        ensures still { (time number : ℕ) → self.old.pacer.state.now ≤ time → time < result →
-            IsWanted self.old.arbiter.view self.old.pacer.state.ripe number → CanAsk self.old.pacer time number → ⊥ }
-        ensures bound { (number : ℕ) → IsWanted self.old.arbiter.view self.old.pacer.state.ripe number →
-            result ≤ self.old.pacer.state.now + max self.old.pacer.options.ceiling self.old.pacer.options.interval }
-        ensures same { (time i : ℕ) (f : Flight) → 0 < self.old.options.give_up → time < result →
-            slice_get self.old.pacer.flights.items i ≡ Some f → f.until ≤ time → f.until ≤ self.old.pacer.state.now }
-        ensures pacer { self.new.pacer ≡ self.old.pacer }
-        ensures arbiter { self.new.arbiter ≡ self.old.arbiter }
-        ensures options { self.new.options ≡ self.old.options }
-        ensures counts { self.new.counts ≡ self.old.counts }
-        ensures delays { self.new.delays ≡ self.old.delays }
+    fn sends(&self) -> u64
+        ensures now { self.now.pacer.state.now ≤ result }
+        ensures later { NoneCanBeSent self.now.arbiter.view self.now.pacer self.now.pacer.state.now →
+            self.now.pacer.state.now < result }
+        ensures still { (time : ℕ) → self.now.pacer.state.now ≤ time → time < result →
+            NoneCanBeSent self.now.arbiter.view self.now.pacer time }
+        ensures bound { (number : ℕ) → IsWanted self.now.arbiter.view self.now.pacer.state.ripe number →
+            result ≤ self.now.pacer.state.now + max self.now.pacer.options.ceiling self.now.pacer.options.interval }
+        ensures same { (time i : ℕ) (f : Flight) → 0 < self.now.options.give_up → time < result →
+            slice_get self.now.pacer.flights.items i ≡ Some f → f.until ≤ time → f.until ≤ self.now.pacer.state.now }
     {
         let over = self.pacer.next_over();
-        let Some(number) = find_free(&self.arbiter, &self.pacer, &mut self.gaps) else {
+        let Some(gap) = find_free(&self.arbiter, &self.pacer) else {
             return over;
         };
-        let time = self.pacer.deadline(number);
+        let time = self.pacer.deadline(gap.first);
         if self.options.give_up == 0 {
             return time;
         }
@@ -349,6 +351,8 @@ impl Repairer {
         ensures bound { (number : ℕ) → IsMissing self.now.arbiter.view number → self.now.pacer.state.ripe ≤ number →
             result ≤ max self.now.pacer.state.now (self.now.pacer.state.marked + self.now.pacer.state.patience) }
         ensures now { self.now.pacer.state.now ≤ result }
+        ensures later { self.now.pacer.state.now < self.now.pacer.state.marked + self.now.pacer.state.patience →
+            self.now.pacer.state.now < result }
     {
         let state = self.pacer.state();
         match self.arbiter.next_missing(state.ripe) {
@@ -358,8 +362,8 @@ impl Repairer {
     }
 
     /// Returns the time at which to call `lost` and `poll` next, if no datagram comes before: until then both return
-    /// none, and no number becomes ripe. It can be early: then they return none, and the next deadline is later.
-    /// Without a missing message there is no deadline.
+    /// none, and no number becomes ripe. After both returned none, it is later than `now`. It can be early: then they
+    /// return none again. Without a missing message there is no deadline.
     pub fn deadline(&mut self, now: u64) -> Option<u64>
         requires { now < 2 ^ 62 }
         ensures deadline { IfSome result (IsDeadline self.old.options.give_up self.old.arbiter.view self.new.pacer) }

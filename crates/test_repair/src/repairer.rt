@@ -18,6 +18,8 @@ const DATA_2: &[u8] = b"SESSION001\0\0\0\0\0\0\0\x02\0\x01\0\x01B";
 
 const DATA_3: &[u8] = b"SESSION001\0\0\0\0\0\0\0\x03\0\x01\0\x01C";
 
+const DATA_5: &[u8] = b"SESSION001\0\0\0\0\0\0\0\x05\0\x01\0\x01E";
+
 const OPTIONS: RepairOptions = RepairOptions {
     patience: 10,
     timeout: 100,
@@ -179,6 +181,36 @@ fn takes_a_response(rt: HostRuntime) -> Result<(), Fail> {
     let outcomes = run(&mut repairer, rt.alloc(), &steps, &mut batch)?;
     assert!(&rt; outcomes.as_slice() == wanted.as_slice(), "other outcomes");
     assert!(&rt; repairer.next_missing(0).is_none(), "a gap");
+    Ok(())
+}
+
+// Messages 2 and 4 are missing, and there is no server. Each wait counts for both, so both are given up together.
+#[test]
+fn gives_up_without_a_server(rt: HostRuntime) -> Result<(), Fail> {
+    let options = RepairOptions {
+        servers: 0,
+        ..OPTIONS
+    };
+    let mut repairer = repairer(rt.alloc(), options)?;
+    let mut batch = Batch::new(rt.alloc());
+    for datagram in [DATA_1, DATA_3, DATA_5] {
+        batch.clear();
+        let _taken = repairer.take(1, RepairOrigin::Line(Line::A), datagram, &mut batch);
+    }
+    for (time, deadline) in [(10, 20), (20, 120), (120, 320)] {
+        let ask = repairer.poll(time);
+        assert!(&rt; ask.is_none(), "a request to no server");
+        assert!(&rt;
+            repairer.deadline(time) == Some(deadline),
+            "another deadline"
+        );
+    }
+    for (first, end) in [(2, 3), (4, 5)] {
+        batch.clear();
+        let lost = repairer.lost(320, &mut batch)?;
+        assert!(&rt; lost == Some(Gap { first, end }), "other messages are lost");
+    }
+    assert!(&rt; repairer.stats().counts.requests == 0, "a request counts");
     Ok(())
 }
 
