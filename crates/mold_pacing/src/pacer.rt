@@ -78,6 +78,7 @@ impl Pacer {
     }
 
     /// Changes the patience. It counts from the next call of `advance` on.
+    #[inline(always)]
     pub fn adapt(&mut self, patience: u64)
         ensures options { self.new.options ≡ self.old.options }
         ensures state { self.new.state ≡ adapted patience self.old.state }
@@ -227,6 +228,7 @@ impl Pacer {
     }
 
     /// Returns what the pacer knows besides its requests.
+    #[inline(always)]
     pub fn state(&self) -> PacerState
         ensures { result ≡ self.now.state }
     {

@@ -1,3 +1,4 @@
+pub mod HeaderLemmas
 pub mod TakingLemmas
 pub mod GapLemmas
 pub mod RoomLemmas

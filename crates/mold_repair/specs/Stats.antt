@@ -1,28 +1,53 @@
 -- What a repairer counts.
-use Rattle.std.specs.Prelude.{◌+◌, ◌-◌, ◌&&◌, ◌==◌, if◌then◌else◌, Option, None, Some}
+use Rattle.std.specs.Prelude.{◌+◌, ◌-◌, ◌&&◌, ◌==◌, Bool, if◌then◌else◌, Option, None, Some}
 use Rattle.std.specs.Io.Iter.{u64_saturate}
 use Rattle.mold_pacing.specs.declared.gap.Gap.{Gap}
+use Rattle.mold_receiver.specs.declared.line.Line.TheVariants.{A, B}
 use Rattle.mold_receiver.specs.declared.taken.Taken.{Taken}
 use Rattle.mold_repair.specs.declared.ask.Ask.{Ask}
+use Rattle.mold_repair.specs.declared.line_counts.LineCounts.{LineCounts}
 use Rattle.mold_repair.specs.declared.origin.RepairOrigin.{RepairOrigin}
 use Rattle.mold_repair.specs.declared.origin.RepairOrigin.TheVariants.{Line, Server}
 use Rattle.mold_repair.specs.declared.stats.RepairCounts.{RepairCounts}
 
 -- Before anything was counted.
 abbrev pub no_counts : RepairCounts
-no_counts = record { requests = 0; answers = 0; useless = 0; lost = 0 }
+no_counts = record {
+  requests = 0;
+  answers = 0;
+  useless = 0;
+  lost = 0;
+  a = record { first = 0; again = 0 };
+  b = record { first = 0; again = 0 };
+}
 
 -- After a request was returned.
 abbrev pub counted_request : RepairCounts → RepairCounts
 counted_request c = record c { requests = u64_saturate (c.requests + 1) }
 
--- After a datagram was accepted. Only those of servers count.
-abbrev pub counted_answer : RepairOrigin → Taken → RepairCounts → RepairCounts
-counted_answer (Line line) taken c = c
-counted_answer (Server server) taken c =
-    if (taken.handed == 0) && (taken.kept == 0)
+-- Whether no message of the datagram was delivered or stored.
+abbrev pub is_useless : Taken → Bool
+is_useless taken = (taken.handed == 0) && (taken.kept == 0)
+
+-- After a server's datagram was accepted.
+abbrev pub counted_answer : Taken → RepairCounts → RepairCounts
+counted_answer taken c =
+    if is_useless taken
     then record c { answers = u64_saturate (c.answers + 1); useless = u64_saturate (c.useless + 1) }
     else record c { answers = u64_saturate (c.answers + 1) }
+
+-- The counts of a line after a datagram was accepted on it: it brought something new, or only what had come.
+abbrev pub counted_line : Taken → LineCounts → LineCounts
+counted_line taken c =
+    if is_useless taken
+    then record c { again = u64_saturate (c.again + 1) }
+    else record c { first = u64_saturate (c.first + 1) }
+
+-- After a datagram was accepted.
+abbrev pub counted_taken : RepairOrigin → Taken → RepairCounts → RepairCounts
+counted_taken (Line A) taken c = record c { a = counted_line taken c.a }
+counted_taken (Line B) taken c = record c { b = counted_line taken c.b }
+counted_taken (Server server) taken c = counted_answer taken c
 
 -- After these messages were given up.
 abbrev pub counted_loss : Gap → RepairCounts → RepairCounts

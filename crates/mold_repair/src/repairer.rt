@@ -4,15 +4,16 @@ ghost use Rattle.std.specs.Prelude.{◌≡◌, ◌≤◌, ◌<◌, ◌^◌, true
 ghost use Rattle.mold_repair.specs.Options.{ArePacerOptions, are_options};
 
 use crate::ask::Ask;
-use crate::came::{came_below, is_timed, numbers_of, report};
+use crate::came::{came_below, is_timed, report};
 use crate::error::RepairError;
 use crate::gaps::find_free;
+use crate::header::numbers_in;
 use crate::options::RepairOptions;
 use crate::origin::RepairOrigin;
 use crate::stats::{RepairCounts, RepairStats};
 use mold_pacing::{Arrival, Delays, Gap, Pacer};
 use mold_receiver::laws::wanted_law;
-use mold_receiver::{Arbiter, Batch, Refusal, Taken};
+use mold_receiver::{Arbiter, Batch, Line, Refusal, Taken};
 use mold_wire::Request;
 use std::alloc::{AllocError, Global};
 
@@ -44,11 +45,12 @@ impl Repairer {
     ghost use Rattle.mold_receiver.specs.Origin.{line_of};
     ghost use Rattle.mold_receiver.specs.Wanted.{HasNoGap, IsNextGap};
     ghost use Rattle.mold_repair.specs.Came.{noted, numbers};
+    ghost use Rattle.mold_repair.specs.Header.{IsRead};
     ghost use Rattle.mold_repair.specs.GivingUp.{HasGivenUp, IsGivenUp, is_due};
     ghost use Rattle.mold_repair.specs.Missing.{IsMissing, IsWanted};
     ghost use Rattle.mold_repair.specs.Origin.{receiver_origin};
     ghost use Rattle.mold_repair.specs.Polls.{HasPolled, HasRequested, HasSentAll, IsDeadline, IsStill, NoneCanBeSent};
-    ghost use Rattle.mold_repair.specs.Stats.{counted_answer, counted_lost, counted_poll, no_counts};
+    ghost use Rattle.mold_repair.specs.Stats.{counted_lost, counted_poll, counted_taken, no_counts};
     ghost use Rattle.mold_repair.specs.StatsOf.{IsStats};
     ghost use Rattle.mold_repair.specs.Taking.{HasLearned, HasPassed, taken_steps};
     ghost use Rattle.mold_repair.specs.Timing.{IsTimed, adapted_from};
@@ -70,6 +72,7 @@ impl Repairer {
         ensures arrivals { IfOk result (λ repairer. repairer.delays.arrivals.items ≡ no_arrivals) }
         ensures counts { IfOk result (λ repairer. repairer.counts ≡ no_counts) }
         ensures recent { IfOk result (λ repairer. repairer.delays.recent.items ≡ []) }
+        ensures lines { IfOk result (λ repairer. repairer.delays.lines.items ≡ []) }
         ensures ok { OnOk result (are_options options ≡ true) }
         ensures invalid { are_options options ≡ false → result ≡ Err Options }
         ensures memory { are_options options ≡ true → IfErr result (λ error. error ≡ Memory) }
@@ -88,12 +91,7 @@ impl Repairer {
             pacer,
             options,
             delays,
-            counts: RepairCounts {
-                requests: 0,
-                answers: 0,
-                useless: 0,
-                lost: 0,
-            },
+            counts: RepairCounts::new(),
         })
     }
 
@@ -138,6 +136,7 @@ impl Repairer {
     // Adapts the patience, if it adapts and the datagram brought messages on a line.
     #[inline(always)]
     fn adapt(&mut self, origin: RepairOrigin, datagram: &[u8])
+        requires read { IsRead datagram.now }
         ensures timed { IsTimed self.old.options self.old.pacer.state.now origin (numbers (reading datagram.now))
             self.old.delays self.new.delays }
         ensures learned { HasLearned self.old.pacer self.new.pacer
@@ -149,7 +148,7 @@ impl Repairer {
         if self.options.patience != 0 {
             return;
         }
-        let came = numbers_of(datagram);
+        let came = numbers_in(datagram);
         if !is_timed(&self.options, origin, came) {
             return;
         }
@@ -189,20 +188,37 @@ impl Repairer {
         ensures passed { OnErr result (HasPassed now self.old.arbiter.view self.old.pacer self.new.pacer) }
         ensures same { OnErr result (self.new.delays ≡ self.old.delays) }
         ensures options { self.new.options ≡ self.old.options }
-        ensures counted { IfOk result (λ taken. self.new.counts ≡ counted_answer origin taken self.old.counts) }
+        ensures counted { IfOk result (λ taken. self.new.counts ≡ counted_taken origin taken self.old.counts) }
         ensures counts { OnErr result (self.new.counts ≡ self.old.counts) }
     {
         let receiver = self.arbiter.receiver();
         let known = receiver.known();
         let is_missing = receiver.next() < known;
         self.pacer.advance(now, known);
-        let taken = self
+        // For the optimizer: `Taken` is rebuilt field by field, as in `Arbiter::take_from`.
+        match self
             .arbiter
-            .take_from(origin.receiver_origin(), datagram, batch)?;
-        self.learn(origin, datagram, is_missing);
-        self.adapt(origin, datagram);
-        self.counts = self.counts.take(origin, taken);
-        Ok(taken)
+            .take_from(origin.receiver_origin(), datagram, batch)
+        {
+            Ok(
+                Taken {
+                    handed,
+                    kept,
+                    beyond,
+                },
+            ) => {
+                let taken = Taken {
+                    handed,
+                    kept,
+                    beyond,
+                };
+                self.learn(origin, datagram, is_missing);
+                self.adapt(origin, datagram);
+                self.counts = self.counts.take(origin, taken);
+                Ok(taken)
+            }
+            Err(refused) => Err(refused),
+        }
     }
 
     // Returns the first missing messages, if they were requested as often as allowed.
@@ -411,6 +427,10 @@ impl Repairer {
             missing: ahead.saturating_sub(u64::from(stored)),
             stored,
             patience: self.pacer.state().patience,
+            late_a: self.delays.late(0),
+            late_b: self.delays.late(1),
+            a: self.arbiter.report(Line::A),
+            b: self.arbiter.report(Line::B),
             counts: self.counts,
         }
     }

@@ -1,11 +1,12 @@
 //! What a repairer counts.
 
 ghost use Rattle.std.specs.Prelude.{◌≡◌};
-ghost use Rattle.mold_repair.specs.Stats.{counted_answer, counted_loss, counted_request};
+ghost use Rattle.mold_repair.specs.Stats.{counted_answer, counted_loss, counted_request, counted_taken, no_counts};
 
+use crate::line_counts::LineCounts;
 use crate::origin::RepairOrigin;
 use mold_pacing::Gap;
-use mold_receiver::{Gap as Missing, Taken};
+use mold_receiver::{Gap as Missing, Line, LineReport, Taken};
 
 /// What a repairer counted. A count that reaches 2^64 - 1 stays there.
 #[derive(Clone, Copy, Debug, PartialEq, Eq)]
@@ -18,6 +19,10 @@ pub struct RepairCounts {
     pub useless: u64,
     /// The messages that were given up.
     pub lost: u64,
+    /// The datagrams of line A that were accepted.
+    pub a: LineCounts,
+    /// The same of line B.
+    pub b: LineCounts,
 }
 
 /// The state of a repairer, as statistics show it.
@@ -35,11 +40,35 @@ pub struct RepairStats {
     pub stored: u32,
     /// How long a number has to be known before it may be requested, in nanoseconds.
     pub patience: u64,
+    /// By how much line A brought a datagram after line B, at most, in nanoseconds. It is measured for the last 1,024
+    /// datagrams that both lines brought, while the patience adapts. Otherwise it is 0.
+    pub late_a: u64,
+    /// The same of line B.
+    pub late_b: u64,
+    /// The arbiter's report of line A, with the datagrams that were accepted and refused.
+    pub a: LineReport,
+    /// The same of line B.
+    pub b: LineReport,
     /// What was counted since the beginning.
     pub counts: RepairCounts,
 }
 
 impl RepairCounts {
+    /// Returns the counts before anything was counted.
+    pub(crate) fn new() -> RepairCounts
+        ensures { result ≡ no_counts }
+    {
+        let none = LineCounts { first: 0, again: 0 };
+        RepairCounts {
+            requests: 0,
+            answers: 0,
+            useless: 0,
+            lost: 0,
+            a: none,
+            b: none,
+        }
+    }
+
     /// Returns the counts after a request was returned.
     pub(crate) fn request(self) -> RepairCounts
         ensures { result ≡ counted_request self }
@@ -51,12 +80,27 @@ impl RepairCounts {
     }
 
     /// Returns the counts after a datagram was accepted.
+    #[inline(always)]
     pub(crate) fn take(self, origin: RepairOrigin, taken: Taken) -> RepairCounts
-        ensures { result ≡ counted_answer origin taken self }
+        ensures { result ≡ counted_taken origin taken self }
     {
-        let RepairOrigin::Server(_) = origin else {
-            return self;
-        };
+        match origin {
+            RepairOrigin::Line(Line::A) => RepairCounts {
+                a: self.a.take(taken),
+                ..self
+            },
+            RepairOrigin::Line(Line::B) => RepairCounts {
+                b: self.b.take(taken),
+                ..self
+            },
+            RepairOrigin::Server(_) => self.answer(taken),
+        }
+    }
+
+    // Returns the counts after the datagram of a server was accepted.
+    fn answer(self, taken: Taken) -> RepairCounts
+        ensures { result ≡ counted_answer taken self }
+    {
         let answers = self.answers.saturating_add(1);
         if taken.handed == 0 && taken.kept == 0 {
             return RepairCounts {

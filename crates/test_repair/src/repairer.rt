@@ -4,7 +4,9 @@
 use mold_pacing::Gap;
 use mold_receiver::{Arbiter, Batch, Line, Receiver};
 use mold_repair::run::{apply, run};
-use mold_repair::{Ask, Outcome, RepairError, RepairOptions, RepairOrigin, RepairStep, Repairer};
+use mold_repair::{
+    Ask, LineCounts, Outcome, RepairError, RepairOptions, RepairOrigin, RepairStep, Repairer,
+};
 use mold_wire::{Request, Session};
 use std::alloc::Global;
 use std::process::Abort;
@@ -211,6 +213,44 @@ fn gives_up_without_a_server(rt: HostRuntime) -> Result<(), Fail> {
         assert!(&rt; lost == Some(Gap { first, end }), "other messages are lost");
     }
     assert!(&rt; repairer.stats().counts.requests == 0, "a request counts");
+    Ok(())
+}
+
+// Message 1 comes on both lines, B 300 microseconds after A, and message 2 on line B alone. The patience adapts.
+#[test]
+fn counts_lines(rt: HostRuntime) -> Result<(), Fail> {
+    let options = RepairOptions {
+        patience: 0,
+        ..OPTIONS
+    };
+    let mut repairer = repairer(rt.alloc(), options)?;
+    let mut batch = Batch::new(rt.alloc());
+    for (time, line, datagram) in [
+        (1_000, Line::A, DATA_1),
+        (301_000, Line::B, DATA_1),
+        (302_000, Line::B, DATA_2),
+        (303_000, Line::A, b"?".as_slice()),
+    ] {
+        batch.clear();
+        let _taken = repairer.take(time, RepairOrigin::Line(line), datagram, &mut batch);
+    }
+    let stats = repairer.stats();
+    assert!(&rt;
+        stats.counts.a == LineCounts { first: 1, again: 0 },
+        "other counts of line A"
+    );
+    assert!(&rt;
+        stats.counts.b == LineCounts { first: 1, again: 1 },
+        "other counts of line B"
+    );
+    assert!(&rt;
+        stats.a.datagrams == 1 && stats.a.refused == 1 && stats.b.datagrams == 2,
+        "other reports"
+    );
+    assert!(&rt;
+        stats.late_a == 0 && stats.late_b == 300_000 && stats.patience == 600_000,
+        "other delays"
+    );
     Ok(())
 }
 
