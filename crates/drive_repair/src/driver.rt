@@ -5,8 +5,8 @@ ghost use Rattle.std.specs.Prelude.{◌<◌, ◌^◌};
 use crate::words::Words;
 use mold_digits::decode;
 use mold_pacing::Gap;
-use mold_receiver::{Batch, Line, LineReport, Taken};
-use mold_repair::{LineCounts, RepairOrigin, RepairStats, Repairer};
+use mold_receiver::{Batch, Line, Taken};
+use mold_repair::{LineStats, RepairOrigin, RepairStats, Repairer};
 use mold_text::{Word, push_line, push_refusal};
 use std::alloc::{AllocError, Global};
 
@@ -66,22 +66,16 @@ fn push_lost(out: &mut Vec<u8>, lost: Gap, delivered: usize) -> Result<(), Alloc
 }
 
 // Appends the statistics of the line with this name.
-fn push_line_stats(
-    out: &mut Vec<u8>,
-    name: &[u8],
-    report: LineReport,
-    counts: LineCounts,
-    late: u64,
-) -> Result<(), AllocError> {
+fn push_line_stats(out: &mut Vec<u8>, name: &[u8], stats: LineStats) -> Result<(), AllocError> {
     push_line(
         out,
         &[
             Word::Text(name),
-            Word::Number(report.datagrams),
-            Word::Number(counts.first),
-            Word::Number(counts.again),
-            Word::Number(report.refused),
-            Word::Number(late),
+            Word::Number(stats.datagrams),
+            Word::Number(stats.first),
+            Word::Number(stats.again),
+            Word::Number(stats.refused),
+            Word::Number(stats.late),
         ],
     )
 }
@@ -102,8 +96,8 @@ fn push_stats(out: &mut Vec<u8>, stats: &RepairStats) -> Result<(), AllocError> 
             Word::Number(stats.counts.lost),
         ],
     )?;
-    push_line_stats(out, b"a", stats.a, stats.counts.a, stats.late_a)?;
-    push_line_stats(out, b"b", stats.b, stats.counts.b, stats.late_b)
+    push_line_stats(out, b"a", stats.a)?;
+    push_line_stats(out, b"b", stats.b)
 }
 
 impl Driver {
@@ -116,8 +110,8 @@ impl Driver {
     }
 
     /// Applies the step that the line names, and appends what its call returns. The steps are `a TIME DATAGRAM`,
-    /// `b TIME DATAGRAM`, `server TIME SERVER DATAGRAM`, `poll TIME`, `lost TIME`, `deadline TIME`, `missing NUMBER` and
-    /// `stats`. A datagram is hexadecimal digits. Any other line is `refused Syntax`.
+    /// `b TIME DATAGRAM`, `server TIME SERVER DATAGRAM`, `poll TIME`, `lost TIME`, `deadline TIME`, `missing NUMBER`
+    /// and `stats`. A datagram is hexadecimal digits. Any other line is `refused Syntax`.
     pub(crate) fn apply(&mut self, line: &[u8], out: &mut Vec<u8>) -> Result<(), AllocError> {
         let mut words = Words::new(line);
         let step = words.next_word();

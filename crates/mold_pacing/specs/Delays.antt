@@ -14,8 +14,8 @@ greatest_of (delay ∷ delays) = max delay (greatest_of delays)
 abbrev pub delay_on : ℕ → ℕ → ℕ → ℕ
 delay_on line delay of = if nat_eq of line then delay else 0
 
--- The greatest of the delays of this line, or 0 if it has none. `lines` has the line of each delay: the one that brought
--- the datagram second.
+-- The greatest of the delays of this line, or 0 if it has none. `lines` has the line of each delay, which brought the
+-- datagram second.
 abbrev pub greatest_on : ℕ → List ℕ → List ℕ → ℕ
 greatest_on line [] lines = 0
 greatest_on line (delay ∷ delays) [] = 0

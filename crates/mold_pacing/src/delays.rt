@@ -1,7 +1,8 @@
 //! The patience that adapts: how long after one line the other line brings the same datagram.
 
 ghost use Rattle.std.specs.Prelude.{◌≡◌, ◌≤◌, ◌<◌, [], length, vec_capacity, IfOk};
-ghost use Rattle.mold_pacing.specs.Delays.{delay_on, greatest_of, greatest_on, index_after, no_arrivals, patience_for, pushed};
+ghost use Rattle.mold_pacing.specs.Delays.{delay_on, greatest_of, greatest_on, index_after, no_arrivals, patience_for};
+ghost use Rattle.mold_pacing.specs.Delays.{pushed};
 ghost use Rattle.mold_pacing.specs.declared.delays.TheConstants.{DELAYS, SLOTS};
 
 use crate::arrival::{Arrival, BOTH};

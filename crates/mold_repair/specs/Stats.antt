@@ -1,11 +1,13 @@
 -- What a repairer counts.
-use Rattle.std.specs.Prelude.{◌+◌, ◌-◌, ◌&&◌, ◌==◌, Bool, if◌then◌else◌, Option, None, Some}
+use Rattle.std.specs.Prelude.{ℕ, ◌+◌, ◌-◌, ◌&&◌, ◌==◌, Bool, if◌then◌else◌, Option, None, Some}
 use Rattle.std.specs.Io.Iter.{u64_saturate}
 use Rattle.mold_pacing.specs.declared.gap.Gap.{Gap}
+use Rattle.mold_receiver.specs.declared.line.Line.{Line as TheLine}
 use Rattle.mold_receiver.specs.declared.line.Line.TheVariants.{A, B}
+use Rattle.mold_receiver.specs.declared.line.LineReport.{LineReport}
 use Rattle.mold_receiver.specs.declared.taken.Taken.{Taken}
 use Rattle.mold_repair.specs.declared.ask.Ask.{Ask}
-use Rattle.mold_repair.specs.declared.line_counts.LineCounts.{LineCounts}
+use Rattle.mold_repair.specs.declared.line_stats.LineStats.{LineStats}
 use Rattle.mold_repair.specs.declared.origin.RepairOrigin.{RepairOrigin}
 use Rattle.mold_repair.specs.declared.origin.RepairOrigin.TheVariants.{Line, Server}
 use Rattle.mold_repair.specs.declared.stats.RepairCounts.{RepairCounts}
@@ -17,8 +19,8 @@ no_counts = record {
   answers = 0;
   useless = 0;
   lost = 0;
-  a = record { first = 0; again = 0 };
-  b = record { first = 0; again = 0 };
+  again_a = 0;
+  again_b = 0;
 }
 
 -- After a request was returned.
@@ -36,18 +38,26 @@ counted_answer taken c =
     then record c { answers = u64_saturate (c.answers + 1); useless = u64_saturate (c.useless + 1) }
     else record c { answers = u64_saturate (c.answers + 1) }
 
--- The counts of a line after a datagram was accepted on it: it brought something new, or only what had come.
-abbrev pub counted_line : Taken → LineCounts → LineCounts
-counted_line taken c =
-    if is_useless taken
-    then record c { again = u64_saturate (c.again + 1) }
-    else record c { first = u64_saturate (c.first + 1) }
+-- After a datagram was accepted on this line. Only those that brought nothing new count.
+abbrev pub counted_line : TheLine → Taken → RepairCounts → RepairCounts
+counted_line A taken c = if is_useless taken then record c { again_a = u64_saturate (c.again_a + 1) } else c
+counted_line B taken c = if is_useless taken then record c { again_b = u64_saturate (c.again_b + 1) } else c
 
 -- After a datagram was accepted.
 abbrev pub counted_taken : RepairOrigin → Taken → RepairCounts → RepairCounts
-counted_taken (Line A) taken c = record c { a = counted_line taken c.a }
-counted_taken (Line B) taken c = record c { b = counted_line taken c.b }
+counted_taken (Line line) taken c = counted_line line taken c
 counted_taken (Server server) taken c = counted_answer taken c
+
+-- The statistics of a line by the arbiter's report, the count of its datagrams that brought nothing new, and its
+-- greatest delay. The other datagrams brought something new.
+abbrev pub line_stats : LineReport → ℕ → ℕ → LineStats
+line_stats report again late = record {
+  datagrams = report.datagrams;
+  first = report.datagrams - again;
+  again = again;
+  refused = report.refused;
+  late = late;
+}
 
 -- After these messages were given up.
 abbrev pub counted_loss : Gap → RepairCounts → RepairCounts

@@ -4,6 +4,7 @@ use Rattle.std.specs.FinMap as finite
 use Rattle.mold_pacing.specs.Delays.{greatest_on}
 use Rattle.mold_receiver.specs.Wanted.{HasNoGap, IsNextGap, missing}
 use Rattle.mold_receiver.specs.declared.line.Line.TheVariants.{A, B}
+use Rattle.mold_repair.specs.Stats.{line_stats}
 use Rattle.mold_repair.specs.Timing.{line_index}
 use Rattle.mold_repair.specs.declared.origin.RepairOrigin.TheVariants.{Line}
 use Rattle.mold_repair.specs.declared.repairer.Repairer.{Repairer}
@@ -19,8 +20,8 @@ pub record IsStats (r : Repairer) (s : RepairStats) : Type 0 where
   pub lacking : s.missing ≡ missing r.arbiter.view
   pub stored : s.stored ≡ finite.len r.arbiter.view.store
   pub patience : s.patience ≡ r.pacer.state.patience
-  pub late_a : s.late_a ≡ greatest_on (line_index (Line A)) r.delays.recent.items r.delays.lines.items
-  pub late_b : s.late_b ≡ greatest_on (line_index (Line B)) r.delays.recent.items r.delays.lines.items
-  pub line_a : s.a ≡ r.arbiter.reports.a
-  pub line_b : s.b ≡ r.arbiter.reports.b
+  pub line_a : s.a ≡ line_stats r.arbiter.reports.a r.counts.again_a
+      (greatest_on (line_index (Line A)) r.delays.recent.items r.delays.lines.items)
+  pub line_b : s.b ≡ line_stats r.arbiter.reports.b r.counts.again_b
+      (greatest_on (line_index (Line B)) r.delays.recent.items r.delays.lines.items)
   pub counts : s.counts ≡ r.counts

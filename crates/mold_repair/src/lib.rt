@@ -8,7 +8,7 @@ mod error;
 mod gaps;
 mod header;
 pub mod laws;
-mod line_counts;
+mod line_stats;
 mod options;
 mod origin;
 mod outcome;
@@ -19,7 +19,7 @@ mod step;
 
 pub use ask::Ask;
 pub use error::RepairError;
-pub use line_counts::LineCounts;
+pub use line_stats::LineStats;
 pub use options::RepairOptions;
 pub use origin::RepairOrigin;
 pub use outcome::Outcome;

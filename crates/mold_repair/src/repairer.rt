@@ -8,6 +8,7 @@ use crate::came::{came_below, is_timed, report};
 use crate::error::RepairError;
 use crate::gaps::find_free;
 use crate::header::numbers_in;
+use crate::line_stats::LineStats;
 use crate::options::RepairOptions;
 use crate::origin::RepairOrigin;
 use crate::stats::{RepairCounts, RepairStats};
@@ -38,9 +39,9 @@ impl Repairer {
     ghost use Rattle.std.specs.Prelude.{false, if◌then◌else◌, is_some, max, slice_get};
     ghost use Rattle.mold_pacing.specs.declared.flight.Flight.{Flight};
     ghost use Rattle.mold_pacing.specs.State.{advanced, fresh};
-    ghost use Rattle.mold_pacing.specs.Delays.{no_arrivals};
+    ghost use Rattle.mold_pacing.specs.Delays.{greatest_on, no_arrivals};
     ghost use Rattle.mold_pacing.specs.Deadline.{CanAsk};
-    ghost use Rattle.mold_receiver.specs.Arbiter.{HasArbitrated, HasRefused};
+    ghost use Rattle.mold_receiver.specs.Arbiter.{HasArbitrated, HasRefused, report_on};
     ghost use Rattle.mold_receiver.specs.Batch.{Follows};
     ghost use Rattle.mold_receiver.specs.Origin.{line_of};
     ghost use Rattle.mold_receiver.specs.Wanted.{HasNoGap, IsNextGap};
@@ -50,10 +51,11 @@ impl Repairer {
     ghost use Rattle.mold_repair.specs.Missing.{IsMissing, IsWanted};
     ghost use Rattle.mold_repair.specs.Origin.{receiver_origin};
     ghost use Rattle.mold_repair.specs.Polls.{HasPolled, HasRequested, HasSentAll, IsDeadline, IsStill, NoneCanBeSent};
-    ghost use Rattle.mold_repair.specs.Stats.{counted_lost, counted_poll, counted_taken, no_counts};
+    ghost use Rattle.mold_repair.specs.Stats.{counted_lost, counted_poll, counted_taken, line_stats, no_counts};
     ghost use Rattle.mold_repair.specs.StatsOf.{IsStats};
     ghost use Rattle.mold_repair.specs.Taking.{HasLearned, HasPassed, taken_steps};
-    ghost use Rattle.mold_repair.specs.Timing.{IsTimed, adapted_from};
+    ghost use Rattle.mold_repair.specs.Timing.{IsTimed, adapted_from, line_index};
+    ghost use Rattle.mold_repair.specs.declared.origin.RepairOrigin.TheVariants.{Line as OnLine};
     ghost use Rattle.mold_wire.specs.Reading.{reading};
     ghost use Rattle.mold_repair.specs.declared.error.RepairError.TheVariants.{Memory, Options};
 
@@ -413,6 +415,15 @@ impl Repairer {
         self.arbiter.next_missing(from)
     }
 
+    // Returns the statistics of a line.
+    fn line_stats(&self, line: Line, again: u64) -> LineStats
+        ensures { result ≡ line_stats (report_on line self.now.arbiter.reports) again
+            (greatest_on (line_index (OnLine line)) self.now.delays.recent.items self.now.delays.lines.items) }
+    {
+        let index = RepairOrigin::Line(line).line_index();
+        LineStats::new(self.arbiter.report(line), again, self.delays.late(index))
+    }
+
     /// Returns the statistics.
     pub fn stats(&self) -> RepairStats
         ensures { IsStats self.now result }
@@ -427,10 +438,8 @@ impl Repairer {
             missing: ahead.saturating_sub(u64::from(stored)),
             stored,
             patience: self.pacer.state().patience,
-            late_a: self.delays.late(0),
-            late_b: self.delays.late(1),
-            a: self.arbiter.report(Line::A),
-            b: self.arbiter.report(Line::B),
+            a: self.line_stats(Line::A, self.counts.again_a),
+            b: self.line_stats(Line::B, self.counts.again_b),
             counts: self.counts,
         }
     }

@@ -1,12 +1,13 @@
 //! What a repairer counts.
 
 ghost use Rattle.std.specs.Prelude.{◌≡◌};
-ghost use Rattle.mold_repair.specs.Stats.{counted_answer, counted_loss, counted_request, counted_taken, no_counts};
+ghost use Rattle.mold_repair.specs.Stats.{counted_answer, counted_line, counted_loss, counted_request};
+ghost use Rattle.mold_repair.specs.Stats.{counted_taken, no_counts};
 
-use crate::line_counts::LineCounts;
+use crate::line_stats::LineStats;
 use crate::origin::RepairOrigin;
 use mold_pacing::Gap;
-use mold_receiver::{Gap as Missing, Line, LineReport, Taken};
+use mold_receiver::{Gap as Missing, Line, Taken};
 
 /// What a repairer counted. A count that reaches 2^64 - 1 stays there.
 #[derive(Clone, Copy, Debug, PartialEq, Eq)]
@@ -19,10 +20,10 @@ pub struct RepairCounts {
     pub useless: u64,
     /// The messages that were given up.
     pub lost: u64,
-    /// The datagrams of line A that were accepted.
-    pub a: LineCounts,
+    /// The datagrams of line A that were accepted, and of which no message was delivered or stored.
+    pub again_a: u64,
     /// The same of line B.
-    pub b: LineCounts,
+    pub again_b: u64,
 }
 
 /// The state of a repairer, as statistics show it.
@@ -40,15 +41,10 @@ pub struct RepairStats {
     pub stored: u32,
     /// How long a number has to be known before it may be requested, in nanoseconds.
     pub patience: u64,
-    /// By how much line A brought a datagram after line B, at most, in nanoseconds. It is measured for the last 1,024
-    /// datagrams that both lines brought, while the patience adapts. Otherwise it is 0.
-    pub late_a: u64,
-    /// The same of line B.
-    pub late_b: u64,
-    /// The arbiter's report of line A, with the datagrams that were accepted and refused.
-    pub a: LineReport,
-    /// The same of line B.
-    pub b: LineReport,
+    /// What line A brought.
+    pub a: LineStats,
+    /// What line B brought.
+    pub b: LineStats,
     /// What was counted since the beginning.
     pub counts: RepairCounts,
 }
@@ -58,14 +54,13 @@ impl RepairCounts {
     pub(crate) fn new() -> RepairCounts
         ensures { result ≡ no_counts }
     {
-        let none = LineCounts { first: 0, again: 0 };
         RepairCounts {
             requests: 0,
             answers: 0,
             useless: 0,
             lost: 0,
-            a: none,
-            b: none,
+            again_a: 0,
+            again_b: 0,
         }
     }
 
@@ -85,15 +80,28 @@ impl RepairCounts {
         ensures { result ≡ counted_taken origin taken self }
     {
         match origin {
-            RepairOrigin::Line(Line::A) => RepairCounts {
-                a: self.a.take(taken),
-                ..self
-            },
-            RepairOrigin::Line(Line::B) => RepairCounts {
-                b: self.b.take(taken),
-                ..self
-            },
+            RepairOrigin::Line(line) => self.take_on(line, taken),
             RepairOrigin::Server(_) => self.answer(taken),
+        }
+    }
+
+    // Returns the counts after a datagram was accepted on this line.
+    #[inline(always)]
+    fn take_on(self, line: Line, taken: Taken) -> RepairCounts
+        ensures { result ≡ counted_line line taken self }
+    {
+        if taken.handed != 0 || taken.kept != 0 {
+            return self;
+        }
+        match line {
+            Line::A => RepairCounts {
+                again_a: self.again_a.saturating_add(1),
+                ..self
+            },
+            Line::B => RepairCounts {
+                again_b: self.again_b.saturating_add(1),
+                ..self
+            },
         }
     }
 

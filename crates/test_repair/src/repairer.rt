@@ -5,7 +5,7 @@ use mold_pacing::Gap;
 use mold_receiver::{Arbiter, Batch, Line, Receiver};
 use mold_repair::run::{apply, run};
 use mold_repair::{
-    Ask, LineCounts, Outcome, RepairError, RepairOptions, RepairOrigin, RepairStep, Repairer,
+    Ask, LineStats, Outcome, RepairError, RepairOptions, RepairOrigin, RepairStep, Repairer,
 };
 use mold_wire::{Request, Session};
 use std::alloc::Global;
@@ -235,22 +235,23 @@ fn counts_lines(rt: HostRuntime) -> Result<(), Fail> {
         let _taken = repairer.take(time, RepairOrigin::Line(line), datagram, &mut batch);
     }
     let stats = repairer.stats();
-    assert!(&rt;
-        stats.counts.a == LineCounts { first: 1, again: 0 },
-        "other counts of line A"
-    );
-    assert!(&rt;
-        stats.counts.b == LineCounts { first: 1, again: 1 },
-        "other counts of line B"
-    );
-    assert!(&rt;
-        stats.a.datagrams == 1 && stats.a.refused == 1 && stats.b.datagrams == 2,
-        "other reports"
-    );
-    assert!(&rt;
-        stats.late_a == 0 && stats.late_b == 300_000 && stats.patience == 600_000,
-        "other delays"
-    );
+    let a = LineStats {
+        datagrams: 1,
+        first: 1,
+        again: 0,
+        refused: 1,
+        late: 0,
+    };
+    let b = LineStats {
+        datagrams: 2,
+        first: 1,
+        again: 1,
+        refused: 0,
+        late: 300_000,
+    };
+    assert!(&rt; stats.a == a, "other statistics of line A");
+    assert!(&rt; stats.b == b, "other statistics of line B");
+    assert!(&rt; stats.patience == 600_000, "another patience");
     Ok(())
 }
 
