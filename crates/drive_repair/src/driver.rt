@@ -6,7 +6,7 @@ use crate::words::Words;
 use mold_digits::decode;
 use mold_pacing::Gap;
 use mold_receiver::{Batch, Line, Taken};
-use mold_repair::{RepairOrigin, Repairer};
+use mold_repair::{LineStats, RepairOrigin, RepairStats, Repairer};
 use mold_text::{Word, push_line, push_refusal};
 use std::alloc::{AllocError, Global};
 
@@ -65,6 +65,41 @@ fn push_lost(out: &mut Vec<u8>, lost: Gap, delivered: usize) -> Result<(), Alloc
     )
 }
 
+// Appends the statistics of the line with this name.
+fn push_line_stats(out: &mut Vec<u8>, name: &[u8], stats: LineStats) -> Result<(), AllocError> {
+    push_line(
+        out,
+        &[
+            Word::Text(name),
+            Word::Number(stats.datagrams),
+            Word::Number(stats.first),
+            Word::Number(stats.again),
+            Word::Number(stats.refused),
+            Word::Number(stats.late),
+        ],
+    )
+}
+
+// Appends the state of the receiver and what was counted, and then the statistics of both lines.
+fn push_stats(out: &mut Vec<u8>, stats: &RepairStats) -> Result<(), AllocError> {
+    push_line(
+        out,
+        &[
+            Word::Text(b"stats"),
+            Word::Number(stats.next),
+            Word::Number(stats.known),
+            Word::Number(stats.missing),
+            Word::Number(u64::from(stats.stored)),
+            Word::Number(stats.counts.requests),
+            Word::Number(stats.counts.answers),
+            Word::Number(stats.counts.useless),
+            Word::Number(stats.counts.lost),
+        ],
+    )?;
+    push_line_stats(out, b"a", stats.a)?;
+    push_line_stats(out, b"b", stats.b)
+}
+
 impl Driver {
     pub(crate) fn new(alloc: Global, repairer: Repairer) -> Driver {
         Driver {
@@ -75,13 +110,14 @@ impl Driver {
     }
 
     /// Applies the step that the line names, and appends what its call returns. The steps are `a TIME DATAGRAM`,
-    /// `b TIME DATAGRAM`, `server TIME SERVER DATAGRAM`, `poll TIME`, `lost TIME`, `deadline TIME` and `missing NUMBER`.
-    /// A datagram is hexadecimal digits. Any other line is `refused Syntax`.
+    /// `b TIME DATAGRAM`, `server TIME SERVER DATAGRAM`, `poll TIME`, `lost TIME`, `deadline TIME`, `missing NUMBER`
+    /// and `stats`. A datagram is hexadecimal digits. Any other line is `refused Syntax`.
     pub(crate) fn apply(&mut self, line: &[u8], out: &mut Vec<u8>) -> Result<(), AllocError> {
         let mut words = Words::new(line);
         let step = words.next_word();
         match words.next_number() {
             Some(time) if time < TIMES => self.apply_at(time, step, words, out),
+            None if step == b"stats".as_slice() => push_stats(out, &self.repairer.stats()),
             _ => push_syntax(out),
         }
     }

@@ -1,7 +1,8 @@
 -- The greatest of the last delays.
-use Rattle.std.proofs.Common.{◌≡◌, ℕ, zero, suc, ◌<◌, ◌≤◌, List, [], ◌∷◌, ◌++◌, Some, arith, inl, inr, length, max, set, slice_get}
+use Rattle.std.proofs.Common.{◌≡◌, ℕ, zero, suc, ◌+◌, ◌<◌, ◌≤◌, List, [], ◌∷◌, ◌++◌, Some, arith, inl, inr, length, max, set, slice_get}
+use Rattle.std.proofs.Common.{ap, drop, refl}
 use Rattle.std.proofs.lemmas.Bool.{cases_lt}
-use Rattle.mold_pacing.specs.Delays.{greatest_of}
+use Rattle.mold_pacing.specs.Delays.{delay_on, greatest_of, greatest_on}
 
 pub greatest_append : (delays : List ℕ) (delay : ℕ) → greatest_of (delays ++ delay ∷ []) ≡ max (greatest_of delays) delay
 greatest_append [] delay = omega arith
@@ -38,3 +39,41 @@ greatest_kept (d ∷ ds) (suc index) delay left there below less =
       ]
       | inr over ↦ omega (arith, over, below, less, set_most ds index delay)
     ]
+
+-- The greatest delay of a line from an index on, by the delay at the index.
+greatest_from : (line : ℕ) (delays lines : List ℕ) (index delay of : ℕ) → slice_get delays index ≡ Some delay
+    → slice_get lines index ≡ Some of → greatest_on line (drop index delays) (drop index lines)
+    ≡ max (delay_on line delay of) (greatest_on line (drop (suc index) delays) (drop (suc index) lines))
+greatest_from line [] lines index delay of there other = absurd (let none : ⊥ = cc in none)
+greatest_from line (d ∷ ds) [] index delay of there other = absurd (let none : ⊥ = cc in none)
+greatest_from line (d ∷ ds) (k ∷ ks) zero delay of there other =
+    let same : d ≡ delay = grind (arith, there) in
+    let on : k ≡ of = grind (arith, other) in
+    λ i. max (delay_on line (same i) (on i)) (greatest_on line ds ks)
+greatest_from line (d ∷ ds) (k ∷ ks) (suc index) delay of there other =
+    greatest_from line ds ks index delay of there other
+
+-- One delay more.
+pub greatest_more : (line : ℕ) (delays lines : List ℕ) (index delay of greatest next : ℕ)
+    → slice_get delays index ≡ Some delay → slice_get lines index ≡ Some of
+    → max greatest (greatest_on line (drop index delays) (drop index lines)) ≡ greatest_on line delays lines
+    → next ≡ max greatest (delay_on line delay of)
+    → max next (greatest_on line (drop (index + 1) delays) (drop (index + 1) lines)) ≡ greatest_on line delays lines
+greatest_more line delays lines index delay of greatest next there other is longer =
+    let from = greatest_from line delays lines index delay of there other in
+    let at : suc index ≡ index + 1 = omega arith in
+    let rest = ap (λ n. greatest_on line (drop n delays) (drop n lines)) at in
+    omega (arith, is, longer, from, rest)
+
+greatest_none : (line : ℕ) (delays : List ℕ) → greatest_on line delays [] ≡ 0
+greatest_none line [] = refl
+greatest_none line (d ∷ ds) = refl
+
+-- After the last index there is no delay.
+pub greatest_past : (line : ℕ) (delays lines : List ℕ) (index : ℕ) → length delays ≤ index →
+    greatest_on line (drop index delays) (drop index lines) ≡ 0
+greatest_past line [] lines zero past = refl
+greatest_past line [] lines (suc index) past = refl
+greatest_past line (d ∷ ds) lines zero past = absurd (omega (arith, past))
+greatest_past line (d ∷ ds) [] (suc index) past = greatest_none line (drop index ds)
+greatest_past line (d ∷ ds) (k ∷ ks) (suc index) past = greatest_past line ds ks index (omega (arith, past))

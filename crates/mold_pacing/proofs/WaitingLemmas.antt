@@ -110,11 +110,11 @@ none_over fs index from time is all before = any_none (is_over time) fs (λ i f 
 
 -- The requests in flight before the index are not over before the time `over`.
 pub record IsNextOver (fs : List Flight) (now index over : ℕ) : Type 0 where
-  pub later : now ≤ over
+  pub later : now < over
   pub waits : (i : ℕ) (f : Flight) → i < index → slice_get fs i ≡ Some f → now < f.until → over ≤ f.until
 
 pub next_over_more : (fs : List Flight) (now index over end : ℕ) (f : Flight) → slice_get fs index ≡ Some f →
-    IsNextOver fs now index over → (now < f.until → end ≡ f.until) → now ≤ end →
+    IsNextOver fs now index over → (now < f.until → end ≡ f.until) → now < end →
     IsNextOver fs now (index + 1) (min over end)
 next_over_more fs now index over end f there is flies after = record {
   later = omega (arith, is.later, after);
@@ -167,9 +167,9 @@ still_bound now last number over (f ∷ fs) waits busy all =
 pub end_flies : (now until most end : ℕ) → end ≡ cond (nat_lt now until) until most → now < until → end ≡ until
 end_flies now until most end is flies = grind (arith, nat_tests, is, flies)
 
-pub end_later : (now until most end : ℕ) → end ≡ cond (nat_lt now until) until most → now ≤ most → now ≤ end
+pub end_later : (now until most end : ℕ) → end ≡ cond (nat_lt now until) until most → now < most → now < end
 end_later now until most end is fits =
-    elim (nat_lt now until) as (λ b. nat_lt now until ≡ b → end ≡ cond b until most → now ≤ end) [
+    elim (nat_lt now until) as (λ b. nat_lt now until ≡ b → end ≡ cond b until most → now < end) [
       | true ↦ λ test same. (let flies : now < until = grind (arith, nat_tests, test) in omega (arith, same, flies))
       | false ↦ λ test same. omega (arith, same, fits)
     ] refl is

@@ -10,6 +10,17 @@ abbrev pub greatest_of : List ℕ → ℕ
 greatest_of [] = 0
 greatest_of (delay ∷ delays) = max delay (greatest_of delays)
 
+-- The delay if it is of this line, and otherwise 0.
+abbrev pub delay_on : ℕ → ℕ → ℕ → ℕ
+delay_on line delay of = if nat_eq of line then delay else 0
+
+-- The greatest of the delays of this line, or 0 if it has none. `lines` has the line of each delay, which brought the
+-- datagram second.
+abbrev pub greatest_on : ℕ → List ℕ → List ℕ → ℕ
+greatest_on line [] lines = 0
+greatest_on line (delay ∷ delays) [] = 0
+greatest_on line (delay ∷ delays) (of ∷ lines) = max (delay_on line delay of) (greatest_on line delays lines)
+
 -- The patience that fits the delays: twice the greatest one, but at least 200 microseconds and at most 100
 -- milliseconds. Without a delay it is a millisecond.
 abbrev pub patience_for : List ℕ → ℕ
@@ -37,7 +48,7 @@ abbrev pub kept : Arrival → Arrival → Arrival
 kept before a =
     if is_second before a then record before { line = BOTH } else if is_same before a then before else a
 
--- The last `DELAYS` delays after another one. The delay at the index leaves, if there are as many.
+-- The last `DELAYS` delays after another one, or their lines. The one at the index leaves, if there are as many.
 abbrev pub pushed : ℕ → ℕ → List ℕ → List ℕ
 pushed delay index delays =
     if nat_lt (length delays) DELAYS then delays ++ delay ∷ [] else set delays index delay

@@ -14,4 +14,7 @@ pub record IsTaken (old new : Delays) (a : Arrival) : Type 0 where
   pub recent : new.recent.items ≡ (if is_second before a
       then pushed (a.time - before.time) old.next old.recent.items
       else old.recent.items)
+  pub lines : new.lines.items ≡ (if is_second before a
+      then pushed a.line old.next old.lines.items
+      else old.lines.items)
   pub index : new.next ≡ (if is_second before a then index_after old.next old.recent.items else old.next)

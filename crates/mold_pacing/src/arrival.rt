@@ -21,6 +21,7 @@ pub struct Arrival {
 
 impl Arrival {
     // Returns whether the other arrival is of the same datagram.
+    #[inline(always)]
     fn is_same(self, other: Arrival) -> bool
         ensures { result ≡ is_same self other }
     {
@@ -28,6 +29,7 @@ impl Arrival {
     }
 
     /// Returns whether the next arrival is of the same datagram, and the other line alone brought it before.
+    #[inline(always)]
     pub(crate) fn is_second(self, next: Arrival) -> bool
         ensures { result ≡ is_second self next }
     {
@@ -35,6 +37,7 @@ impl Arrival {
     }
 
     /// Returns what is kept in place of this arrival after the next one.
+    #[inline(always)]
     pub(crate) fn keep(self, next: Arrival) -> Arrival
         ensures { result ≡ kept self next }
     {

@@ -1,7 +1,8 @@
 //! The patience that adapts: how long after one line the other line brings the same datagram.
 
 ghost use Rattle.std.specs.Prelude.{◌≡◌, ◌≤◌, ◌<◌, [], length, vec_capacity, IfOk};
-ghost use Rattle.mold_pacing.specs.Delays.{greatest_of, index_after, no_arrivals, patience_for, pushed};
+ghost use Rattle.mold_pacing.specs.Delays.{delay_on, greatest_of, greatest_on, index_after, no_arrivals, patience_for};
+ghost use Rattle.mold_pacing.specs.Delays.{pushed};
 ghost use Rattle.mold_pacing.specs.declared.delays.TheConstants.{DELAYS, SLOTS};
 
 use crate::arrival::{Arrival, BOTH};
@@ -37,6 +38,8 @@ pub struct Delays {
     arrivals: Vec<Arrival>,
     // The last delays.
     recent: Vec<u64>,
+    // For each of them the line that brought the datagram second.
+    lines: Vec<u32>,
     // The index of the delay that the next one replaces.
     next: usize,
     // The greatest of the last delays.
@@ -44,6 +47,8 @@ pub struct Delays {
     ghost slots: { length arrivals.items ≡ SLOTS },
     ghost room: { DELAYS ≤ vec_capacity recent },
     ghost few: { length recent.items ≤ DELAYS },
+    ghost places: { DELAYS ≤ vec_capacity lines },
+    ghost same: { length lines.items ≡ length recent.items },
     ghost within: { next < DELAYS },
     ghost most: { greatest ≡ greatest_of recent.items },
 }
@@ -55,6 +60,25 @@ fn greatest_in(delays: &[u64]) -> u64
     let mut greatest = 0u64;
     for index in 0..delays.len() {
         greatest = greatest.max(delays[index]);
+    }
+    greatest
+}
+
+// Returns the delay if it is of this line, and otherwise 0.
+fn delay_on(line: u32, delay: u64, of: u32) -> u64
+    ensures { result ≡ delay_on line delay of }
+{
+    if of == line { delay } else { 0 }
+}
+
+// Returns the greatest of the delays of this line, or 0 if it has none. `lines` has the line of each delay.
+fn greatest_on(delays: &[u64], lines: &[u32], line: u32) -> u64
+    requires { length lines.now ≡ length delays.now }
+    ensures { result ≡ greatest_on line delays.now lines.now }
+{
+    let mut greatest = 0u64;
+    for index in 0..delays.len() {
+        greatest = greatest.max(delay_on(line, delays[index], lines[index]));
     }
     greatest
 }
@@ -81,29 +105,34 @@ impl Delays {
     pub fn new(alloc: Global) -> Result<Delays, AllocError>
         ensures arrivals { IfOk result (λ delays. delays.arrivals.items ≡ no_arrivals) }
         ensures recent { IfOk result (λ delays. delays.recent.items ≡ []) }
+        ensures lines { IfOk result (λ delays. delays.lines.items ≡ []) }
         ensures index { IfOk result (λ delays. delays.next ≡ 0) }
     {
         Ok(Delays {
             arrivals: vec![in alloc; NO_ARRIVAL; SLOTS]?,
             recent: Vec::with_capacity(alloc, DELAYS)?,
+            lines: Vec::with_capacity(alloc, DELAYS)?,
             next: 0,
             greatest: 0,
         })
     }
 
-    // Adds a delay. The greatest one is looked for only if it left.
-    fn push(&mut self, delay: u64)
+    // Adds a delay of this line. The greatest one is looked for only if it left.
+    fn push(&mut self, delay: u64, line: u32)
         ensures arrivals { self.new.arrivals.items ≡ self.old.arrivals.items }
         ensures recent { self.new.recent.items ≡ pushed delay self.old.next self.old.recent.items }
+        ensures lines { self.new.lines.items ≡ pushed line self.old.next self.old.lines.items }
         ensures next { self.new.next ≡ index_after self.old.next self.old.recent.items }
     {
         if self.recent.len() < DELAYS {
             self.recent.push_reserved(delay);
+            self.lines.push_reserved(line);
             self.greatest = self.greatest.max(delay);
             return;
         }
         let left = self.recent[self.next];
         self.recent[self.next] = delay;
+        self.lines[self.next] = line;
         self.greatest = next_greatest(&self.recent, self.greatest, left, delay);
         self.next = if self.next + 1 < DELAYS {
             self.next + 1
@@ -114,6 +143,8 @@ impl Delays {
 
     /// Takes an arrival on one of two lines. If the other line brought the datagram before, the time since then is a
     /// delay.
+    // For the optimizer: a receiver calls it for each datagram.
+    #[inline(always)]
     pub fn take(&mut self, arrival: Arrival)
         ensures { IsTaken self.old self.new arrival }
     {
@@ -121,11 +152,20 @@ impl Delays {
         let before = self.arrivals[slot];
         self.arrivals[slot] = before.keep(arrival);
         if before.is_second(arrival) {
-            self.push(arrival.time.saturating_sub(before.time));
+            self.push(arrival.time.saturating_sub(before.time), arrival.line);
         }
     }
 
+    /// Returns the greatest of the delays with which this line brought a datagram after the other line, in nanoseconds.
+    /// It is 0 without such a delay. The cost is linear in the delays that count, at most 1,024.
+    pub fn late(&self, line: u32) -> u64
+        ensures { result ≡ greatest_on line self.now.recent.items self.now.lines.items }
+    {
+        greatest_on(&self.recent, &self.lines, line)
+    }
+
     /// Returns the patience that fits the delays, in nanoseconds.
+    #[inline(always)]
     pub fn patience(&self) -> u64
         ensures { result ≡ patience_for self.now.recent.items }
     {

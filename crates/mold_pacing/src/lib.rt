@@ -5,6 +5,7 @@
 mod arrival;
 mod ask;
 mod bucket;
+mod cursor;
 mod delays;
 mod flight;
 mod gap;
@@ -21,6 +22,7 @@ mod waiting;
 
 pub use arrival::Arrival;
 pub use ask::Ask;
+pub use cursor::Cursor;
 pub use delays::{Delays, FIRST_PATIENCE};
 pub use flight::Flight;
 pub use gap::{Gap, are_in_order};

@@ -6,6 +6,7 @@ ghost use Rattle.mold_pacing.specs.Flight.{is_ascending, is_over};
 
 use crate::ask::Ask;
 use crate::bucket::is_open;
+use crate::cursor::Cursor;
 use crate::flight::Flight;
 use crate::gap::Gap;
 use crate::options::PacerOptions;
@@ -14,7 +15,7 @@ use crate::repeat::{next_flight, next_server, repeat_end};
 use crate::response::{ended_request, take_arrival, take_response};
 use crate::state::PacerState;
 use crate::step::Step;
-use crate::table::{Free, all_begin_below, find_covering, first_free, free_end};
+use crate::table::{Free, all_begin_below, find_covering, first_free, free_end, pass_flights};
 use crate::waiting::{free_from, next_over, over_from};
 use std::alloc::{AllocError, Global};
 
@@ -37,10 +38,10 @@ pub struct Pacer {
 impl Pacer {
     ghost use Rattle.std.specs.Prelude.{max, min, [], map, false, IfOk, IfSome, IfNone, OnErr, ℕ, ◌-◌, Some, slice_get};
     ghost use Rattle.std.specs.List.{list_all};
-    ghost use Rattle.mold_pacing.specs.Asks.{are_gaps, AreAllInFlight, AsksFrom, IsFirstFree};
+    ghost use Rattle.mold_pacing.specs.Asks.{are_gaps, AsksFrom};
     ghost use Rattle.mold_pacing.specs.Deadline.{CanAsk, can_send};
     ghost use Rattle.mold_pacing.specs.Polls.{HasAsked, IsIdle, ended_request, last_request, request_for};
-    ghost use Rattle.mold_pacing.specs.Flight.{ArePassed, BeginAbove, in_flight};
+    ghost use Rattle.mold_pacing.specs.Flight.{AllInFlight, ArePassed, BeginAbove, in_flight};
     ghost use Rattle.mold_pacing.specs.Repeat.{attempts_of, end_for, flight_for, server_for};
     ghost use Rattle.mold_pacing.specs.Most.{learned, request_most};
     ghost use Rattle.mold_pacing.specs.declared.flight.Flight.{Flight};
@@ -77,6 +78,7 @@ impl Pacer {
     }
 
     /// Changes the patience. It counts from the next call of `advance` on.
+    #[inline(always)]
     pub fn adapt(&mut self, patience: u64)
         ensures options { self.new.options ≡ self.old.options }
         ensures state { self.new.state ≡ adapted patience self.old.state }
@@ -208,22 +210,22 @@ impl Pacer {
             && self.room_from() <= self.state.now
     }
 
-    /// Returns the least number of the gaps that is ripe and not in flight.
-    pub fn next_free(&self, gaps: &[Gap]) -> Option<u64>
-        requires { are_gaps 0 gaps.now ≡ true }
-        ensures some { IfSome result (λ number. (end : ℕ) × IsFirstFree self.now.flights.items self.now.state.now
-            self.now.state.ripe gaps.now number end) }
-        ensures none { IfNone result
-            (AreAllInFlight self.now.flights.items self.now.state.now self.now.state.ripe gaps.now) }
+    /// Moves the cursor to the least number, from its number on, that is not in flight. A walk that moves one cursor on
+    /// and on visits each request once.
+    pub fn pass(&self, from: Cursor) -> Cursor
+        requires passed { ArePassed self.now.flights.items self.now.state.now from.index from.number }
+        ensures passed { ArePassed self.now.flights.items self.now.state.now result.index result.number }
+        ensures low { from.number ≤ result.number }
+        ensures busy { AllInFlight self.now.flights.items self.now.state.now from.number result.number }
+        ensures free { in_flight self.now.state.now result.number self.now.flights.items ≡ false }
     {
-        let free = first_free(&self.flights, self.state.now, self.state.ripe, gaps)?;
-        Some(free.first)
+        pass_flights(&self.flights, self.state.now, from)
     }
 
     /// Returns the first time at which a request in flight is over, or `u64::MAX` if nothing is in flight. If all ripe
     /// numbers are in flight, no request can be sent before.
     pub fn next_over(&self) -> u64
-        ensures now { self.now.state.now ≤ result }
+        ensures now { self.now.state.now < result }
         ensures least { (time number : ℕ) → time < result →
             in_flight self.now.state.now number self.now.flights.items ≡ true → CanAsk self.now time number → ⊥ }
         ensures same { (time : ℕ) (i : ℕ) (f : Flight) → time < result → slice_get self.now.flights.items i ≡ Some f →
@@ -235,6 +237,7 @@ impl Pacer {
     }
 
     /// Returns what the pacer knows besides its requests.
+    #[inline(always)]
     pub fn state(&self) -> PacerState
         ensures { result ≡ self.now.state }
     {

@@ -6,16 +6,9 @@ ghost use Rattle.mold_pacing.specs.Flight.{AllInFlight, ArePassed, BeginAbove, N
 ghost use Rattle.mold_pacing.specs.Flight.{is_ascending};
 ghost use Rattle.mold_pacing.specs.Asks.{AreGaps, AreAllInFlight, IsFirstFree};
 
+use crate::cursor::Cursor;
 use crate::flight::Flight;
 use crate::gap::Gap;
-
-/// How far a walk over the table has come: `number` is the least number that can be free, and the requests in flight
-/// before `index` end at or below it.
-#[derive(Clone, Copy, Debug)]
-pub(crate) struct Cursor {
-    pub(crate) index: usize,
-    pub(crate) number: u64,
-}
 
 /// A free number, the end of its gap, and the index from which on all requests begin above it.
 #[derive(Clone, Copy, Debug)]
@@ -25,9 +18,9 @@ pub(crate) struct Free {
     pub(crate) end: u64,
 }
 
-// Passes each request that begins at or below the cursor's number. The cursor's number then is the least one from there
-// on that is not in flight.
-fn pass_flights(flights: &[Flight], now: u64, from: Cursor) -> Cursor
+/// Passes each request that begins at or below the cursor's number. The cursor's number then is the least one from
+/// there on that is not in flight.
+pub(crate) fn pass_flights(flights: &[Flight], now: u64, from: Cursor) -> Cursor
     requires sorted { is_ascending 0 flights.now ≡ true }
     requires passed { ArePassed flights.now now from.index from.number }
     ensures passed { ArePassed flights.now now result.index result.number }

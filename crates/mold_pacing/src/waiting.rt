@@ -1,6 +1,6 @@
 //! How long the requests in flight keep a number or a place.
 
-ghost use Rattle.std.specs.Prelude.{◌≡◌, ◌<◌, ◌≤◌, ℕ, true, false, length, nat_lt, if◌then◌else◌, slice_get, Some};
+ghost use Rattle.std.specs.Prelude.{◌≡◌, ◌<◌, ◌≤◌, ◌^◌, ℕ, true, false, length, nat_lt, if◌then◌else◌, slice_get, Some};
 ghost use Rattle.std.specs.List.{list_all, list_any};
 ghost use Rattle.mold_pacing.specs.Flight.{asks_for, in_flight, is_over};
 ghost use Rattle.mold_pacing.specs.declared.flight.Flight.{Flight};
@@ -56,7 +56,8 @@ fn end_after(flight: Flight, now: u64) -> u64
 /// Returns the first time after `now` at which one of the requests in flight is over, or `u64::MAX` if none is in
 /// flight.
 pub(crate) fn next_over(flights: &[Flight], now: u64) -> u64
-    ensures later { now ≤ result }
+    requires { now < 2 ^ 62 }
+    ensures later { now < result }
     ensures same { (time i : ℕ) (f : Flight) → time < result → slice_get flights.now i ≡ Some f → f.until ≤ time →
         f.until ≤ now }
     ensures stays { (time number : ℕ) → time < result → in_flight now number flights.now ≡ true →

@@ -1,11 +1,9 @@
 -- A number that came is never reported as missing.
-use Rattle.std.proofs.Common.{◌≡◌, ◌⊎◌, ℕ, suc, ◌+◌, ◌<◌, ◌≤◌, ◌||◌, max, nat_lt, Bool, true, false, cond}
+use Rattle.std.proofs.Common.{◌≡◌, ◌⊎◌, ℕ, ◌+◌, ◌<◌, ◌≤◌, max, nat_lt, Bool, true, false, cond}
 use Rattle.std.proofs.Common.{List, [], ◌∷◌, ◌++◌, IfOk, MatchOption, OnErr, OnOk, Option, None, Some, Result, Ok, Err}
-use Rattle.std.proofs.Common.{refl, ap, ◌∙◌, sym, subst, arith, inl, inr}
-use Rattle.std.specs.Prelude.{is_some, slice_get}
-use Rattle.std.specs.List.{list_any}
-use Rattle.std.proofs.lemmas.Bool.{true≢false, cases_Bool}
-use Rattle.std.proofs.lemmas.Bool.Decides.{nat_tests}
+use Rattle.std.proofs.Common.{ap, ◌∙◌, sym, subst, arith, inl, inr}
+use Rattle.std.specs.Prelude.{is_some}
+use Rattle.std.proofs.lemmas.Bool.{true≢false}
 use Rattle.mold_pacing.specs.Frugal.{AreMissingOnce, IsFrugal, IsNeverMissing, comes, has}
 use Rattle.mold_pacing.specs.Run.{IsRun, Takes}
 use Rattle.mold_pacing.specs.declared.ask.Ask.{Ask as Sent}
@@ -25,10 +23,9 @@ use Rattle.mold_receiver.specs.declared.taken.Taken.{Taken}
 use Rattle.mold_repair.specs.Came.{came_below, came_steps, filled_steps, held_from, noted, numbers, range, response_steps}
 use Rattle.mold_repair.specs.Frugal.{IsFrugalRun}
 use Rattle.mold_repair.specs.GivingUp.{IsKept, IsLost}
-use Rattle.mold_repair.specs.Laws.{ArePacerSteps}
+use Rattle.mold_repair.specs.Laws.{ArePacerSteps, ArePollSteps}
 use Rattle.mold_repair.specs.Missing.{IsMissing}
 use Rattle.mold_repair.specs.Origin.{receiver_origin}
-use Rattle.mold_repair.specs.Polls.{HasRequested, IsStill}
 use Rattle.mold_repair.specs.Run.{HasStepped, IsRepaired, nothing}
 use Rattle.mold_repair.specs.Taking.{HasLearned, HasPassed, taken_steps}
 use Rattle.mold_repair.specs.Timing.{adapted_from}
@@ -40,8 +37,8 @@ use Rattle.mold_repair.specs.declared.repairer.Repairer.{Repairer}
 use Rattle.mold_repair.specs.declared.step.RepairStep.{RepairStep}
 use Rattle.mold_repair.specs.declared.step.RepairStep.TheVariants.{Lost, Pass, Poll, Take}
 use Rattle.mold_repair.proofs.HeldLemmas.{held_has}
-use Rattle.mold_repair.proofs.LawLemmas.{has_paced, paced, paced_lost, paced_none, paced_poll, paced_sent, paced_taken}
-use Rattle.mold_repair.proofs.LawLemmas.{taken_view}
+use Rattle.mold_repair.proofs.LawLemmas.{has_paced, paced, paced_lost, paced_none, paced_poll, paced_taken, taken_view}
+use Rattle.mold_repair.proofs.PollStepLemmas.{HasPolls, polls_of, within}
 use Rattle.mold_repair.proofs.ProgressLemmas.{ReceiverLaws, goes_on}
 use Rattle.mold_rule.specs.declared.refusal.Refusal.{Refusal}
 use Rattle.mold_wire.specs.Packet.{top_of}
@@ -135,12 +132,6 @@ quiet_join w xs ys first then = record {
 pub quiet_if : (w : View) (b : Bool) (xs : List Step) → IsQuiet w xs → IsQuiet w (cond b xs [])
 quiet_if w true xs quiet = quiet
 quiet_if w false xs quiet = quiet_nil w
-
-within : (q : ℕ) (g : Gap) → has q g ≡ true → (g.first ≤ q) × (q < g.end)
-within q g is =
-    let low : g.first ≤ q = grind (arith, nat_tests, is) in
-    let high : q < g.end = grind (arith, nat_tests, is) in
-    (low, high)
 
 false_true : {A : Type 0} → false ≡ true → A
 false_true e = absurd (true≢false (sym e))
@@ -265,12 +256,6 @@ module _ (laws : OnceLaws) (old new : Repairer) (well : IsWellFormed old.arbiter
       (quiet_advance new.arbiter.view time old.arbiter.view.known (Arrive (range 0 new.arbiter.view.next) ∷ [])
       (quiet_arrive new.arbiter.view (range 0 new.arbiter.view.next) (λ q low high. inl high)))
 
-none_any : (p : Gap → Bool) (gs : List Gap) → ((i : ℕ) (g : Gap) → slice_get gs i ≡ Some g → p g ≡ false) →
-    list_any p gs ≡ false
-none_any p [] each = refl
-none_any p (g ∷ gs) each =
-    ap (λ b. b || list_any p gs) (each 0 g refl) ∙ none_any p gs (λ i h is. each (suc i) h is)
-
 missing_lacks : (v : View) (q : ℕ) → HasMessage v q → IsMissing v q → ⊥
 missing_lacks v q has missing =
     elim has [
@@ -278,43 +263,50 @@ missing_lacks v q has missing =
       | inr some ↦ true≢false (sym some ∙ ap is_some missing.lacked)
     ]
 
-not_sent_for : (give_up : ℕ) (v : View) (old new : Pacer) (sent : Option Sent)
-    (did : MatchOption sent (IsStill give_up v old new) (HasRequested give_up v old new)) (q : ℕ) → HasMessage v q
-    → list_any (has q) (paced_sent give_up v old new sent did).0 ≡ false
-unfolding paced_sent
-not_sent_for give_up v old new None did q had = refl
-not_sent_for give_up v old new (Some sent) did q had =
-    none_any (has q) did.gaps (λ i g there.
-    elim (cases_Bool (has q g)) [
-      | inr out ↦ out
-      | inl inside ↦
-          let lies = within q g inside in
-          absurd (missing_lacks v q had (did.are.wanted i g there q lies.0 lies.1).missing)
-    ])
+-- No number comes in a poll.
+none_come : (q : ℕ) (xs : List Step) → ArePollSteps xs → ComesIn q xs → ⊥
+none_come q [] are is = is
+none_come q (Advance time known ∷ xs) are is = absurd are.0
+none_come q (Adapt patience ∷ xs) are is = absurd are.0
+none_come q (PollGaps gaps ∷ xs) are (inl here) = false_true here
+none_come q (PollGaps gaps ∷ xs) are (inr there) = none_come q xs are.1 there
+none_come q (Respond server came ∷ xs) are is = absurd are.0
+none_come q (Arrive came ∷ xs) are is = absurd are.0
+
+-- So no number comes before a gap that has it.
+polls_once : (xs : List Step) → ArePollSteps xs → AreMissingOnce xs
+polls_once [] are = tt
+polls_once (Advance time known ∷ xs) are = absurd are.0
+polls_once (Adapt patience ∷ xs) are = absurd are.0
+polls_once (PollGaps gaps ∷ xs) are = (λ q is. false_true is, polls_once xs are.1)
+polls_once (Respond server came ∷ xs) are = absurd are.0
+polls_once (Arrive came ∷ xs) are = absurd are.0
+
+-- The time, then polls.
+once_polled : (v w : View) (time known : ℕ) (old new : Pacer) (sent : List (Option Sent))
+    (polls : HasPolls v old new sent) → IsOnce v w (Advance time known ∷ polls.steps)
+once_polled v w time known old new sent polls = record {
+  fresh = λ q had. polls.missing q (missing_lacks v q had);
+  once = (λ q is. false_true is, polls_once polls.steps polls.are);
+  came = λ q is. elim is [
+    | inl here ↦ false_true here
+    | inr there ↦ absurd (none_come q polls.steps polls.are there)
+  ];
+}
 
 once_step : (laws : OnceLaws) (old new : Repairer) (step : RepairStep) (o : Outcome) (handed : Handed)
     (did : HasStepped old new step handed o) → IsWellFormed old.arbiter.view
     → IsOnce old.arbiter.view new.arbiter.view (has_paced old new step o handed did).steps
-unfolding has_paced paced_none paced_poll paced_lost paced_taken paced_sent
+unfolding has_paced paced_none paced_poll paced_lost paced_taken
 once_step laws old new (Take time origin datagram) o handed did well =
     let t = did.0 in
     once_taken laws old new well (Take time origin datagram) o time origin datagram.now handed t.result _ _ _ t.learned
     t.passed t.taken
 once_step laws old new (Poll time) o handed did well =
+    let v = old.arbiter.view in
     let polled = did.polled in
-    record {
-      fresh = λ q had. (
-        not_sent_for old.options.give_up old.arbiter.view polled.between new.pacer polled.sent polled.polled
-            q had,
-        tt,
-      );
-      once = (λ q is. false_true is, (λ q is. false_true is, tt));
-      came = λ q is. elim is [
-        | inl here ↦ false_true here
-        | inr (inl here) ↦ false_true here
-        | inr (inr there) ↦ absurd there
-      ];
-    }
+    let of = polls_of old.options v old.pacer new.pacer time o.ask polled in
+    once_polled v new.arbiter.view time v.known polled.between new.pacer of.sent of.polls
 once_step laws old new (Lost time) o handed (inl did) well =
     once_lost laws old new well time o handed did.gave.between o.lost _ did.gave.time did.gave.gave
 once_step laws old new (Lost time) o handed (inr did) well =

@@ -4,13 +4,12 @@ use Rattle.std.proofs.Common.{IfErr, IfOk, IfSome, OnErr, OnOk, MatchOption, Opt
 use Rattle.std.proofs.Common.{refl, ap, ◌∙◌, sym, subst, arith, inl, inr}
 use Rattle.std.proofs.Math.Nat.{mul-le-mul_left}
 use Rattle.mold_pacing.specs.Laws.{AreApart, count_asks}
-use Rattle.mold_pacing.specs.Polls.{HasAsked, IsIdle}
 use Rattle.mold_pacing.specs.Run.{IsRun, Takes}
 use Rattle.mold_pacing.specs.declared.ask.Ask.{Ask as Sent}
 use Rattle.mold_pacing.specs.declared.gap.Gap.{Gap}
 use Rattle.mold_pacing.specs.declared.pacer.Pacer.{Pacer}
 use Rattle.mold_pacing.specs.declared.step.Step.{Step}
-use Rattle.mold_pacing.specs.declared.step.Step.TheVariants.{Advance, Arrive, Poll as PollGaps}
+use Rattle.mold_pacing.specs.declared.step.Step.TheVariants.{Advance, Arrive}
 use Rattle.mold_receiver.specs.Arbiter.{Arbitration, HasArbitrated, HasRefused, arbitrated}
 use Rattle.mold_receiver.specs.Batch.{Handed, followed_by}
 use Rattle.mold_receiver.specs.Origin.{line_of}
@@ -22,10 +21,11 @@ use Rattle.mold_receiver.specs.declared.line.Line.{Line as TheLine}
 use Rattle.mold_receiver.specs.declared.taken.Taken.{Taken}
 use Rattle.mold_repair.specs.Came.{range}
 use Rattle.mold_repair.specs.GivingUp.{IsKept, IsLost}
-use Rattle.mold_repair.specs.Laws.{AreAllPacerSteps, AreInOrder, ArePacerSteps, HasNumbers, IsPaced, listed, requests_of, returned_all}
+use Rattle.mold_repair.specs.Laws.{AreAllPacerSteps, AreInOrder, ArePacerSteps, HasNumbers, IsPaced}
+use Rattle.mold_repair.specs.Laws.{listed, requests_of, returned_all}
 use Rattle.mold_repair.specs.Options.{tolerance}
 use Rattle.mold_repair.specs.Origin.{receiver_origin}
-use Rattle.mold_repair.specs.Polls.{HasPolled, HasRequested, IsStill, returned}
+use Rattle.mold_repair.specs.Polls.{HasPolled, returned}
 use Rattle.mold_repair.specs.Run.{HasStepped, IsRepaired, IsStepOf, after_lost, delivers, nothing}
 use Rattle.mold_repair.specs.Taking.{HasLearned, HasPassed, no_ask, taken_steps}
 use Rattle.mold_repair.specs.declared.ask.Ask.{Ask}
@@ -36,6 +36,7 @@ use Rattle.mold_repair.specs.declared.step.RepairStep.{RepairStep}
 use Rattle.mold_repair.specs.declared.step.RepairStep.TheVariants.{Lost, Pass, Poll, Take}
 use Rattle.mold_rule.specs.declared.refusal.Refusal.{Refusal}
 use Rattle.mold_wire.specs.declared.session.Session.{Session}
+use Rattle.mold_repair.proofs.PollStepLemmas.{polls_of}
 
 -- The law of the receiver that is used.
 abbrev pub TakenLaw : Type 0
@@ -213,33 +214,16 @@ paced_taken old new step o time steps (Ok t) none are idle learned passed =
 paced_taken old new step o time steps (Err e) none are idle learned passed =
     paced_none old new step o (Advance time old.arbiter.view.known ∷ []) none idle passed
 
--- What a pacer does in a poll.
-unfoldable pub paced_sent : (give_up : ℕ) (v : View) (old new : Pacer) (sent : Option Sent)
-    → MatchOption sent (IsStill give_up v old new) (HasRequested give_up v old new)
-    → (gaps : List Gap) × MatchOption sent (IsIdle old new gaps) (HasAsked old new gaps)
-paced_sent give_up v old new None still = (
-  [],
-  record {
-    reason = inr (inl (λ i g there. absurd (let none : ⊥ = cc in none)));
-    flights = still.flights;
-    state = still.state;
-    options = still.options;
-  },
-)
-paced_sent give_up v old new (Some sent) did = (did.gaps, did.asked)
-
 unfoldable pub paced_poll : (old new : Repairer) (time : ℕ) (o : Outcome)
     → HasPolled old.options old.arbiter.view old.pacer new.pacer time o.ask → IsPacedStep old new (Poll time) o
 paced_poll old new time o did =
-    let gave = paced_sent old.options.give_up old.arbiter.view did.between new.pacer did.sent did.polled in
-    let step = PollGaps (record { ref_ptr = (0, 0); now = gave.0 }) in
+    let of = polls_of old.options old.arbiter.view old.pacer new.pacer time o.ask did in
     record {
-      steps = Advance time old.arbiter.view.known ∷ step ∷ [];
-      sent = None ∷ did.sent ∷ [];
-      are = (old.arbiter.view.known, step, tt, refl);
-      ran = (did.between, did.time, (new.pacer, gave.1, refl));
-      requests = λ rest.
-          ap (λ (a : Option Ask). listed a (returned_all old.arbiter.view.session old.options.servers rest)) (sym did.answer);
+      steps = Advance time old.arbiter.view.known ∷ of.polls.steps;
+      sent = None ∷ of.sent;
+      are = (old.arbiter.view.known, of.polls.steps, of.polls.are, refl);
+      ran = (did.between, did.time, of.polls.ran);
+      requests = of.requests;
     }
 
 unfoldable pub paced_lost : (old new : Repairer) (time : ℕ) (o : Outcome) (handed : Handed) (between : Pacer) (lost : Option Gap)

@@ -1,7 +1,10 @@
 pub mod HeldLemmas
+pub mod HeaderLemmas
 pub mod TakingLemmas
 pub mod GapLemmas
+pub mod RoomLemmas
 pub mod PollLemmas
+pub mod PollStepLemmas
 pub mod GivingUpLemmas
 pub mod RunLemmas
 pub mod LawLemmas

@@ -36,10 +36,11 @@ use Rattle.mold_repair.specs.GivingUp.{IsKept, IsLost}
 use Rattle.mold_repair.specs.Missing.{IsMissing}
 use Rattle.mold_repair.specs.Needed.{AreNeeded, IsNeeded}
 use Rattle.mold_repair.specs.Origin.{receiver_origin}
-use Rattle.mold_repair.specs.Polls.{HasRequested, IsStill}
+use Rattle.mold_repair.specs.Polls.{HasPolled, HasRequested, HaveRequested, IsStill}
 use Rattle.mold_repair.specs.Run.{HasStepped, IsRepaired, nothing}
 use Rattle.mold_repair.specs.Taking.{HasLearned, HasPassed, taken_steps}
 use Rattle.mold_repair.specs.Timing.{adapted_from}
+use Rattle.mold_repair.specs.declared.ask.Ask.{Ask}
 use Rattle.mold_repair.specs.declared.options.RepairOptions.{RepairOptions}
 use Rattle.mold_repair.specs.declared.origin.RepairOrigin.{RepairOrigin}
 use Rattle.mold_repair.specs.declared.outcome.Outcome.{Outcome}
@@ -486,6 +487,27 @@ polled_tidy give_up v old new None still tidy =
     tidy_same v old new (shrinks_still old new still.flights (omega (arith, now))) tidy
 polled_tidy give_up v old new (Some sent) did tidy = tidy_sent give_up v old new sent did tidy
 
+-- Requests were sent, one after the other.
+requested_tidy : (give_up : ℕ) (v : View) (old new : Pacer) (sent : List Sent)
+    → HaveRequested give_up v old new sent → IsTidy v old → IsTidy v new
+requested_tidy give_up v old new [] have tidy = subst (IsTidy v) (sym have) tidy
+requested_tidy give_up v old new (ask ∷ sent) have tidy =
+    requested_tidy give_up v have.0 new sent have.2 (tidy_sent give_up v old have.0 ask have.1 tidy)
+
+poll_tidy : (options : RepairOptions) (v : View) (old new : Pacer) (now : ℕ) (result : Option Ask)
+    → HasPolled options v old new now result → IsTidy v old → IsTidy v new
+poll_tidy options v old new now result did tidy =
+    let between = passed_tidy v old did.between now (did.between, did.time, refl) tidy in
+    elim (cases_lt 0 options.servers) [
+      | inl some ↦
+          let one = did.some some in
+          polled_tidy options.give_up v did.between new one.sent one.polled between
+      | inr none ↦
+          let all = (did.none (omega (arith, none))).1 in
+          polled_tidy options.give_up v all.after new None all.still
+          (requested_tidy options.give_up v did.between all.after all.sent all.requested between)
+    ]
+
 -- Messages were given up.
 lost_tidy : NeededLaws → (give_up : ℕ) (a b : Arbitration) (handed : Handed) (p q : Pacer) (lost : Option Gap)
     → MatchOption lost (IsKept give_up a b nothing handed p q) (IsLost give_up a b nothing handed p q)
@@ -555,10 +577,8 @@ step_tidy laws old new (Take time origin datagram) o handed did well whole tidy 
     taken_tidy laws old new time origin datagram.now handed t.result t.taken t.refused t.learned t.passed well whole tidy
 step_tidy laws old new (Poll time) o handed did well whole tidy =
     let v = old.arbiter.view in
-    let polled = did.polled in
     viewed v new.arbiter.view new.pacer (ap (λ (a : Arbitration). a.view) did.arbiter)
-    (polled_tidy old.options.give_up v polled.between new.pacer polled.sent polled.polled
-    (passed_tidy v old.pacer polled.between time (polled.between, polled.time, refl) tidy))
+    (poll_tidy old.options v old.pacer new.pacer time o.ask did.polled tidy)
 step_tidy laws old new (Lost time) o handed (inl did) well whole tidy =
     let gave = did.gave in
     lost_tidy laws old.options.give_up old.arbiter new.arbiter handed gave.between new.pacer o.lost gave.gave whole

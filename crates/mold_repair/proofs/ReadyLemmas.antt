@@ -94,6 +94,27 @@ advanced_time time known s =
     now_of (nat_lt (max s.now time - s.marked) s.patience) (record s { now = max s.now time })
     (record s { now = max s.now time; marked = max s.now time; mark = known; ripe = s.mark }) (max s.now time) refl refl
 
+-- The next mark is later than now.
+pub marked_later : (time known : ℕ) (s t : PacerState) → t ≡ advanced time known s → 0 < t.patience →
+    t.now < t.marked + t.patience
+marked_later time known s t is some =
+    let later : 0 < (advanced time known s).patience →
+    (advanced time known s).now < (advanced time known s).marked + (advanced time known s).patience =
+    elim (nat_lt (max s.now time - s.marked) s.patience) as
+    (λ b. nat_lt (max s.now time - s.marked) s.patience ≡ b → 0 < (cond b (record s { now = max s.now time })
+    (record s { now = max s.now time; marked = max s.now time; mark = known; ripe = s.mark })).patience
+    → (cond b (record s { now = max s.now time })
+    (record s { now = max s.now time; marked = max s.now time; mark = known; ripe = s.mark })).now
+    < (cond b (record s { now = max s.now time })
+    (record s { now = max s.now time; marked = max s.now time; mark = known; ripe = s.mark })).marked
+    + (cond b (record s { now = max s.now time })
+    (record s { now = max s.now time; marked = max s.now time; mark = known; ripe = s.mark })).patience) [
+      | true ↦ λ test has. (let soon : max s.now time - s.marked < s.patience = grind (arith, nat_tests, test) in
+          omega (arith, soon))
+      | false ↦ λ test has. omega (arith, has)
+    ] refl in
+    subst (λ (u : PacerState). 0 < u.patience → u.now < u.marked + u.patience) (sym is) later some
+
 -- `is_due` over a table of requests.
 abbrev is_due_over : ℕ → View → List Flight → ℕ → Bool
 is_due_over give_up v fs time =
@@ -158,7 +179,8 @@ asks_then options v old new now result did some late wants kept =
           (omega (arith, opens, time, can.opened, ap (λ (o : PacerOptions). o.tolerance) did.time.options))
           ((λ i. has_room (did.time.options i).places (time i) (fs i)) ∙ can.room);
     } in
-    asks_first options v p new did.sent result ready some did.polled did.answer
+    let one = did.some some in
+    asks_first options v p new one.sent result ready some one.polled one.answer
 
 -- What was given up was requested as often.
 count_none : (number : ℕ) (sent : List (Option Sent)) →

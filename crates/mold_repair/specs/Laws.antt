@@ -65,14 +65,19 @@ IsPollStep (Adapt patience) = ⊥
 IsPollStep (Respond server came) = ⊥
 IsPollStep (Arrive came) = ⊥
 
--- The steps of the pacer in a step of the repairer: the time, then a poll, or what came.
+-- The steps are polls.
+abbrev pub ArePollSteps : List Step → Type 0
+ArePollSteps [] = Unit {0}
+ArePollSteps (step ∷ steps) = IsPollStep step × ArePollSteps steps
+
+-- The steps of the pacer in a step of the repairer: the time, then polls, or what came.
 abbrev pub ArePacerSteps : RepairOptions → RepairStep → List Step → Type 0
 ArePacerSteps options (Take time origin datagram) steps =
     ((before after : View) × (delays : Delays) × (p : Pacer)
     × (steps ≡ taken_steps options time origin datagram.now before after delays p))
     ⊎ ((known : ℕ) × (steps ≡ Advance time known ∷ []))
 ArePacerSteps options (Poll time) steps =
-    (known : ℕ) × (step : Step) × IsPollStep step × (steps ≡ Advance time known ∷ step ∷ [])
+    (known : ℕ) × (polls : List Step) × ArePollSteps polls × (steps ≡ Advance time known ∷ polls)
 ArePacerSteps options (Lost time) steps =
     ((known next : ℕ) × (steps ≡ Advance time known ∷ Arrive (range 0 next) ∷ []))
     ⊎ ((known : ℕ) × (steps ≡ Advance time known ∷ []))

@@ -1,6 +1,7 @@
 pub mod Options
 pub mod Origin
 pub mod Came
+pub mod Header
 pub mod Missing
 pub mod Gaps
 pub mod Timing

@@ -20,11 +20,3 @@ pub record IsWanted (v : View) (limit number : ℕ) : Type 0 where
 abbrev pub AreWanted : View → ℕ → List Gap → Type 0
 AreWanted v ripe gaps = (i : ℕ) (g : Gap) → slice_get gaps i ≡ Some g →
     (number : ℕ) → g.first ≤ number → number < g.end → IsWanted v ripe number
-
--- The number is in one of the gaps.
-pub record IsInGaps (gaps : List Gap) (number : ℕ) : Type 0 where
-  pub index : ℕ
-  pub gap : Gap
-  pub there : slice_get gaps index ≡ Some gap
-  pub low : gap.first ≤ number
-  pub high : number < gap.end

@@ -1,7 +1,7 @@
 -- What a repairer does when it is polled, and its deadline.
-use Rattle.std.specs.Prelude.{◌≡◌, ◌⊎◌, ℕ, ◌+◌, ◌-◌, ◌<◌, ◌≤◌, ◌==◌, true, false, List, max, slice_get}
+use Rattle.std.specs.Prelude.{◌≡◌, ◌⊎◌, ℕ, ◌+◌, ◌-◌, ◌<◌, ◌≤◌, ◌==◌, true, false, List, [], ◌∷◌, max, slice_get}
 use Rattle.std.specs.Prelude.{if◌then◌else◌, MatchOption, Option, None, Some}
-use Rattle.mold_pacing.specs.Asks.{IsFirstFree, are_gaps}
+use Rattle.mold_pacing.specs.Asks.{are_gaps}
 use Rattle.mold_pacing.specs.Deadline.{CanAsk, can_send}
 use Rattle.mold_pacing.specs.Flight.{in_flight}
 use Rattle.mold_pacing.specs.Polls.{HasAsked}
@@ -13,7 +13,7 @@ use Rattle.mold_pacing.specs.declared.pacer.Pacer.{Pacer}
 use Rattle.mold_pacing.specs.declared.step.Step.TheVariants.{Advance}
 use Rattle.mold_receiver.specs.View.{View}
 use Rattle.mold_repair.specs.GivingUp.{is_due}
-use Rattle.mold_repair.specs.Missing.{AreWanted, IsInGaps, IsMissing, IsWanted}
+use Rattle.mold_repair.specs.Missing.{AreWanted, IsMissing, IsWanted}
 use Rattle.mold_repair.specs.declared.ask.Ask.{Ask}
 use Rattle.mold_repair.specs.declared.options.RepairOptions.{RepairOptions}
 use Rattle.mold_wire.specs.declared.session.Session.{Session}
@@ -28,21 +28,14 @@ pub record AreGapsOf (v : View) (p : Pacer) (gaps : List Gap) : Type 0 where
   pub wanted : AreWanted v p.state.ripe gaps
   pub whole : (i : ℕ) (g : Gap) → slice_get gaps i ≡ Some g → IsWanted v p.state.ripe g.end → ⊥
 
--- The gaps have all numbers from `from` to just below `end` that may be requested. All such numbers below `from` are in
--- flight.
-pub record AreFirstGaps (v : View) (p : Pacer) (gaps : List Gap) (from end : ℕ) : Type 0 where
-  pub gaps_of : AreGapsOf v p gaps
-  pub below : (i : ℕ) (g : Gap) → slice_get gaps i ≡ Some g → g.end ≤ end
-  pub have : (number : ℕ) → from ≤ number → number < end → IsWanted v p.state.ripe number → IsInGaps gaps number
-  pub passed : (number : ℕ) → number < from → IsWanted v p.state.ripe number → IsSentFor p number
-
--- The gaps have the least number that may be requested and is not in flight.
-pub record HaveFree (v : View) (p : Pacer) (gaps : List Gap) (number : ℕ) : Type 0 where
-  pub from : ℕ
-  pub end : ℕ
-  pub limit : ℕ
-  pub are : AreFirstGaps v p gaps from end
-  pub free : IsFirstFree p.flights.items p.state.now p.state.ripe gaps number limit
+-- A gap of numbers that may be requested. It begins with the least one that is not in flight, and ends before a number
+-- that may not be requested.
+pub record IsFree (v : View) (p : Pacer) (gap : Gap) : Type 0 where
+  pub some : gap.first < gap.end
+  pub wanted : (number : ℕ) → gap.first ≤ number → number < gap.end → IsWanted v p.state.ripe number
+  pub whole : IsWanted v p.state.ripe gap.end → ⊥
+  pub free : in_flight p.state.now gap.first p.flights.items ≡ false
+  pub least : (number : ℕ) → number < gap.first → IsWanted v p.state.ripe number → IsSentFor p number
 
 -- All numbers that may be requested are in flight.
 abbrev pub AreAllSent : View → Pacer → Type 0
@@ -77,22 +70,44 @@ abbrev pub returned : Session → ℕ → Option Sent → Option Ask
 returned session servers None = None
 returned session servers (Some sent) = if servers == 0 then None else Some (ask_of session sent)
 
--- The repairer was polled at this time. `v` is its view, and `old` and `new` are its pacer before and after.
+-- The pacer sent these requests, one after the other.
+abbrev pub HaveRequested : ℕ → View → Pacer → Pacer → List Sent → Type 0
+HaveRequested give_up v old new [] = new ≡ old
+HaveRequested give_up v old new (sent ∷ more) =
+    (next : Pacer) × HasRequested give_up v old next sent × HaveRequested give_up v next new more
+
+-- The pacer sent all requests that could be sent.
+pub record HasSentAll (give_up : ℕ) (v : View) (old new : Pacer) : Type 0 where
+  pub sent : List Sent
+  pub after : Pacer
+  pub requested : HaveRequested give_up v old after sent
+  pub still : IsStill give_up v after new
+
+-- The pacer sent a request, if it could. It was returned, or none was.
+pub record HasSent (options : RepairOptions) (v : View) (old new : Pacer) (result : Option Ask) : Type 0 where
+  pub sent : Option Sent
+  pub polled : MatchOption sent (IsStill options.give_up v old new) (HasRequested options.give_up v old new)
+  pub answer : result ≡ returned v.session options.servers sent
+
+-- The repairer was polled at this time. `v` is its view, and `old` and `new` are its pacer before and after. Without a
+-- server, all requests that could be sent count as sent, and none is returned.
 pub record HasPolled (options : RepairOptions) (v : View) (old new : Pacer) (now : ℕ) (result : Option Ask) :
     Type 0 where
   -- The pacer at this time.
   pub between : Pacer
   pub time : Takes old between (Advance now v.known) None
-  pub sent : Option Sent
-  pub polled : MatchOption sent (IsStill options.give_up v between new) (HasRequested options.give_up v between new)
-  pub answer : result ≡ returned v.session options.servers sent
+  pub none : options.servers ≡ 0 → (result ≡ None) × HasSentAll options.give_up v between new
+  pub some : 0 < options.servers → HasSent options v between new result
+
+-- No request can be sent at this time.
+abbrev pub NoneCanBeSent : View → Pacer → ℕ → Type 0
+NoneCanBeSent v p time = (number : ℕ) → IsWanted v p.state.ripe number → CanAsk p time number → ⊥
 
 -- Nothing happens before the time `deadline`, if no datagram comes: no request can be sent, no missing number becomes
 -- ripe, and no message is to be given up. `p` is the pacer now.
 pub record IsDeadline (give_up : ℕ) (v : View) (p : Pacer) (deadline : ℕ) : Type 0 where
   pub now : p.state.now ≤ deadline
-  pub still : (time number : ℕ) → p.state.now ≤ time → time < deadline → IsWanted v p.state.ripe number →
-      CanAsk p time number → ⊥
+  pub still : (time : ℕ) → p.state.now ≤ time → time < deadline → NoneCanBeSent v p time
   pub unripe : (time known number : ℕ) → max p.state.now p.state.marked ≤ time → time < deadline → IsMissing v number →
       p.state.ripe ≤ number → (advanced time known p.state).ripe ≤ number
   pub kept : (time : ℕ) → p.state.now ≤ time → time < deadline → is_due give_up v p time ≡ false
@@ -102,3 +117,6 @@ pub record IsDeadline (give_up : ℕ) (v : View) (p : Pacer) (deadline : ℕ) : 
   -- If a missing number is not ripe, the next mark is near.
   pub ripens : (number : ℕ) → IsMissing v number → p.state.ripe ≤ number →
       deadline ≤ max p.state.now (p.state.marked + p.state.patience)
+  -- If nothing is to be done now, the deadline is later.
+  pub later : 0 < p.state.patience → is_due give_up v p p.state.now ≡ false → NoneCanBeSent v p p.state.now →
+      p.state.now < deadline

@@ -6,7 +6,9 @@ mod ask;
 mod came;
 mod error;
 mod gaps;
+mod header;
 pub mod laws;
+mod line_stats;
 mod options;
 mod origin;
 mod outcome;
@@ -17,6 +19,7 @@ mod step;
 
 pub use ask::Ask;
 pub use error::RepairError;
+pub use line_stats::LineStats;
 pub use options::RepairOptions;
 pub use origin::RepairOrigin;
 pub use outcome::Outcome;

@@ -17,6 +17,7 @@ pub enum RepairOrigin {
 
 impl RepairOrigin {
     /// Returns the origin as the arbiter sees it, to which all servers are alike.
+    #[inline(always)]
     pub(crate) fn receiver_origin(self) -> Origin
         ensures { result ≡ receiver_origin self }
     {
@@ -27,6 +28,7 @@ impl RepairOrigin {
     }
 
     /// Returns whether the origin is a line.
+    #[inline(always)]
     pub(crate) fn is_line(self) -> bool
         ensures { result ≡ is_line self }
     {
@@ -37,6 +39,7 @@ impl RepairOrigin {
     }
 
     /// Returns the index of the line, or 0 if there is none.
+    #[inline(always)]
     pub(crate) fn line_index(self) -> u32
         ensures { result ≡ line_index self }
     {

@@ -1,19 +1,20 @@
 //! The repairer: a receiver of two lines that requests what is missing.
 
-ghost use Rattle.std.specs.Prelude.{◌≡◌, ◌≤◌, ◌<◌, ◌^◌, true, vec_capacity};
+ghost use Rattle.std.specs.Prelude.{◌≡◌, ◌≤◌, ◌<◌, ◌^◌, true};
 ghost use Rattle.mold_repair.specs.Options.{ArePacerOptions, are_options};
-ghost use Rattle.mold_repair.specs.declared.gaps.TheConstants.{GAPS as THE_GAPS};
 
 use crate::ask::Ask;
-use crate::came::{came_below, is_timed, numbers_of, report};
+use crate::came::{came_below, is_timed, report};
 use crate::error::RepairError;
-use crate::gaps::{GAPS, find_free};
+use crate::gaps::find_free;
+use crate::header::numbers_in;
+use crate::line_stats::LineStats;
 use crate::options::RepairOptions;
 use crate::origin::RepairOrigin;
 use crate::stats::{RepairCounts, RepairStats};
 use mold_pacing::{Arrival, Delays, Gap, Pacer};
 use mold_receiver::laws::wanted_law;
-use mold_receiver::{Arbiter, Batch, Refusal, Taken};
+use mold_receiver::{Arbiter, Batch, Line, Refusal, Taken};
 use mold_wire::Request;
 use std::alloc::{AllocError, Global};
 
@@ -29,11 +30,8 @@ pub struct Repairer {
     // The delays between the lines.
     delays: Delays,
     counts: RepairCounts,
-    // Buffer for the gaps that are looked at, so that no call takes memory for them.
-    gaps: Vec<Gap>,
     ghost valid: { are_options options ≡ true },
     ghost paced: { ArePacerOptions options pacer.options },
-    ghost room: { THE_GAPS ≤ vec_capacity gaps },
 }
 
 impl Repairer {
@@ -41,21 +39,23 @@ impl Repairer {
     ghost use Rattle.std.specs.Prelude.{false, if◌then◌else◌, is_some, max, slice_get};
     ghost use Rattle.mold_pacing.specs.declared.flight.Flight.{Flight};
     ghost use Rattle.mold_pacing.specs.State.{advanced, fresh};
-    ghost use Rattle.mold_pacing.specs.Delays.{no_arrivals};
+    ghost use Rattle.mold_pacing.specs.Delays.{greatest_on, no_arrivals};
     ghost use Rattle.mold_pacing.specs.Deadline.{CanAsk};
-    ghost use Rattle.mold_receiver.specs.Arbiter.{HasArbitrated, HasRefused};
+    ghost use Rattle.mold_receiver.specs.Arbiter.{HasArbitrated, HasRefused, report_on};
     ghost use Rattle.mold_receiver.specs.Batch.{Follows};
     ghost use Rattle.mold_receiver.specs.Origin.{line_of};
     ghost use Rattle.mold_receiver.specs.Wanted.{HasNoGap, IsNextGap};
     ghost use Rattle.mold_repair.specs.Came.{noted, numbers};
+    ghost use Rattle.mold_repair.specs.Header.{IsRead};
     ghost use Rattle.mold_repair.specs.GivingUp.{HasGivenUp, IsGivenUp, is_due};
     ghost use Rattle.mold_repair.specs.Missing.{IsMissing, IsWanted};
     ghost use Rattle.mold_repair.specs.Origin.{receiver_origin};
-    ghost use Rattle.mold_repair.specs.Polls.{HasPolled, HasRequested, IsDeadline, IsStill};
-    ghost use Rattle.mold_repair.specs.Stats.{counted_answer, counted_lost, counted_poll, no_counts};
+    ghost use Rattle.mold_repair.specs.Polls.{HasPolled, HasRequested, HasSentAll, IsDeadline, IsStill, NoneCanBeSent};
+    ghost use Rattle.mold_repair.specs.Stats.{counted_lost, counted_poll, counted_taken, line_stats, no_counts};
     ghost use Rattle.mold_repair.specs.StatsOf.{IsStats};
     ghost use Rattle.mold_repair.specs.Taking.{HasLearned, HasPassed, taken_steps};
-    ghost use Rattle.mold_repair.specs.Timing.{IsTimed, adapted_from};
+    ghost use Rattle.mold_repair.specs.Timing.{IsTimed, adapted_from, line_index};
+    ghost use Rattle.mold_repair.specs.declared.origin.RepairOrigin.TheVariants.{Line as OnLine};
     ghost use Rattle.mold_wire.specs.Reading.{reading};
     ghost use Rattle.mold_repair.specs.declared.error.RepairError.TheVariants.{Memory, Options};
 
@@ -74,6 +74,7 @@ impl Repairer {
         ensures arrivals { IfOk result (λ repairer. repairer.delays.arrivals.items ≡ no_arrivals) }
         ensures counts { IfOk result (λ repairer. repairer.counts ≡ no_counts) }
         ensures recent { IfOk result (λ repairer. repairer.delays.recent.items ≡ []) }
+        ensures lines { IfOk result (λ repairer. repairer.delays.lines.items ≡ []) }
         ensures ok { OnOk result (are_options options ≡ true) }
         ensures invalid { are_options options ≡ false → result ≡ Err Options }
         ensures memory { are_options options ≡ true → IfErr result (λ error. error ≡ Memory) }
@@ -87,21 +88,12 @@ impl Repairer {
         let Ok(delays) = Delays::new(alloc) else {
             return Err(RepairError::Memory);
         };
-        let Ok(gaps) = Vec::with_capacity(alloc, GAPS) else {
-            return Err(RepairError::Memory);
-        };
         Ok(Repairer {
             arbiter,
             pacer,
             options,
             delays,
-            counts: RepairCounts {
-                requests: 0,
-                answers: 0,
-                useless: 0,
-                lost: 0,
-            },
-            gaps,
+            counts: RepairCounts::new(),
         })
     }
 
@@ -140,6 +132,7 @@ impl Repairer {
     // Adapts the patience, if it adapts and the datagram brought messages on a line.
     #[inline(always)]
     fn adapt(&mut self, origin: RepairOrigin, datagram: &[u8])
+        requires read { IsRead datagram.now }
         ensures timed { IsTimed self.old.options self.old.pacer.state.now origin (numbers (reading datagram.now))
             self.old.delays self.new.delays }
         ensures learned { HasLearned self.old.pacer self.new.pacer
@@ -151,7 +144,7 @@ impl Repairer {
         if self.options.patience != 0 {
             return;
         }
-        let came = numbers_of(datagram);
+        let came = numbers_in(datagram);
         if !is_timed(&self.options, origin, came) {
             return;
         }
@@ -191,20 +184,37 @@ impl Repairer {
         ensures passed { OnErr result (HasPassed now self.old.arbiter.view self.old.pacer self.new.pacer) }
         ensures same { OnErr result (self.new.delays ≡ self.old.delays) }
         ensures options { self.new.options ≡ self.old.options }
-        ensures counted { IfOk result (λ taken. self.new.counts ≡ counted_answer origin taken self.old.counts) }
+        ensures counted { IfOk result (λ taken. self.new.counts ≡ counted_taken origin taken self.old.counts) }
         ensures counts { OnErr result (self.new.counts ≡ self.old.counts) }
     {
         let receiver = self.arbiter.receiver();
         let known = receiver.known();
         let is_missing = receiver.next() < known;
         self.pacer.advance(now, known);
-        let taken = self
+        // For the optimizer: `Taken` is rebuilt field by field, as in `Arbiter::take_from`.
+        match self
             .arbiter
-            .take_from(origin.receiver_origin(), datagram, batch)?;
-        self.learn(origin, datagram, is_missing);
-        self.adapt(origin, datagram);
-        self.counts = self.counts.take(origin, taken);
-        Ok(taken)
+            .take_from(origin.receiver_origin(), datagram, batch)
+        {
+            Ok(
+                Taken {
+                    handed,
+                    kept,
+                    beyond,
+                },
+            ) => {
+                let taken = Taken {
+                    handed,
+                    kept,
+                    beyond,
+                };
+                self.learn(origin, datagram, is_missing);
+                self.adapt(origin, datagram);
+                self.counts = self.counts.take(origin, taken);
+                Ok(taken)
+            }
+            Err(refused) => Err(refused),
+        }
     }
 
     // Returns the first missing messages, if they were requested as often as allowed.
@@ -279,12 +289,24 @@ impl Repairer {
         if !self.pacer.can_send() {
             return None;
         }
-        find_free(&self.arbiter, &self.pacer, &mut self.gaps)?;
-        self.pacer.poll(&self.gaps)
+        let gap = find_free(&self.arbiter, &self.pacer)?;
+        self.pacer.poll(&[gap])
+    }
+
+    // Sends all requests that may be sent now.
+    fn send_all(&mut self)
+        ensures sent { HasSentAll self.old.options.give_up self.old.arbiter.view self.old.pacer self.new.pacer }
+        ensures arbiter { self.new.arbiter ≡ self.old.arbiter }
+        ensures options { self.new.options ≡ self.old.options }
+        ensures counts { self.new.counts ≡ self.old.counts }
+        ensures delays { self.new.delays ≡ self.old.delays }
+    {
+        while self.send().is_some() {}
     }
 
     /// Returns the next request that may be sent at the time `now`, if there is one. It counts as sent. Call it until
     /// it returns none. It takes no memory. While messages are to be given up, it returns none: call `lost` before.
+    /// Without a server it returns none, and each request that could be sent counts for giving up.
     pub fn poll(&mut self, now: u64) -> Option<Ask>
         requires { now < 2 ^ 62 }
         ensures polled { HasPolled self.old.options self.old.arbiter.view self.old.pacer self.new.pacer now result }
@@ -294,10 +316,11 @@ impl Repairer {
         ensures delays { self.new.delays ≡ self.old.delays }
     {
         self.pacer.advance(now, self.arbiter.receiver().known());
-        let sent = self.send()?;
         if self.options.servers == 0 {
+            self.send_all();
             return None;
         }
+        let sent = self.send()?;
         self.counts = self.counts.request();
         Some(Ask {
             request: Request {
@@ -310,25 +333,22 @@ impl Repairer {
     }
 
     // Returns the time before which no request can be sent, if no datagram comes.
-    fn sends(&mut self) -> u64
-        ensures now { self.old.pacer.state.now ≤ result }
-        ensures still { (time number : ℕ) → self.old.pacer.state.now ≤ time → time < result →
-            IsWanted self.old.arbiter.view self.old.pacer.state.ripe number → CanAsk self.old.pacer time number → ⊥ }
-        ensures bound { (number : ℕ) → IsWanted self.old.arbiter.view self.old.pacer.state.ripe number →
-            result ≤ self.old.pacer.state.now + max self.old.pacer.options.ceiling self.old.pacer.options.interval }
-        ensures same { (time i : ℕ) (f : Flight) → 0 < self.old.options.give_up → time < result →
-            slice_get self.old.pacer.flights.items i ≡ Some f → f.until ≤ time → f.until ≤ self.old.pacer.state.now }
-        ensures pacer { self.new.pacer ≡ self.old.pacer }
-        ensures arbiter { self.new.arbiter ≡ self.old.arbiter }
-        ensures options { self.new.options ≡ self.old.options }
-        ensures counts { self.new.counts ≡ self.old.counts }
-        ensures delays { self.new.delays ≡ self.old.delays }
+    fn sends(&self) -> u64
+        ensures now { self.now.pacer.state.now ≤ result }
+        ensures later { NoneCanBeSent self.now.arbiter.view self.now.pacer self.now.pacer.state.now →
+            self.now.pacer.state.now < result }
+        ensures still { (time : ℕ) → self.now.pacer.state.now ≤ time → time < result →
+            NoneCanBeSent self.now.arbiter.view self.now.pacer time }
+        ensures bound { (number : ℕ) → IsWanted self.now.arbiter.view self.now.pacer.state.ripe number →
+            result ≤ self.now.pacer.state.now + max self.now.pacer.options.ceiling self.now.pacer.options.interval }
+        ensures same { (time i : ℕ) (f : Flight) → 0 < self.now.options.give_up → time < result →
+            slice_get self.now.pacer.flights.items i ≡ Some f → f.until ≤ time → f.until ≤ self.now.pacer.state.now }
     {
         let over = self.pacer.next_over();
-        let Some(number) = find_free(&self.arbiter, &self.pacer, &mut self.gaps) else {
+        let Some(gap) = find_free(&self.arbiter, &self.pacer) else {
             return over;
         };
-        let time = self.pacer.deadline(number);
+        let time = self.pacer.deadline(gap.first);
         if self.options.give_up == 0 {
             return time;
         }
@@ -343,6 +363,8 @@ impl Repairer {
         ensures bound { (number : ℕ) → IsMissing self.now.arbiter.view number → self.now.pacer.state.ripe ≤ number →
             result ≤ max self.now.pacer.state.now (self.now.pacer.state.marked + self.now.pacer.state.patience) }
         ensures now { self.now.pacer.state.now ≤ result }
+        ensures later { self.now.pacer.state.now < self.now.pacer.state.marked + self.now.pacer.state.patience →
+            self.now.pacer.state.now < result }
     {
         let state = self.pacer.state();
         match self.arbiter.next_missing(state.ripe) {
@@ -352,8 +374,8 @@ impl Repairer {
     }
 
     /// Returns the time at which to call `lost` and `poll` next, if no datagram comes before: until then both return
-    /// none, and no number becomes ripe. It can be early: then they return none, and the next deadline is later.
-    /// Without a missing message there is no deadline.
+    /// none, and no number becomes ripe. After both returned none, it is later than `now`. It can be early: then they
+    /// return none again. Without a missing message there is no deadline.
     pub fn deadline(&mut self, now: u64) -> Option<u64>
         requires { now < 2 ^ 62 }
         ensures deadline { IfSome result (IsDeadline self.old.options.give_up self.old.arbiter.view self.new.pacer) }
@@ -387,6 +409,15 @@ impl Repairer {
         self.arbiter.next_missing(from)
     }
 
+    // Returns the statistics of a line.
+    fn line_stats(&self, line: Line, again: u64) -> LineStats
+        ensures { result ≡ line_stats (report_on line self.now.arbiter.reports) again
+            (greatest_on (line_index (OnLine line)) self.now.delays.recent.items self.now.delays.lines.items) }
+    {
+        let index = RepairOrigin::Line(line).line_index();
+        LineStats::new(self.arbiter.report(line), again, self.delays.late(index))
+    }
+
     /// Returns the statistics.
     pub fn stats(&self) -> RepairStats
         ensures { IsStats self.now result }
@@ -401,6 +432,8 @@ impl Repairer {
             missing: ahead.saturating_sub(u64::from(stored)),
             stored,
             patience: self.pacer.state().patience,
+            a: self.line_stats(Line::A, self.counts.again_a),
+            b: self.line_stats(Line::B, self.counts.again_b),
             counts: self.counts,
         }
     }

@@ -1,11 +1,13 @@
 //! What a repairer counts.
 
 ghost use Rattle.std.specs.Prelude.{◌≡◌};
-ghost use Rattle.mold_repair.specs.Stats.{counted_answer, counted_loss, counted_request};
+ghost use Rattle.mold_repair.specs.Stats.{counted_answer, counted_line, counted_loss, counted_request};
+ghost use Rattle.mold_repair.specs.Stats.{counted_taken, no_counts};
 
+use crate::line_stats::LineStats;
 use crate::origin::RepairOrigin;
 use mold_pacing::Gap;
-use mold_receiver::{Gap as Missing, Taken};
+use mold_receiver::{Gap as Missing, Line, Taken};
 
 /// What a repairer counted. A count that reaches 2^64 - 1 stays there.
 #[derive(Clone, Copy, Debug, PartialEq, Eq)]
@@ -18,6 +20,10 @@ pub struct RepairCounts {
     pub useless: u64,
     /// The messages that were given up.
     pub lost: u64,
+    /// The datagrams of line A that were accepted, and of which no message was delivered or stored.
+    pub again_a: u64,
+    /// The same of line B.
+    pub again_b: u64,
 }
 
 /// The state of a repairer, as statistics show it.
@@ -35,11 +41,29 @@ pub struct RepairStats {
     pub stored: u32,
     /// How long a number has to be known before it may be requested, in nanoseconds.
     pub patience: u64,
+    /// What line A brought.
+    pub a: LineStats,
+    /// What line B brought.
+    pub b: LineStats,
     /// What was counted since the beginning.
     pub counts: RepairCounts,
 }
 
 impl RepairCounts {
+    /// Returns the counts before anything was counted.
+    pub(crate) fn new() -> RepairCounts
+        ensures { result ≡ no_counts }
+    {
+        RepairCounts {
+            requests: 0,
+            answers: 0,
+            useless: 0,
+            lost: 0,
+            again_a: 0,
+            again_b: 0,
+        }
+    }
+
     /// Returns the counts after a request was returned.
     pub(crate) fn request(self) -> RepairCounts
         ensures { result ≡ counted_request self }
@@ -51,12 +75,40 @@ impl RepairCounts {
     }
 
     /// Returns the counts after a datagram was accepted.
+    #[inline(always)]
     pub(crate) fn take(self, origin: RepairOrigin, taken: Taken) -> RepairCounts
-        ensures { result ≡ counted_answer origin taken self }
+        ensures { result ≡ counted_taken origin taken self }
     {
-        let RepairOrigin::Server(_) = origin else {
+        match origin {
+            RepairOrigin::Line(line) => self.take_on(line, taken),
+            RepairOrigin::Server(_) => self.answer(taken),
+        }
+    }
+
+    // Returns the counts after a datagram was accepted on this line.
+    #[inline(always)]
+    fn take_on(self, line: Line, taken: Taken) -> RepairCounts
+        ensures { result ≡ counted_line line taken self }
+    {
+        if taken.handed != 0 || taken.kept != 0 {
             return self;
-        };
+        }
+        match line {
+            Line::A => RepairCounts {
+                again_a: self.again_a.saturating_add(1),
+                ..self
+            },
+            Line::B => RepairCounts {
+                again_b: self.again_b.saturating_add(1),
+                ..self
+            },
+        }
+    }
+
+    // Returns the counts after the datagram of a server was accepted.
+    fn answer(self, taken: Taken) -> RepairCounts
+        ensures { result ≡ counted_answer taken self }
+    {
         let answers = self.answers.saturating_add(1);
         if taken.handed == 0 && taken.kept == 0 {
             return RepairCounts {

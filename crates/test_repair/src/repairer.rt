@@ -4,7 +4,9 @@
 use mold_pacing::Gap;
 use mold_receiver::{Arbiter, Batch, Line, Receiver};
 use mold_repair::run::{apply, run};
-use mold_repair::{Ask, Outcome, RepairError, RepairOptions, RepairOrigin, RepairStep, Repairer};
+use mold_repair::{
+    Ask, LineStats, Outcome, RepairError, RepairOptions, RepairOrigin, RepairStep, Repairer,
+};
 use mold_wire::{Request, Session};
 use std::alloc::Global;
 use std::process::Abort;
@@ -17,6 +19,8 @@ const DATA_1: &[u8] = b"SESSION001\0\0\0\0\0\0\0\x01\0\x01\0\x01A";
 const DATA_2: &[u8] = b"SESSION001\0\0\0\0\0\0\0\x02\0\x01\0\x01B";
 
 const DATA_3: &[u8] = b"SESSION001\0\0\0\0\0\0\0\x03\0\x01\0\x01C";
+
+const DATA_5: &[u8] = b"SESSION001\0\0\0\0\0\0\0\x05\0\x01\0\x01E";
 
 const OPTIONS: RepairOptions = RepairOptions {
     patience: 10,
@@ -179,6 +183,75 @@ fn takes_a_response(rt: HostRuntime) -> Result<(), Fail> {
     let outcomes = run(&mut repairer, rt.alloc(), &steps, &mut batch)?;
     assert!(&rt; outcomes.as_slice() == wanted.as_slice(), "other outcomes");
     assert!(&rt; repairer.next_missing(0).is_none(), "a gap");
+    Ok(())
+}
+
+// Messages 2 and 4 are missing, and there is no server. Each wait counts for both, so both are given up together.
+#[test]
+fn gives_up_without_a_server(rt: HostRuntime) -> Result<(), Fail> {
+    let options = RepairOptions {
+        servers: 0,
+        ..OPTIONS
+    };
+    let mut repairer = repairer(rt.alloc(), options)?;
+    let mut batch = Batch::new(rt.alloc());
+    for datagram in [DATA_1, DATA_3, DATA_5] {
+        batch.clear();
+        let _taken = repairer.take(1, RepairOrigin::Line(Line::A), datagram, &mut batch);
+    }
+    for (time, deadline) in [(10, 20), (20, 120), (120, 320)] {
+        let ask = repairer.poll(time);
+        assert!(&rt; ask.is_none(), "a request to no server");
+        assert!(&rt;
+            repairer.deadline(time) == Some(deadline),
+            "another deadline"
+        );
+    }
+    for (first, end) in [(2, 3), (4, 5)] {
+        batch.clear();
+        let lost = repairer.lost(320, &mut batch)?;
+        assert!(&rt; lost == Some(Gap { first, end }), "other messages are lost");
+    }
+    assert!(&rt; repairer.stats().counts.requests == 0, "a request counts");
+    Ok(())
+}
+
+// Message 1 comes on both lines, B 300 microseconds after A, and message 2 on line B alone. The patience adapts.
+#[test]
+fn counts_lines(rt: HostRuntime) -> Result<(), Fail> {
+    let options = RepairOptions {
+        patience: 0,
+        ..OPTIONS
+    };
+    let mut repairer = repairer(rt.alloc(), options)?;
+    let mut batch = Batch::new(rt.alloc());
+    for (time, line, datagram) in [
+        (1_000, Line::A, DATA_1),
+        (301_000, Line::B, DATA_1),
+        (302_000, Line::B, DATA_2),
+        (303_000, Line::A, b"?".as_slice()),
+    ] {
+        batch.clear();
+        let _taken = repairer.take(time, RepairOrigin::Line(line), datagram, &mut batch);
+    }
+    let stats = repairer.stats();
+    let a = LineStats {
+        datagrams: 1,
+        first: 1,
+        again: 0,
+        refused: 1,
+        late: 0,
+    };
+    let b = LineStats {
+        datagrams: 2,
+        first: 1,
+        again: 1,
+        refused: 0,
+        late: 300_000,
+    };
+    assert!(&rt; stats.a == a, "other statistics of line A");
+    assert!(&rt; stats.b == b, "other statistics of line B");
+    assert!(&rt; stats.patience == 600_000, "another patience");
     Ok(())
 }
 

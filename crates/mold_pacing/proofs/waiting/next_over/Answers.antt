@@ -7,7 +7,7 @@ use Rattle.mold_pacing.proofs.waiting.next_over.Goals as goal
 
 pub loop-index-init : goal.loop-index-init
 loop-index-init c = record {
-  later = omega (arith, c.ranges.now.fits);
+  later = omega (arith, c.requires);
   waits = λ i f before there busy. absurd (omega (arith, before));
 }
 
@@ -20,7 +20,7 @@ loop-index-preserved c =
     (slice_get-get_or fs index _ c.loop-index-test.true) c.loop-index.invariant
     (end_flies c.args.now flight.until 18446744073709551615 c.end_after.result c.end_after.ensures)
     (end_later c.args.now flight.until 18446744073709551615 c.end_after.result c.end_after.ensures
-    (omega (arith, c.ranges.now.fits))))
+    (omega (arith, c.requires))))
 
 pub returns-clause-stays : goal.returns-clause-stays
 returns-clause-stays c =

@@ -12,7 +12,7 @@ use Rattle.mold_wire.specs.Reading.{reading}
 pub returns-clause-timed : goal.returns-clause-timed
 returns-clause-timed c =
     let old = c.args.self.now in
-    let came = c.numbers_of-came.ensures in
+    let came = c.numbers_in-came.ensures in
     let now = ap (λ (s : PacerState). s.now) c.state.ensures in
     let line = c.line_index.ensures in
     let on = sym (ap (is_timed old.options c.args.origin) came) ∙ sym c.is_timed.ensures ∙ c.if-not-is_timed.false in
@@ -25,7 +25,7 @@ returns-clause-timed c =
 pub returns-clause-learned : goal.returns-clause-learned
 returns-clause-learned c =
     let old = c.args.self.now in
-    let came = c.numbers_of-came.ensures in
+    let came = c.numbers_in-came.ensures in
     let on = sym (ap (is_timed old.options c.args.origin) came) ∙ sym c.is_timed.ensures ∙ c.if-not-is_timed.false in
     adapted_some old.options c.args.origin (numbers (reading c.args.datagram.now)) c.take.new.self old.pacer
     c.adapt.new.self on (record {

@@ -1,8 +1,7 @@
-use Rattle.std.proofs.Common.{◌∙◌, List, Option, refl, subst, sym, inl, inr}
+use Rattle.std.proofs.Common.{◌∙◌, Option, refl, subst, sym, inl, inr}
 use Rattle.std.specs.Prelude.{MatchOption}
 use Rattle.mold_pacing.specs.declared.ask.Ask.{Ask as Sent}
-use Rattle.mold_pacing.specs.declared.gap.Gap.{Gap}
-use Rattle.mold_repair.specs.Polls.{HasRequested, HaveFree, IsStill}
+use Rattle.mold_repair.specs.Polls.{HasRequested, IsStill}
 use Rattle.mold_repair.proofs.GapLemmas.{sent_is}
 use Rattle.mold_repair.proofs.repairer.Repairer.send.Goals as goal
 
@@ -22,11 +21,11 @@ returns-then-not-can_send-clause-sent c = record {
   options = refl;
 }
 
-pub returns-in_err-find_free-clause-sent : goal.returns-in_err-find_free-clause-sent
-returns-in_err-find_free-clause-sent c =
+pub returns-in_err-gap-clause-sent : goal.returns-in_err-gap-clause-sent
+returns-in_err-gap-clause-sent c =
     let old = c.args.self.now in
     let still : IsStill old.options.give_up old.arbiter.view old.pacer old.pacer = record {
-      reason = inr (inr c.in_err-find_free.ensures.none);
+      reason = inr (inr c.in_err-gap.ensures.none);
       flights = refl;
       state = refl;
       options = refl;
@@ -37,8 +36,6 @@ returns-in_err-find_free-clause-sent c =
 pub returns-clause-sent : goal.returns-clause-sent
 returns-clause-sent c =
     let old = c.args.self.now in
-    let v = old.arbiter.view in
-    sent_is old.options.give_up v old.pacer c.poll.new.self c.deref.result.now c.in_ok-find_free.field-0 c.poll.result
-    (subst (λ (gs : List Gap). HaveFree v old.pacer gs c.in_ok-find_free.field-0) (sym c.deref.ensures.value)
-    c.in_ok-find_free.ensures.some) (sym c.given_up.ensures.due ∙ sym c.is_some.ensures ∙ c.if-is_some.false)
+    sent_is old.options.give_up old.arbiter.view old.pacer c.poll.new.self c.in_ok-gap.gap c.poll.result
+    c.in_ok-gap.ensures.some (sym c.given_up.ensures.due ∙ sym c.is_some.ensures ∙ c.if-is_some.false)
     (sym c.can_send.ensures ∙ c.if-not-can_send.false) c.poll.ensures.asked c.poll.ensures.idle

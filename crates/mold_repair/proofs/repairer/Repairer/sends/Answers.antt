@@ -9,19 +9,19 @@ returns-in_default-clause-same c =
 pub returns-then-self-eq0-clause-still : goal.returns-then-self-eq0-clause-still
 returns-then-self-eq0-clause-still c =
     let p = c.args.self.now.pacer in
-    λ time number from before wants can. c.deadline-time.ensures.least time from before (record {
+    λ time from before number wants can. c.deadline-time.ensures.least time from before (record {
       opened = can.opened;
-      free = free_stays p.flights.items p.state.now time c.in-Some.number from c.in-Some.ensures.some.free.free;
+      free = free_stays p.flights.items p.state.now time c.in-Some.gap.first from c.in-Some.ensures.some.free;
       room = can.room;
     })
 
 pub returns-clause-still : goal.returns-clause-still
 returns-clause-still c =
     let p = c.args.self.now.pacer in
-    λ time number from before wants can. c.deadline-time.ensures.least time from (omega (arith, c.min.ensures, before))
+    λ time from before number wants can. c.deadline-time.ensures.least time from (omega (arith, c.min.ensures, before))
     (record {
       opened = can.opened;
-      free = free_stays p.flights.items p.state.now time c.in-Some.number from c.in-Some.ensures.some.free.free;
+      free = free_stays p.flights.items p.state.now time c.in-Some.gap.first from c.in-Some.ensures.some.free;
       room = can.room;
     })
 

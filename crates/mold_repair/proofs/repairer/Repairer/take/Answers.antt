@@ -1,9 +1,10 @@
-use Rattle.std.proofs.Common.{◌∙◌, ℕ, List, [], cond, max, nat_lt, ap, subst, sym, Result, Ok, Err}
-use Rattle.std.specs.Prelude.{OnErr}
+use Rattle.std.proofs.Common.{◌∙◌, ℕ, List, [], cond, max, nat_lt, ap, subst, sym}
 use Rattle.mold_pacing.specs.declared.delays.Delays.{Delays}
 use Rattle.mold_pacing.specs.declared.state.PacerState.{PacerState}
 use Rattle.mold_pacing.specs.declared.step.Step.{Step}
-use Rattle.mold_receiver.specs.Arbiter.{Arbitration}
+use Rattle.mold_receiver.specs.Arbiter.{Arbitration, HasArbitrated}
+use Rattle.mold_receiver.specs.Origin.{line_of}
+use Rattle.mold_receiver.specs.declared.origin.Origin.{Origin}
 use Rattle.mold_receiver.specs.View.{View}
 use Rattle.mold_repair.specs.Came.{noted, numbers}
 use Rattle.mold_repair.specs.Taking.{HasLearned, taken_steps}
@@ -13,19 +14,15 @@ use Rattle.mold_repair.proofs.TakingLemmas.{advanced_now, learned_all, passed}
 use Rattle.mold_repair.proofs.repairer.Repairer.take.Goals as goal
 use Rattle.mold_wire.specs.Reading.{reading}
 
-on_err : {T E : Type 0} {P : Type 0} (r : Result T E) → P → OnErr r P
-on_err (Ok x) p = tt
-on_err (Err e) p = p
-
-pub returns-in_err-taken-clause-passed : goal.returns-in_err-taken-clause-passed
-returns-in_err-taken-clause-passed c =
+pub returns-in-Err-clause-passed : goal.returns-in-Err-clause-passed
+returns-in-Err-clause-passed c =
     let old = c.args.self.now in
     let known = c.known-known.ensures ∙ ap (λ (v : View). v.known) c.receiver-receiver.ensures in
-    on_err c.from_residual.result (passed c.args.now c.known-known.result old.arbiter.view old.pacer c.advance.new.self
+    (passed c.args.now c.known-known.result old.arbiter.view old.pacer c.advance.new.self
     known c.advance.ensures.options c.advance.ensures.state c.advance.ensures.flights)
 
-pub returns-clause-learned : goal.returns-clause-learned
-returns-clause-learned c =
+pub returns-in-Ok-clause-learned : goal.returns-in-Ok-clause-learned
+returns-in-Ok-clause-learned c =
     let old = c.args.self.now in
     let now = c.args.now in
     let origin = c.args.origin in
@@ -53,8 +50,8 @@ returns-clause-learned c =
     (subst (λ (o : RepairOptions). HasLearned old.pacer new.pacer
     (taken_steps o now origin bytes v taken new.delays old.pacer)) c.learn.ensures.options all)
 
-pub returns-clause-timed : goal.returns-clause-timed
-returns-clause-timed c =
+pub returns-in-Ok-clause-timed : goal.returns-in-Ok-clause-timed
+returns-in-Ok-clause-timed c =
     let old = c.args.self.now in
     let came = numbers (reading c.args.datagram.now) in
     let new = c.adapt.new.self in
@@ -65,3 +62,11 @@ returns-clause-timed c =
     (subst (λ (n : ℕ). IsTimed old.options n c.args.origin came c.learn.new.self.delays new.delays) now
     (subst (λ (o : RepairOptions). IsTimed o c.learn.new.self.pacer.state.now c.args.origin came c.learn.new.self.delays
     new.delays) c.learn.ensures.options c.adapt.ensures.timed))
+
+pub returns-in-Ok-clause-taken : goal.returns-in-Ok-clause-taken
+returns-in-Ok-clause-taken c =
+    subst (λ (o : Origin). HasArbitrated (line_of o) c.args.self.now.arbiter c.args.datagram.now c.args.batch.now
+    c.adapt.new.self.arbiter c.take_from.new.batch c.in-Ok.field-0) c.receiver_origin.ensures
+    (subst (λ (a : Arbitration). HasArbitrated (line_of c.receiver_origin.result) c.args.self.now.arbiter
+    c.args.datagram.now c.args.batch.now a c.take_from.new.batch c.in-Ok.field-0)
+    (sym (c.adapt.ensures.arbiter ∙ c.learn.ensures.arbiter)) c.in-Ok.ensures.taken)
