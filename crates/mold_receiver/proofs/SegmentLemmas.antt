@@ -1,5 +1,5 @@
 -- Segments after one of them changes.
-use Rattle.std.proofs.Common.{◌≡◌, ℕ, zero, suc, ◌+◌, ◌-◌, ◌<◌, ◌≤◌, ◌^◌, ◌⊎◌, Bool, true, false, cond, eqb, List, [], ◌∷◌, ◌++◌}
+use Rattle.std.proofs.Common.{◌≡◌, ℕ, zero, suc, ◌+◌, ◌-◌, ◌*◌, ◌<◌, ◌≤◌, ◌^◌, ◌⊎◌, Bool, true, false, cond, eqb, List, [], ◌∷◌, ◌++◌}
 use Rattle.std.proofs.Common.{length, length-append, length-take, drop, refl, sym, ap, subst, ◌∙◌, inl, inr, arith}
 use Rattle.std.proofs.Common.{Vec, Global}
 use Rattle.std.specs.Prelude.{Option, None, Some, Result, Ok, Err, IfOk, OnErr, slice_get, slice_index_or, vec_capacity}
@@ -10,8 +10,10 @@ use Rattle.mold_receiver.specs.declared.segment.Segment.{Segment}
 use Rattle.mold_receiver.specs.declared.segments.Segments.{Segments}
 use Rattle.mold_receiver.specs.declared.place.Place.{Place}
 use Rattle.mold_receiver.specs.Segments.{AreLeft, AreSegments, AreSpare, HasAppended, HasGained, HasLost, IsFilled, StaysOrGoes}
-use Rattle.mold_receiver.specs.Segments.{IsMemoryFor, IsSegment, bytes_at, bytes_of, count_at, live_at, live_of, more_at}
-use Rattle.mold_receiver.specs.Segments.{used_bytes}
+use Rattle.mold_receiver.specs.Segments.{IsMemory, IsMemoryFor, IsSegment, bytes_at, bytes_of, count_at, live_at, live_of}
+use Rattle.mold_receiver.specs.Segments.{more_at, room_at, size_at, size_of, used_bytes}
+use Rattle.mold_receiver.specs.declared.segment.TheConstants.{SEGMENT_BYTES}
+use Rattle.mold_receiver.specs.declared.segments.TheConstants.{MAX_SPARE}
 use Rattle.mold_receiver.proofs.StoreLemmas.{none_some}
 
 count_same : (key count : ℕ) → count_at key count key ≡ count
@@ -51,25 +53,84 @@ some_same : {X : Type 0} (x y : X) → Some x ≡ Some y → x ≡ y
 some_same x y e = cc e
 
 pub are_with : (old new : Segments) (key : ℕ) (segment : Segment) → AreSegments old
-    → Updates old.table new.table key (Some segment) → IsSegment segment → key < 2 ^ 32 → AreSpare new.spare
-    → AreSegments new
-are_with old new key segment are up is few spare = record {
+    → Updates old.table new.table key (Some segment) → IsSegment segment → key < 2 ^ 32
+    → length segment.bytes.items ≤ 2 * segment.used + room_at old.roomy key → new.roomy ≡ old.roomy
+    → AreSpare new.spare → AreSegments new
+are_with old new key segment are up is few size roomy spare = record {
   each = each_of old new key (Some segment) up (λ _ s. IsSegment s)
       (λ s e. subst IsSegment (some_same segment s e) is) (λ at s _ had. are.each at s had);
   keys = each_of old new key (Some segment) up (λ at _. at < 2 ^ 32)
       (λ s e. few) (λ at s _ had. are.keys at s had);
+  size = subst (λ (r : Option ℕ). (at : ℕ) (s : Segment) → get new.table at ≡ Some s →
+      length s.bytes.items ≤ 2 * s.used + room_at r at) (sym roomy)
+      (each_of old new key (Some segment) up (λ at s. length s.bytes.items ≤ 2 * s.used + room_at old.roomy at)
+      (λ s e. subst (λ (x : Segment). length x.bytes.items ≤ 2 * x.used + room_at old.roomy key)
+      (some_same segment s e) size) (λ at s _ had. are.size at s had));
   spare = spare;
 }
 
 pub are_without : (old new : Segments) (key : ℕ) → AreSegments old → Updates old.table new.table key None
-    → AreSpare new.spare → AreSegments new
-are_without old new key are up spare = record {
+    → new.roomy ≡ old.roomy → AreSpare new.spare → AreSegments new
+are_without old new key are up roomy spare = record {
   each = each_of old new key None up (λ _ s. IsSegment s) (λ s e. absurd (none_some e))
       (λ at s _ had. are.each at s had);
   keys = each_of old new key None up (λ at _. at < 2 ^ 32) (λ s e. absurd (none_some e))
       (λ at s _ had. are.keys at s had);
+  size = subst (λ (r : Option ℕ). (at : ℕ) (s : Segment) → get new.table at ≡ Some s →
+      length s.bytes.items ≤ 2 * s.used + room_at r at) (sym roomy)
+      (each_of old new key None up (λ at s. length s.bytes.items ≤ 2 * s.used + room_at old.roomy at)
+      (λ s e. absurd (none_some e)) (λ at s _ had. are.size at s had));
   spare = spare;
 }
+
+-- Any segment may become the roomy one if none was.
+pub are_roomy : (old new : Segments) → AreSegments old → old.roomy ≡ None → new.table ≡ old.table
+    → new.spare ≡ old.spare → AreSegments new
+are_roomy old new are none table spare =
+    let kept : (r : Option ℕ) (at : ℕ) (s : Segment) → get old.table at ≡ Some s →
+    length s.bytes.items ≤ 2 * s.used + room_at r at =
+    λ r at s had. omega (arith, are.size at s had, ap (λ (o : Option ℕ). room_at o at) none) in
+    record {
+      each = λ at s had. are.each at s (ap (λ (t : Slab Segment). get t at) (sym table) ∙ had);
+      keys = λ at s had. are.keys at s (ap (λ (t : Slab Segment). get t at) (sym table) ∙ had);
+      size = λ at s had. kept new.roomy at s (ap (λ (t : Slab Segment). get t at) (sym table) ∙ had);
+      spare = subst AreSpare (sym spare) are.spare;
+    }
+
+-- No segment is roomy any more, if the roomy one's memory is at most twice as large as its bytes.
+pub are_tight : (old new : Segments) (key : ℕ) → AreSegments old → old.roomy ≡ Some key
+    → size_at old key ≤ 2 * length (bytes_at old key) → new.table ≡ old.table → new.spare ≡ old.spare
+    → AreSegments new
+are_tight old new key are roomy small table spare =
+    let kept : (r : Option ℕ) (at : ℕ) (s : Segment) → get old.table at ≡ Some s →
+    length s.bytes.items ≤ 2 * s.used + room_at r at =
+    λ r at s had.
+    elim (cases_eq at key) [
+      | inl same ↦
+          omega (
+            arith,
+            small,
+            ap (λ (n : ℕ). size_at old n) (sym same),
+            ap (λ (n : ℕ). length (bytes_at old n)) (sym same),
+            ap size_of had,
+            ap (λ (o : Option Segment). length (bytes_of o)) had,
+            length-take s.used s.bytes.items,
+            (are.each at s had).used,
+          )
+      | inr other ↦
+          omega (
+            arith,
+            are.size at s had,
+            ap (λ (o : Option ℕ). room_at o at) roomy,
+            count_other key SEGMENT_BYTES at other,
+          )
+    ] in
+    record {
+      each = λ at s had. are.each at s (ap (λ (t : Slab Segment). get t at) (sym table) ∙ had);
+      keys = λ at s had. are.keys at s (ap (λ (t : Slab Segment). get t at) (sym table) ∙ had);
+      size = λ at s had. kept new.roomy at s (ap (λ (t : Slab Segment). get t at) (sym table) ∙ had);
+      spare = subst AreSpare (sym spare) are.spare;
+    }
 
 -- Segments with the same table have the same bytes and counts.
 pub left_of : (old new : Segments) → new.table ≡ old.table → AreLeft old new
@@ -234,21 +295,19 @@ pub filled_segment : (before after : Segment) (more : ℕ) → IsSegment before 
 filled_segment before after more is filled fits = record {
   some = omega (arith, is.some, filled.used);
   used = omega (arith, fits, filled.used, filled.size);
-  size = omega (arith, is.size, filled.used, filled.size);
   exact = omega (arith, is.exact, filled.size, filled.room);
   few = omega (arith, is.few, filled.size);
 }
 
 -- A segment with this memory, of which `used` bytes are in use.
-pub new_segment : (segment : Segment) (memory : Vec ℕ Global) (used most : ℕ) → IsMemoryFor memory used most
+pub new_segment : (segment : Segment) (memory : Vec ℕ Global) (used room : ℕ) → IsMemoryFor memory used room
     → segment.used ≡ used → length segment.bytes.items ≡ length memory.items
-    → vec_capacity segment.bytes ≡ vec_capacity memory → 0 < used → most < 4294967295 → IsSegment segment
-new_segment segment memory used most is filled size room some few = record {
+    → vec_capacity segment.bytes ≡ vec_capacity memory → 0 < used → IsSegment segment
+new_segment segment memory used room is filled size capacity some = record {
   some = omega (arith, some, filled);
   used = omega (arith, is.least, filled, size);
-  size = omega (arith, is.twice, filled, size);
-  exact = omega (arith, is.exact, size, room);
-  few = omega (arith, is.few, size, few);
+  exact = omega (arith, is.exact, size, capacity);
+  few = omega (arith, is.few, size);
 }
 
 -- Offsets in a segment's bytes fit a place.
@@ -271,14 +330,13 @@ last_or (first ∷ list) last (suc i) bytes is = last_or list last i bytes is
 
 -- One more segment's memory is spare.
 pub spare_pushed : (old new : Vec (Vec ℕ Global) Global) (bytes : Vec ℕ Global) → AreSpare old
-    → new.items ≡ old.items ++ bytes ∷ [] → vec_capacity new ≡ vec_capacity old
-    → (length bytes.items ≤ 16384) × (vec_capacity bytes ≤ length bytes.items)
-    → length old.items < 16 → AreSpare new
+    → new.items ≡ old.items ++ bytes ∷ [] → vec_capacity new ≡ vec_capacity old → IsMemory bytes SEGMENT_BYTES
+    → length old.items + 1 < MAX_SPARE → AreSpare new
 spare_pushed old new bytes are is room memory few = record {
   each = λ i b at.
       elim (last_or old.items bytes i b (ap (λ (t : List (Vec ℕ Global)). slice_get t i) (sym is) ∙ at)) [
         | inl had ↦ are.each i b had
-        | inr same ↦ subst (λ (x : Vec ℕ Global). (length x.items ≤ 16384) × (vec_capacity x ≤ length x.items)) same memory
+        | inr same ↦ subst (λ (x : Vec ℕ Global). IsMemory x SEGMENT_BYTES) same memory
       ];
   few = omega (
     arith,

@@ -12,9 +12,10 @@ use Rattle.std.proofs.lemmas.Bool.{cases_eq, eq-eqb, ne_eqb}
 use Rattle.slab.specs.Slab.{entries_from}
 use Rattle.mold_receiver.specs.declared.place.Place.{Place}
 use Rattle.mold_receiver.specs.declared.segment.Segment.{Segment}
+use Rattle.mold_receiver.specs.declared.segment.TheConstants.{SEGMENT_BYTES}
 use Rattle.mold_receiver.specs.declared.segments.Segments.{Segments}
 use Rattle.mold_receiver.specs.declared.shelf.Shelf.{Shelf}
-use Rattle.mold_receiver.specs.Segments.{bytes_of, count_at, memory_of}
+use Rattle.mold_receiver.specs.Segments.{bytes_of, count_at, memory_of, room_at}
 use Rattle.mold_receiver.specs.Shelf.{IsKept, slots_in, slots_on}
 use Rattle.mold_receiver.specs.Slots.{Slot, slot_entries, slots_bytes, store_of}
 use Rattle.mold_receiver.specs.Store.{Message, entry_bytes, stored_bytes}
@@ -70,25 +71,30 @@ sum_lengths segments (Some place ∷ places) at count =
 -- The memory of the segments, by a bound for each key.
 memory_sum : (f : ℕ → ℕ) (at : ℕ) (slots : List (Option Segment))
     → ((i : ℕ) (segment : Segment) → slice_index_or slots i None ≡ Some segment →
-    vec_capacity segment.bytes ≤ 2 * f (at + i))
-    → memory_of (entries_from at slots) ≤ 2 * sum_from f at (length slots)
+    vec_capacity segment.bytes ≤ f (at + i))
+    → memory_of (entries_from at slots) ≤ sum_from f at (length slots)
 memory_sum f at [] each = omega arith
 memory_sum f at (None ∷ slots) each =
     omega (
       arith,
       memory_sum f (at + 1) slots (λ i s is.
           let next : at + suc i ≡ at + 1 + i = omega arith in
-          subst (λ (n : ℕ). vec_capacity s.bytes ≤ 2 * f n) next (each (suc i) s is)),
+          subst (λ (n : ℕ). vec_capacity s.bytes ≤ f n) next (each (suc i) s is)),
     )
 memory_sum f at (Some segment ∷ slots) each =
     let here : at + 0 ≡ at = omega arith in
     omega (
       arith,
-      subst (λ (n : ℕ). vec_capacity segment.bytes ≤ 2 * f n) here (each 0 segment refl),
+      subst (λ (n : ℕ). vec_capacity segment.bytes ≤ f n) here (each 0 segment refl),
       memory_sum f (at + 1) slots (λ i s is.
           let next : at + suc i ≡ at + 1 + i = omega arith in
-          subst (λ (n : ℕ). vec_capacity s.bytes ≤ 2 * f n) next (each (suc i) s is)),
+          subst (λ (n : ℕ). vec_capacity s.bytes ≤ f n) next (each (suc i) s is)),
     )
+
+-- One segment at most is roomy.
+room_once : (roomy : Option ℕ) (at count : ℕ) → sum_from (room_at roomy) at count ≤ SEGMENT_BYTES
+room_once None at count = omega (arith, sum_zero at count)
+room_once (Some key) at count = weight_once key SEGMENT_BYTES at count
 
 slots_total : (segments : Segments) (places : List (Option Place)) →
     total_length segments places ≡ slots_bytes (slots_in segments places)
@@ -130,29 +136,34 @@ pub bytes_slots : (number : ℕ) (slots : List Slot) → stored_bytes (store_of 
 bytes_slots number slots = ap entry_bytes (entries_slots number slots) ∙ entry_slots number slots
 
 pub memory_bound : (shelf : Shelf) → IsKept shelf → IsTight shelf →
-    memory_of (entries_from 0 shelf.segments.table.slots) ≤ 2 * slots_bytes (slots_on shelf)
+    memory_of (entries_from 0 shelf.segments.table.slots) ≤ SEGMENT_BYTES + 2 * slots_bytes (slots_on shelf)
 memory_bound shelf kept tight =
     let table = shelf.segments.table in
     let places = shelf.ring in
     let f : ℕ → ℕ = λ key. length_in shelf.segments key places in
+    let g : ℕ → ℕ = λ key. f key + f key in
+    let room : ℕ → ℕ = room_at shelf.segments.roomy in
     let each : (i : ℕ) (segment : Segment) → slice_index_or table.slots i None ≡ Some segment →
-    vec_capacity segment.bytes ≤ 2 * f (0 + i) =
+    vec_capacity segment.bytes ≤ g (0 + i) + room (0 + i) =
     λ i segment is.
     let key : 0 + i ≡ i = omega arith in
     let some = kept.segments.each i segment is in
-    subst (λ (n : ℕ). vec_capacity segment.bytes ≤ 2 * f n) (sym key)
+    subst (λ (n : ℕ). vec_capacity segment.bytes ≤ g n + room n) (sym key)
     (omega (
       arith,
       tight.exact i,
       ap (λ (o : Option Segment). length (bytes_of o)) is,
       length-take segment.used segment.bytes.items,
       some.used,
-      some.size,
       some.exact,
+      kept.segments.size i segment is,
     )) in
     omega (
       arith,
-      memory_sum f 0 table.slots each,
+      memory_sum (λ key. g key + room key) 0 table.slots each,
+      sum_both g room 0 (length table.slots),
+      sum_both f f 0 (length table.slots),
+      room_once shelf.segments.roomy 0 (length table.slots),
       sum_lengths shelf.segments places 0 (length table.slots),
       slots_total shelf.segments places,
     )

@@ -26,11 +26,10 @@ pub record IsFilled (old new : Segment) (more : ℕ) : Type 0 where
   pub size : length new.bytes.items ≡ length old.bytes.items
   pub room : vec_capacity new.bytes ≡ vec_capacity old.bytes
 
--- The segment's bytes in use are within its memory, which is at most twice as large. Offsets in it fit a place.
+-- The segment's bytes in use are within its memory. Offsets in it fit a place.
 pub record IsSegment (segment : Segment) : Type 0 where
   pub some : 0 < segment.used
   pub used : segment.used ≤ length segment.bytes.items
-  pub size : length segment.bytes.items ≤ 2 * segment.used
   pub exact : vec_capacity segment.bytes ≤ length segment.bytes.items
   pub few : length segment.bytes.items < NO_START
 
@@ -61,31 +60,47 @@ live_at segments key = live_of (get segments.table key)
 abbrev pub one_at : ℕ → ℕ → ℕ
 one_at segment key = if nat_eq segment key then 1 else 0
 
--- The memory has room for these bytes, is at most twice as large, and has at most `most` bytes.
-pub record IsMemoryFor (bytes : Vec ℕ Global) (used most : ℕ) : Type 0 where
-  pub least : used ≤ length bytes.items
-  pub twice : length bytes.items ≤ 2 * used
-  pub few : length bytes.items ≤ most
-  pub exact : vec_capacity bytes ≤ length bytes.items
+-- The size of a segment's memory, in bytes. No segment has none.
+abbrev pub size_of : Option Segment → ℕ
+size_of None = 0
+size_of (Some segment) = length segment.bytes.items
 
--- The memory is that of spare segments: at most `MAX_SPARE`, each of at most `SEGMENT_BYTES` bytes. The list has room
--- for all of them.
-pub record AreSpare (spare : Vec (Vec ℕ Global) Global) : Type 0 where
-  pub each :
-      (i : ℕ) (bytes : Vec ℕ Global) → slice_get spare.items i ≡ Some bytes →
-      (length bytes.items ≤ SEGMENT_BYTES) × (vec_capacity bytes ≤ length bytes.items)
-  pub few : length spare.items ≤ MAX_SPARE
-  pub room : MAX_SPARE ≤ vec_capacity spare
-
--- The segments are consistent, and each has a key that fits a place.
-pub record AreSegments (segments : Segments) : Type 0 where
-  pub each : (key : ℕ) (segment : Segment) → get segments.table key ≡ Some segment → IsSegment segment
-  pub keys : (key : ℕ) (segment : Segment) → get segments.table key ≡ Some segment → key < 2 ^ 32
-  pub spare : AreSpare segments.spare
+-- The size of the memory of the segment with this key.
+abbrev pub size_at : Segments → ℕ → ℕ
+size_at segments key = size_of (get segments.table key)
 
 -- The count for the key itself, zero for another one.
 abbrev pub count_at : ℕ → ℕ → ℕ → ℕ
 count_at segment count key = if nat_eq segment key then count else 0
+
+-- How many bytes of memory a segment may have beyond twice its bytes in use. Only the roomy one may have some.
+abbrev pub room_at : Option ℕ → ℕ → ℕ
+room_at None key = 0
+room_at (Some roomy) key = count_at roomy SEGMENT_BYTES key
+
+-- The memory has room for these bytes, and has at most `room` bytes beyond twice as many.
+pub record IsMemoryFor (bytes : Vec ℕ Global) (used room : ℕ) : Type 0 where
+  pub least : used ≤ length bytes.items
+  pub most : length bytes.items ≤ 2 * used + room
+  pub few : length bytes.items < NO_START
+  pub exact : vec_capacity bytes ≤ length bytes.items
+
+-- The memory is that of spare segments: fewer than `MAX_SPARE`, each of `SEGMENT_BYTES` bytes. The list has room for
+-- `MAX_SPARE`.
+pub record AreSpare (spare : Vec (Vec ℕ Global) Global) : Type 0 where
+  pub each : (i : ℕ) (bytes : Vec ℕ Global) → slice_get spare.items i ≡ Some bytes → IsMemory bytes SEGMENT_BYTES
+  pub few : length spare.items < MAX_SPARE
+  pub room : MAX_SPARE ≤ vec_capacity spare
+
+-- The segments are consistent, and each has a key that fits a place. The memory of each is at most twice as large as its
+-- bytes in use, but for the roomy one.
+pub record AreSegments (segments : Segments) : Type 0 where
+  pub each : (key : ℕ) (segment : Segment) → get segments.table key ≡ Some segment → IsSegment segment
+  pub keys : (key : ℕ) (segment : Segment) → get segments.table key ≡ Some segment → key < 2 ^ 32
+  pub size :
+      (key : ℕ) (segment : Segment) → get segments.table key ≡ Some segment →
+      length segment.bytes.items ≤ 2 * segment.used + room_at segments.roomy key
+  pub spare : AreSpare segments.spare
 
 -- Each segment has the bytes and the count that it had.
 pub record AreLeft (old new : Segments) : Type 0 where

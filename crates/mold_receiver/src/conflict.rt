@@ -56,7 +56,8 @@ pub(crate) fn conflict_of(slots: &Slots, next: u64, packet: &Packet<'_>, top: u6
         return None;
     }
     let first = packet.sequence.max(next) - next;
-    if slots.is_clear(first as usize, (top - next) as usize) {
+    // For speed: a single message is compared at once.
+    if blocks.len() > 1 && slots.is_clear(first as usize, (top - next) as usize) {
         return None;
     }
     find_conflict(slots, next, packet.sequence, blocks)

@@ -9,6 +9,7 @@ ghost use Rattle.mold_receiver.specs.declared.segment.TheConstants.{SEGMENT_BYTE
 use byteorder::{BigEndian, ByteOrder};
 use mold_wire::LENGTH_BYTES;
 use std::alloc::{AllocError, Global};
+use std::mem;
 
 /// A segment grows to at most this many bytes. If the blocks of a packet are longer, their segment has only them.
 pub(crate) const SEGMENT_BYTES: usize = 16384;
@@ -44,6 +45,14 @@ pub(crate) fn length_at(bytes: &[u8], start: usize) -> usize
     ensures few { result < 2 ^ 16 }
 {
     usize::from(BigEndian::read_u16(&bytes[start..start + LENGTH_BYTES]))
+}
+
+/// Returns the offset after the block that starts at this offset of the bytes.
+pub(crate) fn block_end(bytes: &[u8], start: usize) -> usize
+    requires { IsBlockAt bytes.now start }
+    ensures { result ≡ start + LENGTH_BYTES + stated_length bytes.now start }
+{
+    start + LENGTH_BYTES + length_at(bytes, start)
 }
 
 /// Returns the message whose block starts at this offset of the bytes.
@@ -95,8 +104,8 @@ impl Segment {
         self.used = end;
     }
 
-    /// Moves the bytes in use to other memory, and appends these bytes.
-    pub(crate) fn move_to(&mut self, memory: Vec<u8>, bytes: &[u8])
+    /// Moves the bytes in use to other memory, and appends these bytes. Returns the memory that they were in.
+    pub(crate) fn move_to(&mut self, memory: Vec<u8>, bytes: &[u8]) -> Vec<u8>
         requires fits { self.old.used + length bytes.now ≤ length memory.items }
         requires used { self.old.used ≤ length self.old.bytes.items }
         ensures used { used_bytes self.new ≡ used_bytes self.old ++ bytes.now }
@@ -104,10 +113,11 @@ impl Segment {
         ensures live { self.new.live ≡ self.old.live }
         ensures size { length self.new.bytes.items ≡ length memory.items }
         ensures room { vec_capacity self.new.bytes ≡ vec_capacity memory }
+        ensures old { result ≡ self.old.bytes }
     {
         let mut moved = Segment::new(memory, self.filled());
         moved.fill(bytes);
         moved.live = self.live;
-        *self = moved;
+        mem::replace(self, moved).bytes
     }
 }

@@ -1,10 +1,11 @@
 //! The segments of the store: where blocks are appended, and when memory is given back.
 
-ghost use Rattle.std.specs.Prelude.{◌≡◌, ◌+◌, ◌-◌, ◌*◌, ◌<◌, ◌≤◌, ◌^◌, ◌⊎◌, [], length, max, min, IfNone, IfOk};
-ghost use Rattle.std.specs.Prelude.{IfSome, IsTrue, OnErr, Some, None, ℕ, vec_capacity};
+ghost use Rattle.std.specs.Prelude.{◌≡◌, ◌+◌, ◌-◌, ◌*◌, ◌<◌, ◌≤◌, ◌^◌, ◌⊎◌, [], length, min, IfNone, IfOk};
+ghost use Rattle.std.specs.Prelude.{IfSome, OnErr, OnOk, Some, None, ℕ, vec_capacity};
 ghost use Rattle.slab.specs.Slab.{entries, slab_len, SameValues, Updates};
-ghost use Rattle.mold_receiver.specs.Segments.{AreLeft, AreSegments, HasAppended, HasGained, HasLost, IsMemoryFor};
-ghost use Rattle.mold_receiver.specs.Segments.{bytes_at, live_at, memory_of};
+ghost use Rattle.mold_receiver.specs.Segments.{AreLeft, AreSegments, HasAppended, HasGained, HasLost, IsMemory};
+ghost use Rattle.mold_receiver.specs.Segments.{IsMemoryFor, bytes_at, live_at, memory_of, room_at, size_at};
+ghost use Rattle.mold_receiver.specs.declared.place.TheConstants.{NO_START};
 ghost use Rattle.mold_receiver.specs.declared.segment.TheConstants.{SEGMENT_BYTES};
 ghost use Rattle.mold_receiver.specs.declared.segments.TheConstants.{MAX_SPARE};
 
@@ -13,25 +14,21 @@ use crate::segment::{SEGMENT_BYTES, Segment, memory};
 use slab::Slab;
 use std::alloc::{AllocError, Global};
 
-/// The memory of at most this many segments is kept while no stored message needs it.
+/// The memory of at most this many segments is kept while no stored message needs it. The roomy segment is one of them.
 pub(crate) const MAX_SPARE: usize = 16;
 
 // The table of segments keeps its memory while it is empty, if it has room for at most this many.
 const MAX_EMPTY: usize = 256;
 
-// Returns whether the memory has room for `used` bytes, and is at most twice as large.
-fn is_fitting(bytes: &[u8], used: usize) -> bool
-    ensures { IsTrue result → (used ≤ length bytes.now) × (length bytes.now ≤ 2 * used) }
-{
-    used <= bytes.len() && bytes.len() / 2 < used
-}
-
-/// The segments in use, each with a key. A segment's memory is at most twice as large as its bytes. A segment is given
-/// back when its last stored message is gone: its memory is kept as spare, or freed.
+/// The segments in use, each with a key. A segment's memory is at most twice as large as its bytes, but one segment may
+/// have `SEGMENT_BYTES` bytes: the roomy one, which grew last. A segment is given back when its last stored message is
+/// gone: its memory is kept as spare, or freed.
 #[derive(Debug, Drop)]
 pub(crate) struct Segments {
     table: Slab<Segment>,
-    // Memory of segments that were given back.
+    // The key of the roomy segment.
+    roomy: Option<u32>,
+    // Memory of segments that were given back, each of `SEGMENT_BYTES` bytes.
     spare: Vec<Vec<u8>>,
     // The bytes in use of all segments.
     used: usize,
@@ -46,6 +43,7 @@ impl Segments {
     {
         Ok(Segments {
             table: Slab::new(alloc),
+            roomy: None,
             spare: Vec::with_capacity(alloc, MAX_SPARE)?,
             used: 0,
         })
@@ -88,6 +86,16 @@ impl Segments {
         }
     }
 
+    // Returns the size of a segment's memory, in bytes.
+    fn size(&self, key: u32) -> usize
+        ensures { result ≡ size_at self.now key }
+    {
+        match self.table.get(key as usize) {
+            Some(segment) => segment.bytes.len(),
+            None => 0,
+        }
+    }
+
     // Appends bytes to a segment, if its memory has room for them. Returns where they begin.
     fn fill(&mut self, key: u32, bytes: &[u8]) -> Option<Place>
         requires { AreSegments self.old }
@@ -109,48 +117,93 @@ impl Segments {
         })
     }
 
-    // Returns memory for `used` bytes: spare memory of a fitting size, or new memory of `size` bytes.
-    fn memory_for(&mut self, alloc: Global, used: usize, size: usize) -> Result<Vec<u8>, AllocError>
+    // Returns memory of `SEGMENT_BYTES` bytes: spare memory if there is some, or else new memory.
+    fn large_memory(&mut self, alloc: Global) -> Result<Vec<u8>, AllocError>
         requires whole { AreSegments self.old }
-        requires least { used ≤ size }
-        requires most { size ≤ 2 * used }
         ensures whole { AreSegments self.new }
         ensures table { self.new.table ≡ self.old.table }
-        ensures fits { IfOk result (λ bytes. IsMemoryFor bytes used (max SEGMENT_BYTES size)) }
+        ensures roomy { self.new.roomy ≡ self.old.roomy }
+        ensures large { IfOk result (λ bytes. IsMemory bytes SEGMENT_BYTES) }
     {
-        if self.has_spare(used) {
-            if let Some(bytes) = self.spare.pop() {
-                if is_fitting(&bytes, used) {
-                    return Ok(bytes);
-                }
-            }
-        }
-        memory(alloc, size)
-    }
-
-    // Returns whether the memory that became spare last fits `used` bytes.
-    fn has_spare(&self, used: usize) -> bool {
-        match self.spare.last() {
-            Some(bytes) => is_fitting(bytes, used),
-            None => false,
+        match self.spare.pop() {
+            Some(bytes) => Ok(bytes),
+            None => memory(alloc, SEGMENT_BYTES),
         }
     }
 
-    // Keeps memory for later use. If there is enough spare memory, it replaces what became spare last.
+    // Returns memory for `used` bytes, which is at most twice as large.
+    fn memory_for(&mut self, alloc: Global, used: usize) -> Result<Vec<u8>, AllocError>
+        requires whole { AreSegments self.old }
+        requires few { used < NO_START }
+        ensures whole { AreSegments self.new }
+        ensures table { self.new.table ≡ self.old.table }
+        ensures roomy { self.new.roomy ≡ self.old.roomy }
+        ensures fits { IfOk result (λ bytes. IsMemoryFor bytes used 0) }
+    {
+        if used <= SEGMENT_BYTES && SEGMENT_BYTES <= 2 * used {
+            return self.large_memory(alloc);
+        }
+        memory(alloc, used)
+    }
+
+    // Keeps memory of `SEGMENT_BYTES` bytes for later use, if there is not enough yet. Frees other memory.
     fn save(&mut self, bytes: Vec<u8>)
         requires whole { AreSegments self.old }
-        requires few { length bytes.items ≤ SEGMENT_BYTES }
         requires exact { vec_capacity bytes ≤ length bytes.items }
         ensures whole { AreSegments self.new }
         ensures table { self.new.table ≡ self.old.table }
+        ensures roomy { self.new.roomy ≡ self.old.roomy }
     {
-        if self.spare.len() >= MAX_SPARE {
-            self.spare.pop();
+        if bytes.len() == SEGMENT_BYTES && self.spare.len() + 1 < MAX_SPARE {
+            self.spare.push_reserved(bytes);
         }
-        self.spare.push_reserved(bytes);
     }
 
-    // Moves a segment's bytes to larger memory and appends these bytes. Returns where they begin.
+    // Moves a segment's bytes to other memory and appends these bytes. Returns where they begin. The memory that the
+    // segment had is saved.
+    fn move_to(&mut self, key: u32, memory: Vec<u8>, bytes: &[u8]) -> Place
+        requires whole { AreSegments self.old }
+        requires there { 0 < length (bytes_at self.old key) }
+        requires fits { IsMemoryFor memory (length (bytes_at self.old key) + length bytes.now)
+            (room_at self.old.roomy key) }
+        ensures whole { AreSegments self.new }
+        ensures appended { HasAppended self.old self.new result bytes.now }
+        ensures there { result.segment ≡ key }
+        ensures roomy { self.new.roomy ≡ self.old.roomy }
+        ensures size { size_at self.new key ≡ length memory.items }
+    {
+        let start = self.bytes(key).len();
+        if let Some(segment) = self.table.get_mut(key as usize) {
+            let old = segment.move_to(memory, bytes);
+            self.save(old);
+        }
+        self.used = self.used.saturating_add(bytes.len());
+        Place {
+            segment: key,
+            start: start as u32,
+        }
+    }
+
+    // Moves the bytes of the roomy segment to memory that is twice as large as they are, if it has more. Then there is
+    // no roomy segment.
+    fn tighten(&mut self, alloc: Global) -> Result<(), AllocError>
+        requires whole { AreSegments self.old }
+        ensures whole { AreSegments self.new }
+        ensures none { OnOk result (self.new.roomy ≡ None) }
+        ensures same { AreLeft self.old self.new }
+    {
+        if let Some(key) = self.roomy {
+            let used = self.bytes(key).len();
+            if self.size(key) > 2 * used {
+                let memory = memory(alloc, 2 * used)?;
+                self.move_to(key, memory, &[]);
+            }
+            self.roomy = None;
+        }
+        Ok(())
+    }
+
+    // Moves a segment's bytes to memory of `SEGMENT_BYTES` bytes and appends these bytes. Returns where they begin.
     fn grow(&mut self, alloc: Global, key: u32, bytes: &[u8]) -> Result<Place, AllocError>
         requires whole { AreSegments self.old }
         requires there { 0 < length (bytes_at self.old key) }
@@ -160,17 +213,10 @@ impl Segments {
         ensures there { IfOk result (λ place. place.segment ≡ key) }
         ensures same { OnErr result (AreLeft self.old self.new) }
     {
-        let start = self.bytes(key).len();
-        let used = start + bytes.len();
-        let memory = self.memory_for(alloc, used, SEGMENT_BYTES.min(2 * used))?;
-        if let Some(segment) = self.table.get_mut(key as usize) {
-            segment.move_to(memory, bytes);
-        }
-        self.used = self.used.saturating_add(bytes.len());
-        Ok(Place {
-            segment: key,
-            start: start as u32,
-        })
+        self.tighten(alloc)?;
+        let memory = self.large_memory(alloc)?;
+        self.roomy = Some(key);
+        Ok(self.move_to(key, memory, bytes))
     }
 
     // Makes a segment of these bytes. Returns where they begin.
@@ -185,7 +231,7 @@ impl Segments {
         if bytes.len() >= NO_START as usize {
             return Err(AllocError);
         }
-        let memory = self.memory_for(alloc, bytes.len(), bytes.len())?;
+        let memory = self.memory_for(alloc, bytes.len())?;
         self.table.reserve(1)?;
         let key = self.table.vacant_key();
         if key > u32::MAX as usize {
@@ -238,9 +284,7 @@ impl Segments {
             return;
         };
         self.used = self.used.saturating_sub(used);
-        if bytes.len() <= SEGMENT_BYTES {
-            self.save(bytes);
-        }
+        self.save(bytes);
     }
 
     // Frees the table's memory, if no segment is left and the table is large.

@@ -24,9 +24,9 @@ use crate::release::release;
 use crate::ring::Ring;
 use crate::room::Room;
 use crate::run::Run;
-use crate::segment::{length_at, message_at};
+use crate::segment::{block_end, message_at};
 use crate::segments::Segments;
-use mold_wire::{Blocks, LENGTH_BYTES};
+use mold_wire::Blocks;
 use std::alloc::{AllocError, Global};
 
 /// A ring with one slot for each number of a receiver's window. A slot is empty or has the place of a message. The
@@ -123,17 +123,17 @@ impl Shelf {
     }
 
     // Returns how many blocks follow each other from the place of the slot on, as long as the slots after it have
-    // their places. Returns the offset after the last of them too.
-    fn extent(&self, slot: usize, first: Place) -> (usize, usize)
+    // their places. Returns the offset after the last of them too. `bytes` are those of the place's segment.
+    fn extent(&self, slot: usize, first: Place, bytes: &[u8]) -> (usize, usize)
         requires kept { IsKept self.now }
         requires there { place_at self.now.ring slot ≡ Some first }
+        requires bytes { bytes.now ≡ bytes_at self.now.segments first.segment }
         ensures { IsExtent self.now slot first result.0 result.1 }
     {
-        let bytes = self.segments.bytes(first.segment);
-        let mut end = first.start as usize;
-        let mut count = 0;
+        let mut end = block_end(bytes, first.start as usize);
+        let mut count = 1;
         while self.is_at(slot + count, first.segment, end) {
-            end += LENGTH_BYTES + length_at(bytes, end);
+            end = block_end(bytes, end);
             count += 1;
         }
         (count, end)
@@ -148,9 +148,10 @@ impl Shelf {
     {
         match self.ring.get(slot) {
             Some(first) => {
-                let (count, end) = self.extent(slot, first);
+                let bytes = self.segments.bytes(first.segment);
+                let (count, end) = self.extent(slot, first, bytes);
                 let start = first.start as usize;
-                let (_, from) = self.segments.bytes(first.segment).split_at(start);
+                let (_, from) = bytes.split_at(start);
                 let (bytes, _) = from.split_at(end - start);
                 Some(Run { bytes, count })
             }

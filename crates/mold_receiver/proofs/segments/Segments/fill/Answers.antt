@@ -1,4 +1,4 @@
-use Rattle.std.proofs.Common.{◌≡◌, Some, ap, sym, arith}
+use Rattle.std.proofs.Common.{◌≡◌, Some, ap, refl, sym, arith}
 use Rattle.std.specs.Prelude.{is_some}
 use Rattle.slab.proofs.SlabLemmas.{Updates-with_value}
 use Rattle.slab.specs.Slab.{get}
@@ -15,4 +15,6 @@ returns-clause-whole c =
     (Updates-with_value old.table key c.fill.new.self (ap is_some had))
     (filled_segment before c.fill.new.self _ (c.requires.each key before had) c.fill.ensures.filled
     (omega (arith, c.if-bytes-len.false, c.len.ensures, (c.requires.each key before had).used)))
-    (c.requires.keys key before had) c.requires.spare
+    (c.requires.keys key before had)
+    (omega (arith, c.requires.size key before had, c.fill.ensures.filled.size, c.fill.ensures.filled.used)) refl
+    c.requires.spare

@@ -4,8 +4,9 @@ use Rattle.mold_receiver.specs.Places.{end_from, place_at}
 use Rattle.mold_receiver.specs.Segments.{bytes_at}
 use Rattle.mold_receiver.proofs.shelf.Shelf.extent.Given as goal
 
-abbrev pub invariant-loop-bytes : goal.invariant-loop-bytes
-invariant-loop-bytes l = record {
+abbrev pub invariant-loop-first : goal.invariant-loop-first
+invariant-loop-first l = record {
+  some : 0 < l.count;
   ends : l.end ≡ end_from (bytes_at l.self.segments l.first.segment) l.first.start l.count;
   within : l.end ≤ length (bytes_at l.self.segments l.first.segment);
   there :
@@ -14,5 +15,5 @@ invariant-loop-bytes l = record {
   fits : l.slot + l.count ≤ length l.self.ring;
 }
 
-abbrev pub decreases-loop-bytes : goal.decreases-loop-bytes
-decreases-loop-bytes l = length l.self.ring - (l.slot + l.count)
+abbrev pub decreases-loop-first : goal.decreases-loop-first
+decreases-loop-first l = length l.self.ring - (l.slot + l.count)

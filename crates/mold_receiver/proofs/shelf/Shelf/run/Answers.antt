@@ -27,7 +27,7 @@ returns-in-Some-clause-some c =
     let bytes = bytes_at old.segments first.segment in
     let span = c.split_at-in-Some.result.0.now in
     let is : span ≡ take (end - first.start) (drop first.start bytes) = c.split_at-in-Some.ensures.front
-    ∙ ap (take (end - first.start)) (c.split_at.ensures.back ∙ ap (drop first.start) c.bytes.ensures) in
+    ∙ ap (take (end - first.start)) (c.split_at.ensures.back ∙ ap (drop first.start) c.bytes-bytes.ensures) in
     record {
       some = extent.some;
       whole = span_whole bytes span first.start end count extent.ends extent.within is;
