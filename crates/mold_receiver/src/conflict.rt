@@ -56,8 +56,7 @@ pub(crate) fn conflict_of(slots: &Slots, next: u64, packet: &Packet<'_>, top: u6
         return None;
     }
     let first = packet.sequence.max(next) - next;
-    // For speed: a single message is compared at once.
-    if blocks.len() > 1 && slots.is_clear(first as usize, (top - next) as usize) {
+    if slots.is_clear(first as usize, (top - next) as usize) {
         return None;
     }
     find_conflict(slots, next, packet.sequence, blocks)

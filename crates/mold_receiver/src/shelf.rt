@@ -328,6 +328,10 @@ impl Shelf {
         requires { IsKept self.now }
         ensures { IsTrue result ↔ AreEmpty (slots_on self.now) from to }
     {
+        // For speed: one slot's place tells whether it is empty.
+        if to.saturating_sub(from) == 1 {
+            return !self.has(from);
+        }
         self.occupied.is_clear(from, to)
     }
 
@@ -337,10 +341,6 @@ impl Shelf {
         requires numbered { first + count < 2 ^ 64 }
         ensures { IsTrue result ↔ AreFree (slots_on self.now) first count }
     {
-        // For speed: one slot's place tells whether it is empty.
-        if count == 1 {
-            return self.is_free(first);
-        }
         let end = first + count;
         end <= self.ring.len() as u64 && self.is_clear(first as usize, end as usize)
     }
