@@ -16,6 +16,7 @@ use Rattle.mold_receiver.specs.declared.segment.TheConstants.{SEGMENT_BYTES}
 use Rattle.mold_receiver.specs.declared.segments.Segments.{Segments}
 use Rattle.mold_receiver.specs.declared.shelf.Shelf.{Shelf}
 use Rattle.mold_receiver.specs.Segments.{bytes_of, count_at, memory_of, room_at}
+use Rattle.mold_receiver.specs.Places.{place_at}
 use Rattle.mold_receiver.specs.Shelf.{IsKept, slots_in, slots_on}
 use Rattle.mold_receiver.specs.Slots.{Slot, slot_entries, slots_bytes, store_of}
 use Rattle.mold_receiver.specs.Store.{Message, entry_bytes, stored_bytes}
@@ -165,5 +166,103 @@ memory_bound shelf kept tight =
       sum_both f f 0 (length table.slots),
       room_once shelf.segments.roomy 0 (length table.slots),
       sum_lengths shelf.segments places 0 (length table.slots),
+      slots_total shelf.segments places,
+    )
+
+-- The number at one key is counted once if the key is among these.
+weight_there : (key weight at count : ℕ) → at ≤ key → key < at + count →
+    weight ≤ sum_from (count_at key weight) at count
+weight_there key weight at zero low high = absurd (omega (arith, low, high))
+weight_there key weight at (suc count) low high =
+    elim (cases_eq key at) [
+      | inl same ↦ omega (arith, ap {B = ℕ} (λ (b : Bool). cond b weight 0) (eq-eqb key at same))
+      | inr other ↦
+          omega (arith, weight_there key weight (at + 1) count (omega (arith, low, other)) (omega (arith, high)))
+    ]
+
+-- All blocks are counted if the keys of their places are among these.
+lengths_sum : (segments : Segments) (places : List (Option Place)) (count : ℕ)
+    → ((i : ℕ) (place : Place) → place_at places i ≡ Some place → place.segment < count)
+    → total_length segments places ≤ sum_from (λ key. length_in segments key places) 0 count
+lengths_sum segments [] count keys = omega (arith, sum_zero 0 count)
+lengths_sum segments (None ∷ places) count keys = lengths_sum segments places count (λ i p is. keys (suc i) p is)
+lengths_sum segments (Some place ∷ places) count keys =
+    omega (
+      arith,
+      sum_both (λ key. length_of segments key place) (λ key. length_in segments key places) 0 count,
+      weight_there place.segment (block_length segments place) 0 count (omega arith)
+          (omega (arith, keys 0 place refl)),
+      lengths_sum segments places count (λ i p is. keys (suc i) p is),
+    )
+
+-- The memory of the segments, by a lower bound for each key.
+memory_least : (f : ℕ → ℕ) (at : ℕ) (slots : List (Option Segment))
+    → ((i : ℕ) → i < length slots → slice_index_or slots i None ≡ None → f (at + i) ≡ 0)
+    → ((i : ℕ) (segment : Segment) → slice_index_or slots i None ≡ Some segment →
+    f (at + i) ≤ vec_capacity segment.bytes)
+    → sum_from f at (length slots) ≤ memory_of (entries_from at slots)
+memory_least f at [] none each = omega arith
+memory_least f at (None ∷ slots) none each =
+    let here : at + 0 ≡ at = omega arith in
+    let next : (i : ℕ) → at + suc i ≡ at + 1 + i = λ i. omega arith in
+    omega (
+      arith,
+      subst (λ (n : ℕ). f n ≡ 0) here (none 0 (omega arith) refl),
+      memory_least f (at + 1) slots
+          (λ i low is. subst (λ (n : ℕ). f n ≡ 0) (next i) (none (suc i) (omega (arith, low)) is))
+          (λ i s is. subst (λ (n : ℕ). f n ≤ vec_capacity s.bytes) (next i) (each (suc i) s is)),
+    )
+memory_least f at (Some segment ∷ slots) none each =
+    let here : at + 0 ≡ at = omega arith in
+    let next : (i : ℕ) → at + suc i ≡ at + 1 + i = λ i. omega arith in
+    omega (
+      arith,
+      subst (λ (n : ℕ). f n ≤ vec_capacity segment.bytes) here (each 0 segment refl),
+      memory_least f (at + 1) slots
+          (λ i low is. subst (λ (n : ℕ). f n ≡ 0) (next i) (none (suc i) (omega (arith, low)) is))
+          (λ i s is. subst (λ (n : ℕ). f n ≤ vec_capacity s.bytes) (next i) (each (suc i) s is)),
+    )
+
+-- A key of a place is one of the table.
+key_there : (slots : List (Option Segment)) (key : ℕ) → 0 < length (bytes_of (slice_index_or slots key None)) →
+    key < length slots
+key_there [] key some = absurd (omega (arith, some))
+key_there (slot ∷ slots) zero some = omega arith
+key_there (slot ∷ slots) (suc key) some = omega (arith, key_there slots key some)
+
+-- The segments have the stored messages.
+pub memory_covers : (shelf : Shelf) → IsKept shelf → IsTight shelf →
+    slots_bytes (slots_on shelf) ≤ memory_of (entries_from 0 shelf.segments.table.slots)
+memory_covers shelf kept tight =
+    let table = shelf.segments.table in
+    let places = shelf.ring in
+    let f : ℕ → ℕ = λ key. length_in shelf.segments key places in
+    let none : (i : ℕ) → i < length table.slots → slice_index_or table.slots i None ≡ None → f (0 + i) ≡ 0 =
+    λ i low is.
+    let key : 0 + i ≡ i = omega arith in
+    subst (λ (n : ℕ). f n ≡ 0) (sym key)
+    (omega (arith, tight.exact i, ap (λ (o : Option Segment). length (bytes_of o)) is)) in
+    let each : (i : ℕ) (segment : Segment) → slice_index_or table.slots i None ≡ Some segment →
+    f (0 + i) ≤ vec_capacity segment.bytes =
+    λ i segment is.
+    let key : 0 + i ≡ i = omega arith in
+    let some = kept.segments.each i segment is in
+    subst (λ (n : ℕ). f n ≤ vec_capacity segment.bytes) (sym key)
+    (omega (
+      arith,
+      tight.exact i,
+      ap (λ (o : Option Segment). length (bytes_of o)) is,
+      length-take segment.used segment.bytes.items,
+      some.used,
+      segment.bytes.ok.0,
+      segment.bytes.ok.1,
+    )) in
+    let keys : (i : ℕ) (place : Place) → place_at places i ≡ Some place → place.segment < length table.slots =
+    λ i place is.
+    key_there table.slots place.segment (omega (arith, kept.within i place is)) in
+    omega (
+      arith,
+      memory_least f 0 table.slots none each,
+      lengths_sum shelf.segments places (length table.slots) keys,
       slots_total shelf.segments places,
     )

@@ -369,7 +369,8 @@ impl Receiver {
     /// Returns the memory of the store's segments in bytes, together with the spare ones. It takes a step for each
     /// segment. The slots and the table of the segments are not counted.
     pub fn memory(&self) -> usize
-        ensures { result ≤ MAX_SPARE * SEGMENT_BYTES + 2 * stored_bytes self.now.store }
+        ensures most { result ≤ MAX_SPARE * SEGMENT_BYTES + 2 * stored_bytes self.now.store }
+        ensures least { min (stored_bytes self.now.store) (2 ^ 64 - 1) ≤ result }
     {
         self.slots.memory()
     }

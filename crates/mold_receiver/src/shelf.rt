@@ -1,7 +1,7 @@
 //! The store: a ring of slots, and the segments that have the stored messages.
 
 ghost use Rattle.std.specs.Prelude.{◌≡◌, ◌↔◌, ◌^◌, ◌+◌, ◌*◌, ◌<◌, ◌≤◌, ◌++◌, ◌∷◌, [], length, drop, replicate, ℕ};
-ghost use Rattle.std.specs.Prelude.{slice_set, is_some, if◌then◌else◌, IfOk, IfNone, IfSome, IsTrue, None};
+ghost use Rattle.std.specs.Prelude.{◌-◌, min, slice_set, is_some, if◌then◌else◌, IfOk, IfNone, IfSome, IsTrue, None};
 ghost use Rattle.std.specs.Prelude.{OnErr, OnOk, Some};
 ghost use Rattle.std.specs.List.{AllByRecursion};
 ghost use Rattle.std.specs.Option.{option_copied};
@@ -91,7 +91,8 @@ impl Shelf {
     pub(crate) fn memory(&self) -> usize
         requires kept { IsKept self.now }
         requires tight { IsTight self.now }
-        ensures { result ≤ MAX_SPARE * SEGMENT_BYTES + 2 * slots_bytes (slots_on self.now) }
+        ensures most { result ≤ MAX_SPARE * SEGMENT_BYTES + 2 * slots_bytes (slots_on self.now) }
+        ensures least { min (slots_bytes (slots_on self.now)) (2 ^ 64 - 1) ≤ result }
     {
         self.segments.memory()
     }

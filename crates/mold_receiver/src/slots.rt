@@ -1,7 +1,7 @@
 //! The slots of the store, as the receiver uses them.
 
 ghost use Rattle.std.specs.Prelude.{◌≡◌, ◌↔◌, IsTrue, ◌+◌, ◌*◌, ◌^◌, ◌<◌, ◌≤◌, ◌++◌, length, drop, replicate, IfOk};
-ghost use Rattle.std.specs.Prelude.{IfNone, IfSome, OnOk, OnErr, None};
+ghost use Rattle.std.specs.Prelude.{◌-◌, min, IfNone, IfSome, OnOk, OnErr, None};
 ghost use Rattle.std.specs.Option.{option_copied};
 ghost use Rattle.mold_receiver.specs.Keeping.{filled, fresh};
 ghost use Rattle.mold_receiver.specs.Run.{IsRunAt};
@@ -79,7 +79,8 @@ impl Slots {
 
     /// Returns the memory of all segments in bytes, together with the spare memory.
     pub(crate) fn memory(&self) -> usize
-        ensures { result ≤ MAX_SPARE * SEGMENT_BYTES + 2 * slots_bytes self.now }
+        ensures most { result ≤ MAX_SPARE * SEGMENT_BYTES + 2 * slots_bytes self.now }
+        ensures least { min (slots_bytes self.now) (2 ^ 64 - 1) ≤ result }
     {
         self.shelf.memory()
     }
