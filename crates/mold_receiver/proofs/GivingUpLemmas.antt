@@ -11,7 +11,7 @@ use Rattle.mold_receiver.specs.Skip.{moved_to, skipped, skipped_run}
 use Rattle.mold_receiver.specs.Slots.{IsFirstEmpty, IsNextHeld, Slot, slot_at, store_of}
 use Rattle.mold_receiver.specs.Store.{Message, Store, cut}
 use Rattle.mold_receiver.specs.View.{View, IsWellFormed, view_over}
-use Rattle.mold_receiver.specs.Wanted.{HasNoGap, IsNextGap}
+use Rattle.mold_receiver.specs.Wanted.{HasNoGap, IsFirstMissing, IsNextGap}
 use Rattle.mold_receiver.proofs.BatchLemmas.{run_more}
 use Rattle.mold_receiver.proofs.NextLemmas.{moved_looks, run_of_slots}
 use Rattle.mold_receiver.proofs.RuleLemmas.{cut_is}
@@ -122,6 +122,17 @@ module _ (session : Session) (next known : ℕ) (ended : Option ℕ) (slots : Li
   pub no_gap : (from first : ℕ) → next ≤ from → IsFirstEmpty slots (from - next) first → known - next ≤ first →
       HasNoGap (view_over session next known ended slots) from
   no_gap from first low is past number least below = held_from from first low is number least (omega (arith, past, below))
+
+  pub first_missing_is : (from first : ℕ) → next ≤ known → next ≤ from → IsFirstEmpty slots (from - next) first →
+      first < known - next → IsFirstMissing (view_over session next known ended slots) from (next + first)
+  first_missing_is from first ahead low is inside = record {
+    after = omega (arith, is.after, low);
+    below = omega (arith, inside, ahead);
+    held = λ number least below. held_from from first low is number least below;
+    lacked = get_from next slots (next + first) (omega arith)
+        ∙ ap (slot_at slots) (let e : next + first - next ≡ first = omega arith in e)
+        ∙ is.empty;
+  }
 
   pub next_gap : (from first after : ℕ) → next ≤ known → next ≤ from → IsFirstEmpty slots (from - next) first →
       first < known - next → IsNextHeld slots first (known - next) after →

@@ -62,3 +62,10 @@ pub record IsNextGap (v : View) (from : ℕ) (gap : Gap) : Type 0 where
 abbrev pub HasNoGap : View → ℕ → Type 0
 HasNoGap v from =
     (number : ℕ) → from ≤ number → number < v.known → is_some (finite.get v.store number) ≡ true
+
+-- The first missing number at or above `from`: all numbers from `from` to just below it are stored.
+pub record IsFirstMissing (v : View) (from number : ℕ) : Type 0 where
+  pub after : from ≤ number
+  pub below : number < v.known
+  pub held : (other : ℕ) → from ≤ other → other < number → is_some (finite.get v.store other) ≡ true
+  pub lacked : finite.get v.store number ≡ None

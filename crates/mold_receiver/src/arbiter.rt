@@ -7,7 +7,7 @@ ghost use Rattle.mold_receiver.specs.Batch.{Follows, followed_by};
 ghost use Rattle.mold_receiver.specs.Origin.{line_of};
 ghost use Rattle.mold_receiver.specs.Receive.{IsRefusedFor};
 ghost use Rattle.mold_receiver.specs.Skip.{AreMissing, skipped, skipped_run};
-ghost use Rattle.mold_receiver.specs.Wanted.{HasNoGap, IsNextGap};
+ghost use Rattle.mold_receiver.specs.Wanted.{HasNoGap, IsFirstMissing, IsNextGap};
 
 use crate::batch::Batch;
 use crate::gap::Gap;
@@ -171,5 +171,14 @@ impl Arbiter {
         ensures none { IfNone result (HasNoGap self.now.view (max from self.now.view.next)) }
     {
         self.receiver.next_missing(from)
+    }
+
+    /// Returns the first missing number at or above `from`, as `Receiver::first_missing` does.
+    #[inline(always)]
+    pub fn first_missing(&self, from: u64) -> Option<u64>
+        ensures some { IfSome result (IsFirstMissing self.now.view (max from self.now.view.next)) }
+        ensures none { IfNone result (HasNoGap self.now.view (max from self.now.view.next)) }
+    {
+        self.receiver.first_missing(from)
     }
 }

@@ -28,6 +28,12 @@ pub record AreGapsOf (v : View) (p : Pacer) (gaps : List Gap) : Type 0 where
   pub wanted : AreWanted v p.state.ripe gaps
   pub whole : (i : ℕ) (g : Gap) → slice_get gaps i ≡ Some g → IsWanted v p.state.ripe g.end → ⊥
 
+-- The least number that may be requested and is not in flight.
+pub record IsLeastFree (v : View) (p : Pacer) (number : ℕ) : Type 0 where
+  pub wanted : IsWanted v p.state.ripe number
+  pub free : in_flight p.state.now number p.flights.items ≡ false
+  pub least : (other : ℕ) → other < number → IsWanted v p.state.ripe other → IsSentFor p other
+
 -- A gap of numbers that may be requested. It begins with the least one that is not in flight, and ends before a number
 -- that may not be requested.
 pub record IsFree (v : View) (p : Pacer) (gap : Gap) : Type 0 where

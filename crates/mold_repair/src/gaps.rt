@@ -2,7 +2,7 @@
 
 ghost use Rattle.std.specs.Prelude.{◌≡◌, IfNone, IfSome};
 ghost use Rattle.mold_repair.specs.Gaps.{IsLimit};
-ghost use Rattle.mold_repair.specs.Polls.{AreAllSent, IsFree};
+ghost use Rattle.mold_repair.specs.Polls.{AreAllSent, IsFree, IsLeastFree};
 
 use mold_pacing::{Cursor, Gap, Pacer};
 use mold_receiver::Arbiter;
@@ -16,33 +16,43 @@ fn limit_of(arbiter: &Arbiter, pacer: &Pacer) -> u64
     past.min(receiver.known()).min(pacer.state().ripe)
 }
 
-/// Returns the gap that begins with the least number that may be requested and is not in flight. Each turn passes a
-/// request in flight with all gaps that it covers.
-pub(crate) fn find_free(arbiter: &Arbiter, pacer: &Pacer) -> Option<Gap>
-    ensures some { IfSome result (IsFree arbiter.now.view pacer.now) }
+// Returns the least number that may be requested and is not in flight. Each turn passes a request in flight with all
+// gaps that it covers. So a turn looks for the start of a gap only, and the loop takes a turn for each request at most.
+fn least_free(arbiter: &Arbiter, pacer: &Pacer, limit: u64) -> Option<u64>
+    requires limit { IsLimit arbiter.now.view pacer.now.state.ripe limit }
+    ensures some { IfSome result (IsLeastFree arbiter.now.view pacer.now) }
     ensures none { IfNone result (AreAllSent arbiter.now.view pacer.now) }
 {
-    let limit = limit_of(arbiter, pacer);
     let mut cursor = Cursor {
         index: 0,
         number: arbiter.receiver().next(),
     };
     while cursor.number < limit {
-        let gap = arbiter.next_missing(cursor.number)?;
-        if gap.first >= limit {
+        let first = arbiter.first_missing(cursor.number)?;
+        if first >= limit {
             return None;
         }
         cursor = pacer.pass(Cursor {
-            number: gap.first,
+            number: first,
             ..cursor
         });
-        let end = gap.end.min(limit);
-        if cursor.number < end {
-            return Some(Gap {
-                first: cursor.number,
-                end,
-            });
+        if cursor.number == first {
+            return Some(first);
         }
     }
     None
+}
+
+/// Returns the gap that begins with the least number that may be requested and is not in flight.
+pub(crate) fn find_free(arbiter: &Arbiter, pacer: &Pacer) -> Option<Gap>
+    ensures some { IfSome result (IsFree arbiter.now.view pacer.now) }
+    ensures none { IfNone result (AreAllSent arbiter.now.view pacer.now) }
+{
+    let limit = limit_of(arbiter, pacer);
+    let first = least_free(arbiter, pacer, limit)?;
+    let gap = arbiter.next_missing(first)?;
+    Some(Gap {
+        first,
+        end: gap.end.min(limit),
+    })
 }

@@ -2,7 +2,7 @@ use Rattle.std.proofs.Common.{ℕ, ◌<◌, ◌-◌}
 use Rattle.mold_pacing.specs.Flight.{ArePassed}
 use Rattle.mold_repair.specs.Missing.{IsWanted}
 use Rattle.mold_repair.specs.Polls.{IsSentFor}
-use Rattle.mold_repair.proofs.gaps.find_free.Given as goal
+use Rattle.mold_repair.proofs.gaps.least_free.Given as goal
 
 abbrev pub invariant-loop-cursor : goal.invariant-loop-cursor
 invariant-loop-cursor l = record {
