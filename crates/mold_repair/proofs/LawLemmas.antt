@@ -221,7 +221,7 @@ paced_poll old new time o did =
     record {
       steps = Advance time old.arbiter.view.known ∷ of.polls.steps;
       sent = None ∷ of.sent;
-      are = (old.arbiter.view.known, of.polls.steps, of.polls.are, refl);
+      are = (old.arbiter.view.known, of.polls.steps, of.polls.are, of.one, refl);
       ran = (did.between, did.time, of.polls.ran);
       requests = of.requests;
     }

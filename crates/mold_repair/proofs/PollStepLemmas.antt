@@ -1,5 +1,5 @@
 -- The polls of the pacer in a poll of the repairer.
-use Rattle.std.proofs.Common.{◌≡◌, ℕ, suc, ◌<◌, ◌≤◌, ◌||◌, Bool, true, false, List, [], ◌∷◌, ◌++◌, map}
+use Rattle.std.proofs.Common.{◌≡◌, ℕ, suc, ◌<◌, ◌≤◌, ◌||◌, Bool, true, false, List, [], ◌∷◌, ◌++◌, length, map}
 use Rattle.std.proofs.Common.{MatchOption, Option, None, Some, refl, ap, ◌∙◌, sym, subst, arith, inl, inr}
 use Rattle.std.specs.Prelude.{slice_get}
 use Rattle.std.specs.List.{list_any}
@@ -50,6 +50,7 @@ no_gap give_up v old new sent did q never =
 pub record HasPolls (v : View) (old new : Pacer) (sent : List (Option Sent)) : Type 0 where
   pub steps : List Step
   pub are : ArePollSteps steps
+  pub counted : length steps ≡ length sent
   pub ran : IsRun old new steps sent
   pub missing : (q : ℕ) → (IsMissing v q → ⊥) → IsNeverMissing q steps
 
@@ -66,6 +67,7 @@ still_polls : (give_up : ℕ) (v : View) (old new : Pacer) → IsStill give_up v
 still_polls give_up v old new still = record {
   steps = PollGaps (record { ref_ptr = (0, 0); now = [] }) ∷ [];
   are = (tt, tt);
+  counted = refl;
   ran = (new, still_idle give_up v old new still, refl);
   missing = λ q never. (refl, tt);
 }
@@ -74,6 +76,7 @@ no_polls : (v : View) (old new : Pacer) → new ≡ old → HasPolls v old new [
 no_polls v old new same = record {
   steps = [];
   are = tt;
+  counted = refl;
   ran = same;
   missing = λ q never. tt;
 }
@@ -84,6 +87,7 @@ sent_polls : (give_up : ℕ) (v : View) (old next new : Pacer) (ask : Sent) (sen
 sent_polls give_up v old next new ask sent did rest = record {
   steps = PollGaps (record { ref_ptr = (0, 0); now = did.gaps }) ∷ rest.steps;
   are = (tt, rest.are);
+  counted = ap suc rest.counted;
   ran = (next, did.asked, rest.ran);
   missing = λ q never. (no_gap give_up v old next ask did q never, rest.missing q never);
 }
@@ -114,6 +118,7 @@ none_served session servers (ask ∷ sent) rest zero =
 pub record HasPollsOf (options : RepairOptions) (v : View) (old new : Pacer) (result : Option Ask) : Type 0 where
   pub sent : List (Option Sent)
   pub polls : HasPolls v old new sent
+  pub one : 0 < options.servers → length polls.steps ≡ 1
   pub requests : (rest : List (Option Sent)) → returned_all v.session options.servers (sent ++ rest)
       ≡ listed result (returned_all v.session options.servers rest)
 
@@ -124,9 +129,11 @@ polls_of options v old new now result did =
     elim (cases_lt 0 servers) [
       | inl some ↦
           let one = did.some some in
+          let polls = one_poll options.give_up v did.between new one.sent one.polled in
           record {
             sent = one.sent ∷ [];
-            polls = one_poll options.give_up v did.between new one.sent one.polled;
+            polls = polls;
+            one = λ served. polls.counted;
             requests = λ rest.
                 ap (λ (a : Option Ask). listed a (returned_all v.session servers rest)) (sym one.answer);
           }
@@ -136,6 +143,7 @@ polls_of options v old new now result did =
           record {
             sent = map Some all.1.sent ++ None ∷ [];
             polls = all_polls options.give_up v did.between all.1.after new all.1.sent all.1.requested all.1.still;
+            one = λ served. absurd (omega (arith, zero, served));
             requests = λ rest. none_served v.session servers all.1.sent rest zero
                 ∙ ap (λ (a : Option Ask). listed a (returned_all v.session servers rest)) (sym all.0);
           }

@@ -70,14 +70,16 @@ abbrev pub ArePollSteps : List Step → Type 0
 ArePollSteps [] = Unit {0}
 ArePollSteps (step ∷ steps) = IsPollStep step × ArePollSteps steps
 
--- The steps of the pacer in a step of the repairer: the time, then polls, or what came.
+-- The steps of the pacer in a step of the repairer: the time, then polls, or what came. With a server, a poll of the
+-- repairer is one poll of the pacer.
 abbrev pub ArePacerSteps : RepairOptions → RepairStep → List Step → Type 0
 ArePacerSteps options (Take time origin datagram) steps =
     ((before after : View) × (delays : Delays) × (p : Pacer)
     × (steps ≡ taken_steps options time origin datagram.now before after delays p))
     ⊎ ((known : ℕ) × (steps ≡ Advance time known ∷ []))
 ArePacerSteps options (Poll time) steps =
-    (known : ℕ) × (polls : List Step) × ArePollSteps polls × (steps ≡ Advance time known ∷ polls)
+    (known : ℕ) × (polls : List Step) × ArePollSteps polls × (0 < options.servers → length polls ≡ 1)
+    × (steps ≡ Advance time known ∷ polls)
 ArePacerSteps options (Lost time) steps =
     ((known next : ℕ) × (steps ≡ Advance time known ∷ Arrive (range 0 next) ∷ []))
     ⊎ ((known : ℕ) × (steps ≡ Advance time known ∷ []))
