@@ -9,13 +9,14 @@ use crate::bucket::is_open;
 use crate::cursor::Cursor;
 use crate::flight::Flight;
 use crate::gap::Gap;
+use crate::hole::Hole;
 use crate::options::PacerOptions;
 use crate::place::{Place, place_for, replace, stale_index};
 use crate::repeat::{next_flight, next_server, repeat_end};
 use crate::response::{ended_request, take_arrival, take_response};
 use crate::state::PacerState;
 use crate::step::Step;
-use crate::table::{Free, all_begin_below, find_covering, first_free, free_end, pass_flights};
+use crate::table::{Free, all_begin_below, find_covering, first_free, free_end, next_hole};
 use crate::waiting::{free_from, next_over, over_from};
 use std::alloc::{AllocError, Global};
 
@@ -36,12 +37,12 @@ pub struct Pacer {
 }
 
 impl Pacer {
-    ghost use Rattle.std.specs.Prelude.{max, min, [], map, false, IfOk, IfSome, IfNone, OnErr, ℕ, ◌-◌, Some, slice_get};
+    ghost use Rattle.std.specs.Prelude.{max, min, [], map, false, IfOk, IfSome, IfNone, OnErr, ℕ, ◌-◌, ◌⊎◌, Some, slice_get};
     ghost use Rattle.std.specs.List.{list_all};
     ghost use Rattle.mold_pacing.specs.Asks.{are_gaps, AsksFrom};
     ghost use Rattle.mold_pacing.specs.Deadline.{CanAsk, can_send};
     ghost use Rattle.mold_pacing.specs.Polls.{HasAsked, IsIdle, ended_request, last_request, request_for};
-    ghost use Rattle.mold_pacing.specs.Flight.{AllInFlight, ArePassed, BeginAbove, in_flight};
+    ghost use Rattle.mold_pacing.specs.Flight.{AllInFlight, ArePassed, BeginAbove, NoneInFlight, in_flight};
     ghost use Rattle.mold_pacing.specs.Repeat.{attempts_of, end_for, flight_for, server_for};
     ghost use Rattle.mold_pacing.specs.Most.{learned, request_most};
     ghost use Rattle.mold_pacing.specs.declared.flight.Flight.{Flight};
@@ -210,16 +211,18 @@ impl Pacer {
             && self.room_from() <= self.state.now
     }
 
-    /// Moves the cursor to the least number, from its number on, that is not in flight. A walk that moves one cursor on
-    /// and on visits each request once.
-    pub fn pass(&self, from: Cursor) -> Cursor
+    /// Returns the first numbers at or above the cursor's number that are not in flight, up to the next request. A walk
+    /// from each hole's end and index to the next hole visits each request once.
+    #[inline(always)]
+    pub fn hole(&self, from: Cursor) -> Hole
         requires passed { ArePassed self.now.flights.items self.now.state.now from.index from.number }
-        ensures passed { ArePassed self.now.flights.items self.now.state.now result.index result.number }
-        ensures low { from.number ≤ result.number }
-        ensures busy { AllInFlight self.now.flights.items self.now.state.now from.number result.number }
-        ensures free { in_flight self.now.state.now result.number self.now.flights.items ≡ false }
+        ensures passed { ArePassed self.now.flights.items self.now.state.now result.index result.first }
+        ensures low { from.number ≤ result.first }
+        ensures busy { AllInFlight self.now.flights.items self.now.state.now from.number result.first }
+        ensures free { NoneInFlight self.now.flights.items self.now.state.now result.first result.end }
+        ensures some { (result.first < result.end) ⊎ (result.end ≡ 18446744073709551615) }
     {
-        pass_flights(&self.flights, self.state.now, from)
+        next_hole(&self.flights, self.state.now, from)
     }
 
     /// Returns the first time at which a request in flight is over, or `u64::MAX` if nothing is in flight. If all ripe

@@ -1,14 +1,17 @@
 //! Walks over the table of requests, which is in ascending order of their first numbers.
 
-ghost use Rattle.std.specs.Prelude.{◌≡◌, ◌≤◌, ◌<◌, ◌⊎◌, ◌&&◌, true, false, nat_lt, length, find, IfSome, IfNone};
+ghost use Rattle.std.specs.Prelude.{◌≡◌, ◌≤◌, ◌<◌, ◌⊎◌, ◌&&◌, ℕ, true, false, nat_lt, length, find, IfSome, IfNone};
+ghost use Rattle.std.specs.Prelude.{slice_get, Some};
 ghost use Rattle.mold_pacing.specs.Table.{AreBelow};
 ghost use Rattle.mold_pacing.specs.Flight.{AllInFlight, ArePassed, BeginAbove, NoneInFlight, covers, in_flight};
 ghost use Rattle.mold_pacing.specs.Flight.{is_ascending};
+ghost use Rattle.mold_pacing.specs.declared.flight.Flight.{Flight};
 ghost use Rattle.mold_pacing.specs.Asks.{AreGaps, AreAllInFlight, IsFirstFree};
 
 use crate::cursor::Cursor;
 use crate::flight::Flight;
 use crate::gap::Gap;
+use crate::hole::Hole;
 
 /// A free number, the end of its gap, and the index from which on all requests begin above it.
 #[derive(Clone, Copy, Debug)]
@@ -42,6 +45,39 @@ pub(crate) fn pass_flights(flights: &[Flight], now: u64, from: Cursor) -> Cursor
         index += 1;
     }
     Cursor { index, number }
+}
+
+// Returns the first number of the request at this index, or `u64::MAX` if there is none.
+#[inline(always)]
+fn begin_at(flights: &[Flight], index: usize) -> u64
+    requires sorted { is_ascending 0 flights.now ≡ true }
+    ensures low { (i : ℕ) (f : Flight) → index ≤ i → slice_get flights.now i ≡ Some f → result ≤ f.first }
+    ensures above { (number : ℕ) → BeginAbove flights.now index number →
+        (number < result) ⊎ (result ≡ 18446744073709551615) }
+{
+    if index < flights.len() {
+        return flights[index].first;
+    }
+    u64::MAX
+}
+
+/// Returns the first numbers at or above the cursor's number that are not in flight, up to the next request.
+#[inline(always)]
+pub(crate) fn next_hole(flights: &[Flight], now: u64, from: Cursor) -> Hole
+    requires sorted { is_ascending 0 flights.now ≡ true }
+    requires passed { ArePassed flights.now now from.index from.number }
+    ensures passed { ArePassed flights.now now result.index result.first }
+    ensures low { from.number ≤ result.first }
+    ensures busy { AllInFlight flights.now now from.number result.first }
+    ensures free { NoneInFlight flights.now now result.first result.end }
+    ensures some { (result.first < result.end) ⊎ (result.end ≡ 18446744073709551615) }
+{
+    let Cursor { index, number } = pass_flights(flights, now, from);
+    Hole {
+        index,
+        first: number,
+        end: begin_at(flights, index),
+    }
 }
 
 /// Returns the least number of the gaps that is below `ripe` and not in flight. Each gap and each request is visited at

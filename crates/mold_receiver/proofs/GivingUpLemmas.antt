@@ -1,6 +1,6 @@
 -- The view after missing messages were given up.
 use Rattle.std.proofs.Common.{◌≡◌, ℕ, ◌+◌, ◌-◌, ◌<◌, ◌≤◌, ◌&&◌, true, min, cond, ltb, ◌++◌, drop, replicate, List, length}
-use Rattle.std.proofs.Common.{length-append, length-drop, sym, ap, subst, ◌∙◌, inl, inr, arith}
+use Rattle.std.proofs.Common.{length-append, length-drop, max, refl, sym, ap, subst, ◌∙◌, inl, inr, arith}
 use Rattle.std.specs.Prelude.{Option, None, Some, is_some}
 use Rattle.std.specs.FinMap as finite
 use Rattle.std.proofs.lemmas.Bool.{cases_Bool, cases_lt, cases_order, true≢false, and_parts, cond-true, cond-false, le-ltb, lt-ltb, ltb-true}
@@ -11,7 +11,7 @@ use Rattle.mold_receiver.specs.Skip.{moved_to, skipped, skipped_run}
 use Rattle.mold_receiver.specs.Slots.{IsFirstEmpty, IsNextHeld, Slot, slot_at, store_of}
 use Rattle.mold_receiver.specs.Store.{Message, Store, cut}
 use Rattle.mold_receiver.specs.View.{View, IsWellFormed, view_over}
-use Rattle.mold_receiver.specs.Wanted.{HasNoGap, IsFirstMissing, IsNextGap}
+use Rattle.mold_receiver.specs.Wanted.{HasNoGap, IsFirstAbsent, IsNextGap}
 use Rattle.mold_receiver.proofs.BatchLemmas.{run_more}
 use Rattle.mold_receiver.proofs.NextLemmas.{moved_looks, run_of_slots}
 use Rattle.mold_receiver.proofs.RuleLemmas.{cut_is}
@@ -119,20 +119,39 @@ module _ (session : Session) (next known : ℕ) (ended : Option ℕ) (slots : Li
       ap is_some (get_from next slots number (omega (arith, low, least)))
       ∙ is.held (number - next) (omega (arith, least)) (omega (arith, below))
 
+  known_of : (i : ℕ) (o : Option Message) → IsWellFormed (view_over session next known ended slots) →
+      slot_at slots i ≡ o → is_some o ≡ true → next + i < known
+  known_of i None well is some = absurd (true≢false (sym some))
+  known_of i (Some m) well is some =
+      (well.stored (next + i) m
+      (get_from next slots (next + i) (omega arith)
+      ∙ ap (slot_at slots) (let e : next + i - next ≡ i = omega arith in e)
+      ∙ is)).2
+
   pub no_gap : (from first : ℕ) → next ≤ from → IsFirstEmpty slots (from - next) first → known - next ≤ first →
       HasNoGap (view_over session next known ended slots) from
   no_gap from first low is past number least below = held_from from first low is number least (omega (arith, past, below))
 
-  pub first_missing_is : (from first : ℕ) → next ≤ known → next ≤ from → IsFirstEmpty slots (from - next) first →
-      first < known - next → IsFirstMissing (view_over session next known ended slots) from (next + first)
-  first_missing_is from first ahead low is inside = record {
+  pub first_absent_is : (from first : ℕ) → next ≤ from → IsFirstEmpty slots (from - next) first →
+      IsFirstAbsent (view_over session next known ended slots) from (next + first)
+  first_absent_is from first low is = record {
     after = omega (arith, is.after, low);
-    below = omega (arith, inside, ahead);
     held = λ number least below. held_from from first low is number least below;
     lacked = get_from next slots (next + first) (omega arith)
         ∙ ap (slot_at slots) (let e : next + first - next ≡ first = omega arith in e)
         ∙ is.empty;
   }
+
+  -- It is at most `known`, or it is `from`.
+  pub absent_low : (from first : ℕ) → IsWellFormed (view_over session next known ended slots) → next ≤ from
+      → IsFirstEmpty slots (from - next) first → next + first ≤ max from known
+  absent_low from first well low is =
+      elim (cases_lt (from - next) first) [
+        | inl more ↦
+            let held = is.held (first - 1) (omega (arith, more)) (omega (arith, more)) in
+            omega (arith, known_of (first - 1) (slot_at slots (first - 1)) well refl held, more, low)
+        | inr none ↦ omega (arith, none, low)
+      ]
 
   pub next_gap : (from first after : ℕ) → next ≤ known → next ≤ from → IsFirstEmpty slots (from - next) first →
       first < known - next → IsNextHeld slots first (known - next) after →

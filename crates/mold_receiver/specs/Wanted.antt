@@ -63,9 +63,8 @@ abbrev pub HasNoGap : View → ℕ → Type 0
 HasNoGap v from =
     (number : ℕ) → from ≤ number → number < v.known → is_some (finite.get v.store number) ≡ true
 
--- The first missing number at or above `from`: all numbers from `from` to just below it are stored.
-pub record IsFirstMissing (v : View) (from number : ℕ) : Type 0 where
+-- The first number at or above `from` that is not stored: all numbers from `from` to just below it are stored.
+pub record IsFirstAbsent (v : View) (from number : ℕ) : Type 0 where
   pub after : from ≤ number
-  pub below : number < v.known
   pub held : (other : ℕ) → from ≤ other → other < number → is_some (finite.get v.store other) ≡ true
   pub lacked : finite.get v.store number ≡ None

@@ -7,7 +7,7 @@ ghost use Rattle.mold_receiver.specs.Batch.{Follows, followed_by};
 ghost use Rattle.mold_receiver.specs.Origin.{line_of};
 ghost use Rattle.mold_receiver.specs.Receive.{IsRefusedFor};
 ghost use Rattle.mold_receiver.specs.Skip.{AreMissing, skipped, skipped_run};
-ghost use Rattle.mold_receiver.specs.Wanted.{HasNoGap, IsFirstMissing, IsNextGap};
+ghost use Rattle.mold_receiver.specs.Wanted.{HasNoGap, IsFirstAbsent, IsNextGap};
 
 use crate::batch::Batch;
 use crate::gap::Gap;
@@ -173,12 +173,12 @@ impl Arbiter {
         self.receiver.next_missing(from)
     }
 
-    /// Returns the first missing number at or above `from`, as `Receiver::first_missing` does.
+    /// Returns the first number at or above `from` that is not stored, as `Receiver::first_absent` does.
     #[inline(always)]
-    pub fn first_missing(&self, from: u64) -> Option<u64>
-        ensures some { IfSome result (IsFirstMissing self.now.view (max from self.now.view.next)) }
-        ensures none { IfNone result (HasNoGap self.now.view (max from self.now.view.next)) }
+    pub fn first_absent(&self, from: u64) -> u64
+        requires { self.now.view.next ≤ from }
+        ensures { IsFirstAbsent self.now.view from result }
     {
-        self.receiver.first_missing(from)
+        self.receiver.first_absent(from)
     }
 }

@@ -1,6 +1,8 @@
 -- The gaps that may be requested.
 use Rattle.std.proofs.Common.{◌≡◌, ℕ, ◌+◌, ◌<◌, ◌≤◌, true, false, List, [], ◌∷◌, Option, None, Some}
 use Rattle.std.proofs.Common.{IfNone, IfSome, MatchOption, slice_get, zero, suc, refl, subst, sym, ap, ◌∙◌, arith, min, inl, inr}
+use Rattle.std.specs.Prelude.{is_some}
+use Rattle.std.specs.FinMap as finite
 use Rattle.std.proofs.lemmas.Bool.{cases_lt}
 use Rattle.std.proofs.lemmas.Bool.Decides.{nat_tests}
 use Rattle.mold_pacing.specs.Asks.{are_gaps}
@@ -76,10 +78,16 @@ sent_is give_up v old new g (Some sent) is kept can asked idle = record {
   least = λ number before wants. is.least number (omega (arith, asks_at v old new g sent is asked, before)) wants;
 }
 
+-- A stored number is not requested.
+pub not_wanted : (v : View) (ripe number : ℕ) → IsWanted v ripe number →
+    is_some (finite.get v.store number) ≡ true → ⊥
+not_wanted v ripe number wants some = true_is_false (sym some ∙ ap is_some wants.missing.lacked)
+
 pub limit_is : (v : View) (next window past known ripe below limit : ℕ) → next ≡ v.next → window ≡ v.window
     → known ≡ v.known → known < 18446744073709551616 → past ≡ min (next + window) 18446744073709551615
     → below ≡ min past known → limit ≡ min below ripe → IsLimit v ripe limit
 limit_is v next window past known ripe below limit n w k fits is_past is_below is = record {
+  known = omega (arith, k, is_below, is);
   window = omega (arith, n, w, is_past, is_below, is);
   ripens = omega (arith, is);
   all = λ number wants. omega (arith, n, w, k, fits, is_past, is_below, is, wants.missing.below, wants.window, wants.ripe);

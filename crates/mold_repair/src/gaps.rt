@@ -16,29 +16,27 @@ fn limit_of(arbiter: &Arbiter, pacer: &Pacer) -> u64
     past.min(receiver.known()).min(pacer.state().ripe)
 }
 
-// Returns the least number that may be requested and is not in flight. Each turn passes a request in flight with all
-// gaps that it covers. So a turn looks for the start of a gap only, and the loop takes a turn for each request at most.
+// Returns the least number that may be requested and is not in flight. Each turn looks for a missing number between
+// two requests in flight, so there is a turn for each request at most, however many gaps there are.
 fn least_free(arbiter: &Arbiter, pacer: &Pacer, limit: u64) -> Option<u64>
     requires limit { IsLimit arbiter.now.view pacer.now.state.ripe limit }
     ensures some { IfSome result (IsLeastFree arbiter.now.view pacer.now) }
     ensures none { IfNone result (AreAllSent arbiter.now.view pacer.now) }
 {
-    let mut cursor = Cursor {
+    let mut from = Cursor {
         index: 0,
         number: arbiter.receiver().next(),
     };
-    while cursor.number < limit {
-        let first = arbiter.first_missing(cursor.number)?;
-        if first >= limit {
-            return None;
+    while from.number < limit {
+        let hole = pacer.hole(from);
+        let first = arbiter.first_absent(hole.first);
+        if first < hole.end {
+            return if first < limit { Some(first) } else { None };
         }
-        cursor = pacer.pass(Cursor {
-            number: first,
-            ..cursor
-        });
-        if cursor.number == first {
-            return Some(first);
-        }
+        from = Cursor {
+            index: hole.index,
+            number: hole.end,
+        };
     }
     None
 }
