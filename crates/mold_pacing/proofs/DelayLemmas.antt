@@ -1,12 +1,18 @@
 -- The greatest of the last delays.
 use Rattle.std.proofs.Common.{◌≡◌, ℕ, zero, suc, ◌+◌, ◌<◌, ◌≤◌, List, [], ◌∷◌, ◌++◌, Some, arith, inl, inr, length, max, set, slice_get}
-use Rattle.std.proofs.Common.{ap, drop, refl}
+use Rattle.std.proofs.Common.{◌*◌, ap, drop, min, refl}
 use Rattle.std.proofs.lemmas.Bool.{cases_lt}
-use Rattle.mold_pacing.specs.Delays.{delay_on, greatest_of, greatest_on}
+use Rattle.mold_pacing.specs.Delays.{delay_on, greatest_of, greatest_on, patience_for}
+use Rattle.mold_pacing.specs.declared.delays.TheConstants.{GREATEST_PATIENCE, LEAST_PATIENCE}
 
 pub greatest_append : (delays : List ℕ) (delay : ℕ) → greatest_of (delays ++ delay ∷ []) ≡ max (greatest_of delays) delay
 greatest_append [] delay = omega arith
 greatest_append (d ∷ ds) delay = omega (arith, greatest_append ds delay)
+
+pub patience_some : (delays : List ℕ) → 0 < length delays →
+    patience_for delays ≡ max LEAST_PATIENCE (min (greatest_of delays * 2) GREATEST_PATIENCE)
+patience_some [] some = absurd (omega (arith, some))
+patience_some (d ∷ ds) some = refl
 
 pub set_most : (delays : List ℕ) (index delay : ℕ) → greatest_of (set delays index delay) ≤ max (greatest_of delays) delay
 set_most [] index delay = omega arith

@@ -1,6 +1,6 @@
 //! The patience that adapts: how long after one line the other line brings the same datagram.
 
-ghost use Rattle.std.specs.Prelude.{◌≡◌, ◌≤◌, ◌<◌, [], length, vec_capacity, IfOk};
+ghost use Rattle.std.specs.Prelude.{◌≡◌, ◌≤◌, ◌<◌, ℕ, List, [], length, vec_capacity, IfOk};
 ghost use Rattle.mold_pacing.specs.Delays.{delay_on, greatest_of, greatest_on, index_after, no_arrivals, patience_for};
 ghost use Rattle.mold_pacing.specs.Delays.{pushed};
 ghost use Rattle.mold_pacing.specs.declared.delays.TheConstants.{DELAYS, SLOTS};
@@ -44,6 +44,9 @@ pub struct Delays {
     next: usize,
     // The greatest of the last delays.
     greatest: u64,
+    // The patience that fits them.
+    // For the optimizer: a receiver asks for it at each datagram, and most datagrams don't change it.
+    patience: u64,
     ghost slots: { length arrivals.items ≡ SLOTS },
     ghost room: { DELAYS ≤ vec_capacity recent },
     ghost few: { length recent.items ≤ DELAYS },
@@ -51,6 +54,7 @@ pub struct Delays {
     ghost same: { length lines.items ≡ length recent.items },
     ghost within: { next < DELAYS },
     ghost most: { greatest ≡ greatest_of recent.items },
+    ghost fits: { patience ≡ patience_for recent.items },
 }
 
 // Returns the greatest of the delays, or 0 without a delay.
@@ -98,6 +102,16 @@ fn next_greatest(delays: &[u64], greatest: u64, left: u64, delay: u64) -> u64
     greatest_in(delays)
 }
 
+// Returns the patience if this is the greatest delay.
+fn patience_after(greatest: u64) -> u64
+    ensures { (delays : List ℕ) → 0 < length delays → greatest ≡ greatest_of delays → result ≡ patience_for delays }
+{
+    greatest
+        .saturating_mul(2)
+        .min(GREATEST_PATIENCE)
+        .max(LEAST_PATIENCE)
+}
+
 impl Delays {
     ghost use Rattle.mold_pacing.specs.Lines.{IsTaken};
 
@@ -114,6 +128,7 @@ impl Delays {
             lines: Vec::with_capacity(alloc, DELAYS)?,
             next: 0,
             greatest: 0,
+            patience: FIRST_PATIENCE,
         })
     }
 
@@ -128,12 +143,14 @@ impl Delays {
             self.recent.push_reserved(delay);
             self.lines.push_reserved(line);
             self.greatest = self.greatest.max(delay);
+            self.patience = patience_after(self.greatest);
             return;
         }
         let left = self.recent[self.next];
         self.recent[self.next] = delay;
         self.lines[self.next] = line;
         self.greatest = next_greatest(&self.recent, self.greatest, left, delay);
+        self.patience = patience_after(self.greatest);
         self.next = if self.next + 1 < DELAYS {
             self.next + 1
         } else {
@@ -169,12 +186,6 @@ impl Delays {
     pub fn patience(&self) -> u64
         ensures { result ≡ patience_for self.now.recent.items }
     {
-        if self.recent.is_empty() {
-            return FIRST_PATIENCE;
-        }
-        self.greatest
-            .saturating_mul(2)
-            .min(GREATEST_PATIENCE)
-            .max(LEAST_PATIENCE)
+        self.patience
     }
 }

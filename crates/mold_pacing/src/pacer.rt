@@ -75,7 +75,7 @@ impl Pacer {
         ensures state { self.new.state ≡ advanced time known self.old.state }
         ensures flights { self.new.flights.items ≡ self.old.flights.items }
     {
-        self.state = self.state.advance(time, known);
+        self.state.advance(time, known);
     }
 
     /// Changes the patience. It counts from the next call of `advance` on.
@@ -85,10 +85,7 @@ impl Pacer {
         ensures state { self.new.state ≡ adapted patience self.old.state }
         ensures flights { self.new.flights.items ≡ self.old.flights.items }
     {
-        self.state = PacerState {
-            patience,
-            ..self.state
-        };
+        self.state.patience = patience;
     }
 
     /// Reports a response with the numbers of the range, which was accepted. New requests go to its server.

@@ -51,23 +51,20 @@ impl PacerState {
         }
     }
 
-    /// Returns the state at a later time. Once a patience has passed since `mark` was set, the numbers below it are
-    /// ripe.
+    /// Changes the state to that at a later time. Once a patience has passed since `mark` was set, the numbers below it
+    /// are ripe.
+    // For the optimizer: it changes fields in place. Most datagrams change the time only, and write nothing else.
     #[inline(always)]
-    pub(crate) fn advance(self, time: u64, known: u64) -> PacerState
-        ensures { result ≡ advanced time known self }
+    pub(crate) fn advance(&mut self, time: u64, known: u64)
+        ensures { self.new ≡ advanced time known self.old }
     {
-        let now = self.now.max(time);
-        if now - self.marked.min(now) < self.patience {
-            return PacerState { now, ..self };
+        self.now = self.now.max(time);
+        if self.now - self.marked.min(self.now) < self.patience {
+            return;
         }
-        PacerState {
-            now,
-            marked: now,
-            mark: known,
-            ripe: self.mark,
-            ..self
-        }
+        self.ripe = self.mark;
+        self.marked = self.now;
+        self.mark = known;
     }
 
     /// Returns the state after a request was sent for this number of messages.

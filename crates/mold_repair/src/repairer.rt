@@ -210,7 +210,7 @@ impl Repairer {
                 };
                 self.learn(origin, datagram, is_missing);
                 self.adapt(origin, datagram);
-                self.counts = self.counts.take(origin, taken);
+                self.counts.take(origin, taken);
                 Ok(taken)
             }
             Err(refused) => Err(refused),

@@ -74,34 +74,29 @@ impl RepairCounts {
         }
     }
 
-    /// Returns the counts after a datagram was accepted.
+    /// Counts a datagram that was accepted.
+    // For the optimizer: it changes fields in place. Most datagrams bring something new on a line, and write nothing.
     #[inline(always)]
-    pub(crate) fn take(self, origin: RepairOrigin, taken: Taken) -> RepairCounts
-        ensures { result ≡ counted_taken origin taken self }
+    pub(crate) fn take(&mut self, origin: RepairOrigin, taken: Taken)
+        ensures { self.new ≡ counted_taken origin taken self.old }
     {
         match origin {
             RepairOrigin::Line(line) => self.take_on(line, taken),
-            RepairOrigin::Server(_) => self.answer(taken),
+            RepairOrigin::Server(_) => *self = self.answer(taken),
         }
     }
 
-    // Returns the counts after a datagram was accepted on this line.
+    // Counts a datagram that was accepted on this line.
     #[inline(always)]
-    fn take_on(self, line: Line, taken: Taken) -> RepairCounts
-        ensures { result ≡ counted_line line taken self }
+    fn take_on(&mut self, line: Line, taken: Taken)
+        ensures { self.new ≡ counted_line line taken self.old }
     {
         if taken.handed != 0 || taken.kept != 0 {
-            return self;
+            return;
         }
         match line {
-            Line::A => RepairCounts {
-                again_a: self.again_a.saturating_add(1),
-                ..self
-            },
-            Line::B => RepairCounts {
-                again_b: self.again_b.saturating_add(1),
-                ..self
-            },
+            Line::A => self.again_a = self.again_a.saturating_add(1),
+            Line::B => self.again_b = self.again_b.saturating_add(1),
         }
     }
 

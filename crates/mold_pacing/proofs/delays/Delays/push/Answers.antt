@@ -1,4 +1,4 @@
-use Rattle.std.proofs.Common.{◌≡◌, ◌<◌, ◌∙◌, ℕ, Some, arith, ap, length, slice_get, sym}
+use Rattle.std.proofs.Common.{◌≡◌, ◌<◌, ◌∙◌, ℕ, ◌∷◌, [], Some, arith, ap, length, length-append, slice_get, sym}
 use Rattle.std.proofs.lemmas.Option.{slice_get-get_or}
 use Rattle.mold_pacing.specs.Delays.{greatest_of}
 use Rattle.mold_pacing.proofs.DelayLemmas.{greatest_append, greatest_kept, greatest_new}
@@ -14,6 +14,23 @@ invariant_of-self-clause-most c =
       greatest_append old.recent.items c.args.delay,
       ap greatest_of c.push_reserved.ensures.items,
     )
+
+pub invariant_of-self-clause-fits : goal.invariant_of-self-clause-fits
+invariant_of-self-clause-fits c =
+    let old = c.args.self.now in
+    c.patience_after-self.ensures c.push_reserved.new.self.items
+    (omega (
+      arith,
+      ap length c.push_reserved.ensures.items,
+      length-append old.recent.items (c.args.delay ∷ []),
+    ))
+    (omega (
+      arith,
+      c.max-self.ensures,
+      old.most,
+      greatest_append old.recent.items c.args.delay,
+      ap greatest_of c.push_reserved.ensures.items,
+    ))
 
 pub next_greatest-self-requires-clause-new : goal.next_greatest-self-requires-clause-new
 next_greatest-self-requires-clause-new c =

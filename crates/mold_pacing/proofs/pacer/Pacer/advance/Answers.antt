@@ -7,7 +7,7 @@ use Rattle.mold_pacing.proofs.pacer.Pacer.advance.Goals as goal
 pub invariant_of-self-clause-ends : goal.invariant_of-self-clause-ends
 invariant_of-self-clause-ends c =
     let old = c.args.self.now in
-    let now = ap (λ (s : PacerState). s.now) c.advance-self.ensures
+    let now = ap (λ (s : PacerState). s.now) c.advance.ensures
     ∙ advanced_now c.args.time c.args.known old.state in
-    all_later (old.state.now + old.options.ceiling) (c.advance-self.result.now + old.options.ceiling) old.flights.items
+    all_later (old.state.now + old.options.ceiling) (c.advance.new.self.now + old.options.ceiling) old.flights.items
     (omega (arith, now)) old.ends
