@@ -212,6 +212,13 @@ learned_now options None s = refl
 learned_now options (Some f) s = elim (is_partial f) as (λ b. (cond {A = PacerState} b
     (record s { most = min (f.reached - f.first) options.most; full = 0 }) s).now ≡ s.now) [ true ↦ refl | false ↦ refl ]
 
+pub learned_marked : (options : PacerOptions) (before : Option Flight) (s : PacerState) →
+    (learned options before s).marked ≡ s.marked
+learned_marked options None s = refl
+learned_marked options (Some f) s = elim (is_partial f) as (λ b. (cond {A = PacerState} b
+    (record s { most = min (f.reached - f.first) options.most; full = 0 }) s).marked ≡ s.marked)
+    [ true ↦ refl | false ↦ refl ]
+
 pub learned_opens : (options : PacerOptions) (before : Option Flight) (s : PacerState) →
     (learned options before s).opens ≡ s.opens
 learned_opens options None s = refl

@@ -31,13 +31,15 @@ pub struct Pacer {
     ghost few: { vec_len flights ≤ options.places },
     ghost room: { options.places ≤ vec_capacity flights },
     ghost timed: { state.now < 2 ^ 62 },
+    ghost past: { state.marked ≤ state.now },
     ghost learned: { (0 < state.most) × (state.most ≤ options.most) },
     ghost opens: { state.opens ≤ state.now + options.tolerance + options.interval },
     ghost ends: { list_all (is_over (state.now + options.ceiling)) flights.items ≡ true },
 }
 
 impl Pacer {
-    ghost use Rattle.std.specs.Prelude.{max, min, [], map, false, IfOk, IfSome, IfNone, OnErr, ℕ, ◌-◌, ◌⊎◌, Some, slice_get};
+    ghost use Rattle.std.specs.Prelude.{max, min, [], map, false, IfOk, IfSome, IfNone, OnErr, ℕ, ◌-◌, ◌⊎◌, Some};
+    ghost use Rattle.std.specs.Prelude.{slice_get};
     ghost use Rattle.std.specs.List.{list_all};
     ghost use Rattle.mold_pacing.specs.Asks.{are_gaps, AsksFrom};
     ghost use Rattle.mold_pacing.specs.Deadline.{CanAsk, can_send};

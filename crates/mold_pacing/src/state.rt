@@ -56,10 +56,11 @@ impl PacerState {
     // For the optimizer: it changes fields in place. Most datagrams change the time only, and write nothing else.
     #[inline(always)]
     pub(crate) fn advance(&mut self, time: u64, known: u64)
+        requires { self.old.marked ≤ self.old.now }
         ensures { self.new ≡ advanced time known self.old }
     {
         self.now = self.now.max(time);
-        if self.now - self.marked.min(self.now) < self.patience {
+        if self.now - self.marked < self.patience {
             return;
         }
         self.ripe = self.mark;

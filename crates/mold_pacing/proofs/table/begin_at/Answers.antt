@@ -10,7 +10,8 @@ returns-then-index-flights-clause-low c i f after there =
 
 pub returns-then-index-flights-clause-above : goal.returns-then-index-flights-clause-above
 returns-then-index-flights-clause-above c number above =
-    inl (above c.args.index _ (omega arith) (slice_get-get_or c.args.flights.now c.args.index _ c.if-index-flights.true))
+    let there = slice_get-get_or c.args.flights.now c.args.index _ c.if-index-flights.true in
+    inl (above c.args.index _ (omega arith) there)
 
 pub returns-clause-low : goal.returns-clause-low
 returns-clause-low c i f after there =

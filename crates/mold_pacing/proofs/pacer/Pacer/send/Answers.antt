@@ -5,7 +5,7 @@ use Rattle.mold_pacing.specs.Table.{without}
 use Rattle.mold_pacing.proofs.EndLemmas.{all_placed, all_without, sent_ends}
 use Rattle.mold_pacing.specs.declared.flight.Flight.{Flight}
 use Rattle.mold_pacing.specs.declared.state.PacerState.{PacerState}
-use Rattle.mold_pacing.proofs.LawLemmas.{learned_most, learned_now, learned_opens}
+use Rattle.mold_pacing.proofs.LawLemmas.{learned_marked, learned_most, learned_now, learned_opens}
 use Rattle.mold_pacing.proofs.PlaceLemmas.{sent_ascending, sent_length}
 use Rattle.mold_pacing.proofs.pacer.Pacer.send.Goals as goal
 
@@ -19,6 +19,8 @@ invariant_of-self c =
     let learns = c.learn-state.ensures in
     let now = ap (λ (s : PacerState). s.now) c.ask-self.ensures ∙ ap (λ (s : PacerState). s.now) learns
     ∙ learned_now old.options before old.state in
+    let marked = ap (λ (s : PacerState). s.marked) c.ask-self.ensures ∙ ap (λ (s : PacerState). s.marked) learns
+    ∙ learned_marked old.options before old.state in
     let opens = ap (λ (s : PacerState). s.opens) c.ask-self.ensures in
     let most = ap (λ (s : PacerState). s.most) c.ask-self.ensures ∙ ap (λ (s : PacerState). s.most) learns in
     let some = learned_most old.options before old.state old.options.asks.0 old.learned.0 old.learned.1 in
@@ -33,6 +35,7 @@ invariant_of-self c =
       );
       room = omega (arith, c.replace.ensures.capacity, old.room);
       timed = omega (arith, now, old.timed);
+      past = omega (arith, now, marked, old.past);
       learned = (omega (arith, most, some.0), omega (arith, most, some.1));
       opens = omega (
         arith,

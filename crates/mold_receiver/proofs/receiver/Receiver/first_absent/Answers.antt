@@ -1,4 +1,4 @@
-use Rattle.std.proofs.Common.{◌+◌, ◌-◌, ◌≤◌, subst, sym, arith}
+use Rattle.std.proofs.Common.{◌+◌, ◌≤◌, subst, sym, arith}
 use Rattle.mold_receiver.specs.View.{View}
 use Rattle.mold_receiver.specs.Wanted.{IsFirstAbsent}
 use Rattle.mold_receiver.proofs.GivingUpLemmas.{absent_low, first_absent_is}
