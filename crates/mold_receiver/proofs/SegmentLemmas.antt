@@ -55,7 +55,7 @@ some_same x y e = cc e
 pub are_with : (old new : Segments) (key : ℕ) (segment : Segment) → AreSegments old
     → Updates old.table new.table key (Some segment) → IsSegment segment → key < 2 ^ 32
     → length segment.bytes.items ≤ 2 * segment.used + room_at old.roomy key → new.roomy ≡ old.roomy
-    → AreSpare new.spare → AreSegments new
+    → AreSpare new.spare new.small → AreSegments new
 are_with old new key segment are up is few size roomy spare = record {
   each = each_of old new key (Some segment) up (λ _ s. IsSegment s)
       (λ s e. subst IsSegment (some_same segment s e) is) (λ at s _ had. are.each at s had);
@@ -70,7 +70,7 @@ are_with old new key segment are up is few size roomy spare = record {
 }
 
 pub are_without : (old new : Segments) (key : ℕ) → AreSegments old → Updates old.table new.table key None
-    → new.roomy ≡ old.roomy → AreSpare new.spare → AreSegments new
+    → new.roomy ≡ old.roomy → AreSpare new.spare new.small → AreSegments new
 are_without old new key are up roomy spare = record {
   each = each_of old new key None up (λ _ s. IsSegment s) (λ s e. absurd (none_some e))
       (λ at s _ had. are.each at s had);
@@ -85,8 +85,8 @@ are_without old new key are up roomy spare = record {
 
 -- Any segment may become the roomy one if none was.
 pub are_roomy : (old new : Segments) → AreSegments old → old.roomy ≡ None → new.table ≡ old.table
-    → new.spare ≡ old.spare → AreSegments new
-are_roomy old new are none table spare =
+    → new.spare ≡ old.spare → new.small ≡ old.small → AreSegments new
+are_roomy old new are none table spare less =
     let kept : (r : Option ℕ) (at : ℕ) (s : Segment) → get old.table at ≡ Some s →
     length s.bytes.items ≤ 2 * s.used + room_at r at =
     λ r at s had. omega (arith, are.size at s had, ap (λ (o : Option ℕ). room_at o at) none) in
@@ -94,14 +94,15 @@ are_roomy old new are none table spare =
       each = λ at s had. are.each at s (ap (λ (t : Slab Segment). get t at) (sym table) ∙ had);
       keys = λ at s had. are.keys at s (ap (λ (t : Slab Segment). get t at) (sym table) ∙ had);
       size = λ at s had. kept new.roomy at s (ap (λ (t : Slab Segment). get t at) (sym table) ∙ had);
-      spare = subst AreSpare (sym spare) are.spare;
+      spare = subst (λ (x : Vec (Vec ℕ Global) Global). AreSpare x new.small) (sym spare)
+          (subst (AreSpare old.spare) (sym less) are.spare);
     }
 
 -- No segment is roomy any more, if the roomy one's memory is at most twice as large as its bytes.
 pub are_tight : (old new : Segments) (key : ℕ) → AreSegments old → old.roomy ≡ Some key
     → size_at old key ≤ 2 * length (bytes_at old key) → new.table ≡ old.table → new.spare ≡ old.spare
-    → AreSegments new
-are_tight old new key are roomy small table spare =
+    → new.small ≡ old.small → AreSegments new
+are_tight old new key are roomy small table spare less =
     let kept : (r : Option ℕ) (at : ℕ) (s : Segment) → get old.table at ≡ Some s →
     length s.bytes.items ≤ 2 * s.used + room_at r at =
     λ r at s had.
@@ -129,7 +130,8 @@ are_tight old new key are roomy small table spare =
       each = λ at s had. are.each at s (ap (λ (t : Slab Segment). get t at) (sym table) ∙ had);
       keys = λ at s had. are.keys at s (ap (λ (t : Slab Segment). get t at) (sym table) ∙ had);
       size = λ at s had. kept new.roomy at s (ap (λ (t : Slab Segment). get t at) (sym table) ∙ had);
-      spare = subst AreSpare (sym spare) are.spare;
+      spare = subst (λ (x : Vec (Vec ℕ Global) Global). AreSpare x new.small) (sym spare)
+          (subst (AreSpare old.spare) (sym less) are.spare);
     }
 
 -- Segments with the same table have the same bytes and counts.
@@ -329,10 +331,10 @@ last_or (first ∷ list) last zero bytes is = inl is
 last_or (first ∷ list) last (suc i) bytes is = last_or list last i bytes is
 
 -- One more segment's memory is spare.
-pub spare_pushed : (old new : Vec (Vec ℕ Global) Global) (bytes : Vec ℕ Global) → AreSpare old
+pub spare_pushed : (old new : Vec (Vec ℕ Global) Global) (small bytes : Vec ℕ Global) → AreSpare old small
     → new.items ≡ old.items ++ bytes ∷ [] → vec_capacity new ≡ vec_capacity old → IsMemory bytes SEGMENT_BYTES
-    → length old.items + 1 < MAX_SPARE → AreSpare new
-spare_pushed old new bytes are is room memory few = record {
+    → length old.items + 2 < MAX_SPARE → AreSpare new small
+spare_pushed old new small bytes are is room memory few = record {
   each = λ i b at.
       elim (last_or old.items bytes i b (ap (λ (t : List (Vec ℕ Global)). slice_get t i) (sym is) ∙ at)) [
         | inl had ↦ are.each i b had
@@ -345,4 +347,6 @@ spare_pushed old new bytes are is room memory few = record {
     length-append old.items (bytes ∷ []),
   );
   room = omega (arith, are.room, room);
+  less = are.less;
+  exact = are.exact;
 }

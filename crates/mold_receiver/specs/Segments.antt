@@ -85,12 +85,14 @@ pub record IsMemoryFor (bytes : Vec ℕ Global) (used room : ℕ) : Type 0 where
   pub few : length bytes.items < NO_START
   pub exact : vec_capacity bytes ≤ length bytes.items
 
--- The memory is that of spare segments: fewer than `MAX_SPARE`, each of `SEGMENT_BYTES` bytes. The list has room for
--- `MAX_SPARE`.
-pub record AreSpare (spare : Vec (Vec ℕ Global) Global) : Type 0 where
+-- The memory is that of spare segments: of `SEGMENT_BYTES` bytes each, and of one that is smaller. With the roomy one,
+-- these are at most `MAX_SPARE`, for which the list has room.
+pub record AreSpare (spare : Vec (Vec ℕ Global) Global) (small : Vec ℕ Global) : Type 0 where
   pub each : (i : ℕ) (bytes : Vec ℕ Global) → slice_get spare.items i ≡ Some bytes → IsMemory bytes SEGMENT_BYTES
-  pub few : length spare.items < MAX_SPARE
+  pub few : length spare.items + 2 ≤ MAX_SPARE
   pub room : MAX_SPARE ≤ vec_capacity spare
+  pub less : length small.items ≤ SEGMENT_BYTES
+  pub exact : vec_capacity small ≤ length small.items
 
 -- The segments are consistent, and each has a key that fits a place. The memory of each is at most twice as large as its
 -- bytes in use, but for the roomy one.
@@ -100,7 +102,7 @@ pub record AreSegments (segments : Segments) : Type 0 where
   pub size :
       (key : ℕ) (segment : Segment) → get segments.table key ≡ Some segment →
       length segment.bytes.items ≤ 2 * segment.used + room_at segments.roomy key
-  pub spare : AreSpare segments.spare
+  pub spare : AreSpare segments.spare segments.small
 
 -- Each segment has the bytes and the count that it had.
 pub record AreLeft (old new : Segments) : Type 0 where

@@ -13,8 +13,10 @@ use crate::place::{NO_START, Place};
 use crate::segment::{SEGMENT_BYTES, Segment, memory};
 use slab::Slab;
 use std::alloc::{AllocError, Global};
+use std::mem;
 
-/// The memory of at most this many segments is kept while no stored message needs it. The roomy segment is one of them.
+/// The memory of at most this many segments is kept while no stored message needs it. The roomy segment is one of them,
+/// and another is smaller than `SEGMENT_BYTES`.
 pub(crate) const MAX_SPARE: usize = 16;
 
 // The table of segments keeps its memory while it is empty, if it has room for at most this many.
@@ -30,6 +32,8 @@ pub(crate) struct Segments {
     roomy: Option<u32>,
     // Memory of segments that were given back, each of `SEGMENT_BYTES` bytes.
     spare: Vec<Vec<u8>>,
+    // The smaller memory that was given back last.
+    small: Vec<u8>,
     // The bytes in use of all segments.
     used: usize,
 }
@@ -45,6 +49,7 @@ impl Segments {
             table: Slab::new(alloc),
             roomy: None,
             spare: Vec::with_capacity(alloc, MAX_SPARE)?,
+            small: Vec::new(alloc),
             used: 0,
         })
     }
@@ -54,16 +59,18 @@ impl Segments {
         requires { AreSegments self.now }
         ensures { result ≤ slab_len self.now.table + MAX_SPARE }
     {
-        self.table.len().saturating_add(self.spare.len())
+        self.table
+            .len()
+            .saturating_add(self.spare.len() + usize::from(!self.small.is_empty()))
     }
 
     /// Returns the memory of all segments in bytes, together with the spare memory.
     pub(crate) fn memory(&self) -> usize
         requires { AreSegments self.now }
-        ensures { result ≡ min (length self.now.spare.items * SEGMENT_BYTES + memory_of (entries self.now.table))
-            (2 ^ 64 - 1) }
+        ensures { result ≡ min (length self.now.spare.items * SEGMENT_BYTES + vec_capacity self.now.small
+            + memory_of (entries self.now.table)) (2 ^ 64 - 1) }
     {
-        let mut memory = self.spare.len() * SEGMENT_BYTES;
+        let mut memory = self.spare.len() * SEGMENT_BYTES + self.small.capacity();
         for (_, segment) in self.table.iter() {
             memory = memory.saturating_add(segment.bytes.capacity());
         }
@@ -131,7 +138,7 @@ impl Segments {
         }
     }
 
-    // Returns memory for `used` bytes, which is at most twice as large.
+    // Returns memory for `used` bytes, which is at most twice as large: the small memory if it fits.
     fn memory_for(&mut self, alloc: Global, used: usize) -> Result<Vec<u8>, AllocError>
         requires whole { AreSegments self.old }
         requires few { used < NO_START }
@@ -140,13 +147,17 @@ impl Segments {
         ensures roomy { self.new.roomy ≡ self.old.roomy }
         ensures fits { IfOk result (λ bytes. IsMemoryFor bytes used 0) }
     {
+        if used <= self.small.len() && self.small.len() <= 2 * used {
+            return Ok(mem::replace(&mut self.small, Vec::new(alloc)));
+        }
         if used <= SEGMENT_BYTES && SEGMENT_BYTES <= 2 * used {
             return self.large_memory(alloc);
         }
         memory(alloc, used)
     }
 
-    // Keeps memory of `SEGMENT_BYTES` bytes for later use, if there is not enough yet. Frees other memory.
+    // Keeps memory of `SEGMENT_BYTES` bytes for later use, if there is not enough yet. Of smaller memory it keeps only
+    // the last. Other memory is freed.
     fn save(&mut self, bytes: Vec<u8>)
         requires whole { AreSegments self.old }
         requires exact { vec_capacity bytes ≤ length bytes.items }
@@ -154,7 +165,9 @@ impl Segments {
         ensures table { self.new.table ≡ self.old.table }
         ensures roomy { self.new.roomy ≡ self.old.roomy }
     {
-        if bytes.len() == SEGMENT_BYTES && self.spare.len() + 1 < MAX_SPARE {
+        if bytes.len() < SEGMENT_BYTES {
+            self.small = bytes;
+        } else if bytes.len() == SEGMENT_BYTES && self.spare.len() + 2 < MAX_SPARE {
             self.spare.push_reserved(bytes);
         }
     }

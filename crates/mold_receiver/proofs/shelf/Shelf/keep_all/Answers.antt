@@ -8,7 +8,7 @@ use Rattle.mold_receiver.specs.declared.shelf.Shelf.{Shelf}
 use Rattle.mold_receiver.proofs.KeptLemmas.{kept_more, more_on}
 use Rattle.mold_receiver.proofs.PlacedLemmas.{blocks_long}
 use Rattle.mold_receiver.proofs.SegmentLemmas.{more_appended}
-use Rattle.mold_receiver.proofs.TightLemmas.{beside_there, if_some, near_appended, tight_marked}
+use Rattle.mold_receiver.proofs.TightLemmas.{beside_there, if_some, near_appended, tight_left, tight_marked}
 use Rattle.mold_receiver.proofs.shelf.Shelf.keep_all.Goals as goal
 
 pub append-requires-clause-there : goal.append-requires-clause-there
@@ -64,3 +64,7 @@ returns-clause-filled c =
     (more_on c.args.self.now c.append.new.self c.requires.kept
     (more_appended c.args.self.now.segments c.append.new.self c.in_ok-begin.begin c.bytes.result.now
     c.in_ok-begin.ensures.appended))
+
+pub returns-in_err-begin-clause-tight : goal.returns-in_err-begin-clause-tight
+returns-in_err-begin-clause-tight c =
+    tight_left c.args.self.now _ c.requires.kept c.requires.tight refl c.in_err-begin.ensures.same

@@ -9,6 +9,8 @@ returns-clause-most c =
       c.memory.ensures,
       memory_bound c.args.self.now c.requires.kept c.requires.tight,
       c.requires.kept.segments.spare.few,
+      c.requires.kept.segments.spare.less,
+      c.requires.kept.segments.spare.exact,
     )
 
 pub returns-clause-least : goal.returns-clause-least
