@@ -100,6 +100,9 @@ impl Audit {
         requires few { first + length (drop from batch.now.messages) < 2 ^ 64 }
         ensures { HasNoted self.old self.new first (drop from batch.now.messages) }
     {
+        if self.is_off() {
+            return;
+        }
         let mut number = first;
         for index in from..batch.len() {
             if let Some(message) = batch.get(index) {

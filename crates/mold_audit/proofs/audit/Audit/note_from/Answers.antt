@@ -1,7 +1,9 @@
 use Rattle.std.proofs.Common.{◌<◌, ◌≤◌, ◌+◌, ◌∙◌, ap, arith, drop, length, sym, get_or, []}
 use Rattle.std.specs.Option.{option_copied}
 use Rattle.std.proofs.Math.ListN.{drop_of_length-le}
+use Rattle.std.proofs.lemmas.Bool.{eqb-true}
 use Rattle.std.proofs.lemmas.Option.{none-some, slice_get-get_or}
+use Rattle.mold_audit.proofs.LawLemmas.{off_noted}
 use Rattle.mold_audit.proofs.NoteLemmas.{drop_first, next_low, noted_both, noted_none}
 use Rattle.mold_audit.proofs.audit.Audit.note_from.Goals as goal
 use Rattle.mold_audit.proofs.audit.Audit.note_from.Goals.{in-Some, in_default}
@@ -38,3 +40,8 @@ returns c =
     omega (arith, c.loop-index-test.false, c.len-index-end.ensures.length) in
     let none = drop_of_length-le all {i = c.loop-index.index} past in
     c.loop-index.invariant.ends c.loop-index.self (rw none (noted_none c.loop-index.self c.loop-index.number))
+
+pub returns-then-is_off : goal.returns-then-is_off
+returns-then-is_off c =
+    let none = eqb-true (length c.args.self.now.slots.items) 0 (sym c.is_off.ensures ∙ c.if-is_off.true) in
+    off_noted c.args.self.now c.args.first (drop c.args.from c.args.batch.now.messages) none
