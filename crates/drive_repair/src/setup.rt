@@ -20,11 +20,12 @@ fn read_options(words: &mut Words<'_>) -> Option<RepairOptions> {
         places: words.next_small()?,
         servers: words.next_small()?,
         give_up: words.next_small()?,
+        audit: 0,
     })
 }
 
 /// Makes the repairer of a line of numbers: the first message, the window, and the options in the order of
-/// `RepairOptions`. Returns `None` if the line has other words, if a number is outside its range, or if an allocation
+/// `RepairOptions`, without `audit`, which is 0. Returns `None` if the line has other words, if a number is outside its range, or if an allocation
 /// fails.
 pub(crate) fn make_repairer(alloc: Global, line: &[u8]) -> Option<Repairer> {
     let mut words = Words::new(line);

@@ -228,7 +228,8 @@ pub next_low :
 next_low a b first message ascending is =
     elim (cases_Bool (nat_eq (size_of a) 0)) [
       | inl none ↦
-          omega (arith, is.next, cond-true (nat_eq (size_of a) 0) a.next (first + length (message ∷ [])) none, ascending)
+          let next = cond-true (nat_eq (size_of a) 0) a.next (first + length (message ∷ [])) none in
+          omega (arith, is.next, next, ascending)
       | inr some ↦
           omega (arith, is.next, cond-false (nat_eq (size_of a) 0) a.next (first + length (message ∷ [])) some)
     ]

@@ -74,8 +74,8 @@ pub record IsContradiction (a : Audit) (first : ℕ) (messages : List (List ℕ)
   pub contradicts : Contradicts a first messages number
   pub least : (earlier : ℕ) → earlier < number → Contradicts a first messages earlier → ⊥
 
--- The slots of the numbers from `from` to just below `at` were emptied. Those of lower numbers are the same, for as many
--- of the last numbers below `to` as there are slots.
+-- The slots of the numbers from `from` to just below `at` were emptied. Those of lower numbers are the same, as far as
+-- these are among the last ones below `to`, as many as there are slots.
 pub record AreEmptied (old new : List ℕ) (from at to : ℕ) : Type 0 where
   pub size : length new ≡ length old
   pub empty : (number : ℕ) → from ≤ number → number < at → slot_at new number ≡ 0

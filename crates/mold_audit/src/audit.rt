@@ -64,6 +64,13 @@ impl Audit {
         self.slots.is_empty()
     }
 
+    /// Returns one more than the greatest number noted, or 0.
+    pub fn next(&self) -> u64
+        ensures { result ≡ self.now.next }
+    {
+        self.next
+    }
+
     // Returns the digest that is kept of the message with this number, if there is one.
     fn kept(&self, number: u64) -> Option<u64>
         ensures { result ≡ kept self.now number }

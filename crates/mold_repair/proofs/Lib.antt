@@ -15,3 +15,4 @@ pub mod CatchUpLemmas
 pub mod FrugalLemmas
 pub mod TableLemmas
 pub mod NeededLemmas
+pub mod AuditLemmas

@@ -9,6 +9,7 @@ pub mod Taking
 pub mod GivingUp
 pub mod Polls
 pub mod Stats
+pub mod Auditing
 pub mod StatsOf
 pub mod Run
 pub mod Laws

@@ -1,5 +1,6 @@
 -- The options of a repairer.
 use Rattle.std.specs.Prelude.{◌≡◌, ℕ, ◌*◌, ◌-◌, ◌==◌, ◌&&◌, Bool, max, min, nat_le, nat_lt, if◌then◌else◌}
+use Rattle.mold_audit.specs.declared.audit.TheConstants.{MAX_AUDIT}
 use Rattle.mold_pacing.specs.declared.options.PacerOptions.{PacerOptions}
 use Rattle.mold_pacing.specs.declared.delays.TheConstants.{FIRST_PATIENCE}
 use Rattle.mold_repair.specs.declared.options.RepairOptions.{RepairOptions}
@@ -17,7 +18,7 @@ are_times o =
 abbrev pub are_counts : RepairOptions → Bool
 are_counts o =
     nat_lt 0 o.bucket && (nat_le o.bucket MAX_BUCKET && (nat_lt 0 o.places && (nat_le o.places MAX_PLACES
-    && (nat_le o.servers MAX_SERVERS && nat_le o.give_up MAX_GIVE_UP))))
+    && (nat_le o.servers MAX_SERVERS && (nat_le o.give_up MAX_GIVE_UP && nat_le o.audit MAX_AUDIT)))))
 
 -- Whether each number is in its range.
 abbrev pub are_options : RepairOptions → Bool

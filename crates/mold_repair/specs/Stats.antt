@@ -21,6 +21,8 @@ no_counts = record {
   lost = 0;
   again_a = 0;
   again_b = 0;
+  contradictions = 0;
+  contradiction = None;
 }
 
 -- After a request was returned.
@@ -47,6 +49,12 @@ counted_line B taken c = if is_useless taken then record c { again_b = u64_satur
 abbrev pub counted_taken : RepairOrigin → Taken → RepairCounts → RepairCounts
 counted_taken (Line line) taken c = counted_line line taken c
 counted_taken (Server server) taken c = counted_answer taken c
+
+-- After a datagram was compared with what was delivered. The number is that of the contradiction, if there is one.
+abbrev pub counted_contradiction : Option ℕ → RepairCounts → RepairCounts
+counted_contradiction None c = c
+counted_contradiction (Some number) c =
+    record c { contradictions = u64_saturate (c.contradictions + 1); contradiction = Some number }
 
 -- The statistics of a line by the arbiter's report, the count of its datagrams that brought nothing new, and its
 -- greatest delay. The other datagrams brought something new.

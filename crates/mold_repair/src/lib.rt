@@ -3,6 +3,7 @@
 #![tactic(auto)]
 
 mod ask;
+mod auditing;
 mod came;
 mod error;
 mod gaps;

@@ -4,6 +4,7 @@ ghost use Rattle.std.specs.Prelude.{◌≡◌, ◌&&◌, true, nat_le};
 ghost use Rattle.mold_repair.specs.Options.{ArePacerOptions, are_counts, are_options, are_times, first_patience};
 ghost use Rattle.mold_repair.specs.Options.{tolerance};
 
+use mold_audit::MAX_AUDIT;
 use mold_pacing::{FIRST_PATIENCE, PacerOptions};
 use mold_wire::MAX_COUNT;
 
@@ -51,6 +52,9 @@ pub struct RepairOptions {
     /// After how many requests in a row without a response missing messages are given up, 1 to 1,000. If it is 0, they
     /// are never given up. Without a server, each wait for a response counts as a request.
     pub give_up: u32,
+    /// The number of delivered messages whose digests are kept, at most 1,048,576. A datagram that brings one of them
+    /// again with other bytes is counted as a contradiction. If it is 0, no datagram is.
+    pub audit: u32,
 }
 
 impl RepairOptions {
@@ -77,6 +81,7 @@ impl RepairOptions {
             && self.places <= MAX_PLACES
             && self.servers <= MAX_SERVERS
             && self.give_up <= MAX_GIVE_UP
+            && self.audit <= MAX_AUDIT
     }
 
     /// Returns whether each number is in its range.

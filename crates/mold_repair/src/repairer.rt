@@ -4,6 +4,7 @@ ghost use Rattle.std.specs.Prelude.{◌≡◌, ◌≤◌, ◌<◌, ◌^◌, true
 ghost use Rattle.mold_repair.specs.Options.{ArePacerOptions, are_options};
 
 use crate::ask::Ask;
+use crate::auditing::audit_taken;
 use crate::came::{came_below, is_timed, report};
 use crate::error::RepairError;
 use crate::gaps::find_free;
@@ -12,8 +13,10 @@ use crate::line_stats::LineStats;
 use crate::options::RepairOptions;
 use crate::origin::RepairOrigin;
 use crate::stats::{RepairCounts, RepairStats};
+use mold_audit::Audit;
+use mold_audit::laws::next_law;
 use mold_pacing::{Arrival, Delays, Gap, Pacer};
-use mold_receiver::laws::wanted_law;
+use mold_receiver::laws::{taken_law, wanted_law};
 use mold_receiver::{Arbiter, Batch, Line, Refusal, Taken};
 use mold_wire::Request;
 use std::alloc::{AllocError, Global};
@@ -30,13 +33,17 @@ pub struct Repairer {
     // The delays between the lines.
     delays: Delays,
     counts: RepairCounts,
+    // The digests of what was delivered.
+    audit: Audit,
     ghost valid: { are_options options ≡ true },
     ghost paced: { ArePacerOptions options pacer.options },
+    ghost noted: { audit.next ≤ arbiter.view.next },
 }
 
 impl Repairer {
     ghost use Rattle.std.specs.Prelude.{[], ◌+◌, ℕ, Err, IfErr, IfNone, IfOk, IfSome, MatchOption, OnErr, OnOk, Some};
-    ghost use Rattle.std.specs.Prelude.{false, if◌then◌else◌, is_some, max, slice_get};
+    ghost use Rattle.std.specs.Prelude.{drop, false, if◌then◌else◌, is_some, length, max, slice_get};
+    ghost use Rattle.mold_audit.specs.Kept.{size_of};
     ghost use Rattle.mold_pacing.specs.declared.flight.Flight.{Flight};
     ghost use Rattle.mold_pacing.specs.State.{advanced, fresh};
     ghost use Rattle.mold_pacing.specs.Delays.{greatest_on, no_arrivals};
@@ -45,6 +52,7 @@ impl Repairer {
     ghost use Rattle.mold_receiver.specs.Batch.{Follows};
     ghost use Rattle.mold_receiver.specs.Origin.{line_of};
     ghost use Rattle.mold_receiver.specs.Wanted.{HasNoGap, IsNextGap};
+    ghost use Rattle.mold_repair.specs.Auditing.{HasAudited, HasAuditedLoss};
     ghost use Rattle.mold_repair.specs.Came.{noted, numbers};
     ghost use Rattle.mold_repair.specs.Header.{IsRead};
     ghost use Rattle.mold_repair.specs.GivingUp.{HasGivenUp, IsGivenUp, is_due};
@@ -75,6 +83,8 @@ impl Repairer {
         ensures counts { IfOk result (λ repairer. repairer.counts ≡ no_counts) }
         ensures recent { IfOk result (λ repairer. repairer.delays.recent.items ≡ []) }
         ensures lines { IfOk result (λ repairer. repairer.delays.lines.items ≡ []) }
+        ensures size { IfOk result (λ repairer. size_of repairer.audit ≡ options.audit) }
+        ensures noted { IfOk result (λ repairer. repairer.audit.next ≡ 0) }
         ensures ok { OnOk result (are_options options ≡ true) }
         ensures invalid { are_options options ≡ false → result ≡ Err Options }
         ensures memory { are_options options ≡ true → IfErr result (λ error. error ≡ Memory) }
@@ -88,12 +98,16 @@ impl Repairer {
         let Ok(delays) = Delays::new(alloc) else {
             return Err(RepairError::Memory);
         };
+        let Ok(audit) = Audit::new(alloc, options.audit) else {
+            return Err(RepairError::Memory);
+        };
         Ok(Repairer {
             arbiter,
             pacer,
             options,
             delays,
             counts: RepairCounts::new(),
+            audit,
         })
     }
 
@@ -106,6 +120,7 @@ impl Repairer {
         ensures options { self.new.options ≡ self.old.options }
         ensures counts { self.new.counts ≡ self.old.counts }
         ensures delays { self.new.delays ≡ self.old.delays }
+        ensures audit { self.new.audit ≡ self.old.audit }
     {
         let receiver = self.arbiter.receiver();
         let came = came_below(datagram, receiver.next(), receiver.window());
@@ -123,6 +138,7 @@ impl Repairer {
         ensures options { self.new.options ≡ self.old.options }
         ensures counts { self.new.counts ≡ self.old.counts }
         ensures delays { self.new.delays ≡ self.old.delays }
+        ensures audit { self.new.audit ≡ self.old.audit }
     {
         if is_missing {
             self.note(origin, datagram);
@@ -140,6 +156,7 @@ impl Repairer {
         ensures arbiter { self.new.arbiter ≡ self.old.arbiter }
         ensures options { self.new.options ≡ self.old.options }
         ensures counts { self.new.counts ≡ self.old.counts }
+        ensures audit { self.new.audit ≡ self.old.audit }
     {
         if self.options.patience != 0 {
             return;
@@ -184,9 +201,14 @@ impl Repairer {
         ensures passed { OnErr result (HasPassed now self.old.arbiter.view self.old.pacer self.new.pacer) }
         ensures same { OnErr result (self.new.delays ≡ self.old.delays) }
         ensures options { self.new.options ≡ self.old.options }
-        ensures counted { IfOk result (λ taken. self.new.counts ≡ counted_taken origin taken self.old.counts) }
+        ensures audited { IfOk result (λ taken. HasAudited self.old.audit self.new.audit
+            (counted_taken origin taken self.old.counts) self.new.counts datagram.now self.old.arbiter.view.next
+            (drop (length batch.old.messages) batch.new.messages)) }
         ensures counts { OnErr result (self.new.counts ≡ self.old.counts) }
+        ensures audit { OnErr result (self.new.audit ≡ self.old.audit) }
     {
+        taken_law();
+        next_law();
         let receiver = self.arbiter.receiver();
         let known = receiver.known();
         let is_missing = receiver.next() < known;
@@ -208,9 +230,12 @@ impl Repairer {
                     kept,
                     beyond,
                 };
+                let next = self.arbiter.receiver().next();
+                let found = audit_taken(&mut self.audit, datagram, batch, next, handed);
+                self.counts.take(origin, taken);
+                self.counts.contradict(found);
                 self.learn(origin, datagram, is_missing);
                 self.adapt(origin, datagram);
-                self.counts.take(origin, taken);
                 Ok(taken)
             }
             Err(refused) => Err(refused),
@@ -257,13 +282,17 @@ impl Repairer {
         ensures counted { IfOk result (λ lost. self.new.counts ≡ counted_lost lost self.old.counts) }
         ensures counts { OnErr result (self.new.counts ≡ self.old.counts) }
         ensures delays { self.new.delays ≡ self.old.delays }
+        ensures audited { IfOk result (HasAuditedLoss self.old.audit self.new.audit batch.new.messages) }
+        ensures audit { OnErr result (self.new.audit ≡ self.old.audit) }
     {
+        next_law();
         self.pacer.advance(now, self.arbiter.receiver().known());
         let Some(gap) = self.given_up() else {
             return Ok(None);
         };
         self.arbiter.skip(gap.end, batch)?;
         let next = self.arbiter.receiver().next();
+        self.audit.note_from(gap.end, batch, 0);
         self.pacer.arrive(Gap {
             first: 0,
             end: next,
@@ -282,6 +311,7 @@ impl Repairer {
         ensures options { self.new.options ≡ self.old.options }
         ensures counts { self.new.counts ≡ self.old.counts }
         ensures delays { self.new.delays ≡ self.old.delays }
+        ensures audit { self.new.audit ≡ self.old.audit }
     {
         if self.given_up().is_some() {
             return None;
@@ -300,6 +330,7 @@ impl Repairer {
         ensures options { self.new.options ≡ self.old.options }
         ensures counts { self.new.counts ≡ self.old.counts }
         ensures delays { self.new.delays ≡ self.old.delays }
+        ensures audit { self.new.audit ≡ self.old.audit }
     {
         while self.send().is_some() {}
     }
@@ -314,6 +345,7 @@ impl Repairer {
         ensures options { self.new.options ≡ self.old.options }
         ensures counted { self.new.counts ≡ counted_poll result self.old.counts }
         ensures delays { self.new.delays ≡ self.old.delays }
+        ensures audit { self.new.audit ≡ self.old.audit }
     {
         self.pacer.advance(now, self.arbiter.receiver().known());
         if self.options.servers == 0 {
@@ -385,6 +417,7 @@ impl Repairer {
         ensures options { self.new.options ≡ self.old.options }
         ensures counts { self.new.counts ≡ self.old.counts }
         ensures delays { self.new.delays ≡ self.old.delays }
+        ensures audit { self.new.audit ≡ self.old.audit }
     {
         let receiver = self.arbiter.receiver();
         let known = receiver.known();

@@ -1,8 +1,8 @@
 //! What a repairer counts.
 
 ghost use Rattle.std.specs.Prelude.{◌≡◌};
-ghost use Rattle.mold_repair.specs.Stats.{counted_answer, counted_line, counted_loss, counted_request};
-ghost use Rattle.mold_repair.specs.Stats.{counted_taken, no_counts};
+ghost use Rattle.mold_repair.specs.Stats.{counted_answer, counted_contradiction, counted_line, counted_loss};
+ghost use Rattle.mold_repair.specs.Stats.{counted_request, counted_taken, no_counts};
 
 use crate::line_stats::LineStats;
 use crate::origin::RepairOrigin;
@@ -24,6 +24,10 @@ pub struct RepairCounts {
     pub again_a: u64,
     /// The same of line B.
     pub again_b: u64,
+    /// The datagrams that brought a message again with other bytes than those delivered, as far as `audit` finds them.
+    pub contradictions: u64,
+    /// The number of that message in the last such datagram: the least one, if there are several.
+    pub contradiction: Option<u64>,
 }
 
 /// The state of a repairer, as statistics show it.
@@ -61,6 +65,8 @@ impl RepairCounts {
             lost: 0,
             again_a: 0,
             again_b: 0,
+            contradictions: 0,
+            contradiction: None,
         }
     }
 
@@ -113,6 +119,17 @@ impl RepairCounts {
             };
         }
         RepairCounts { answers, ..self }
+    }
+
+    /// Counts a contradiction, if a datagram brought one. `found` is its number.
+    #[inline(always)]
+    pub(crate) fn contradict(&mut self, found: Option<u64>)
+        ensures { self.new ≡ counted_contradiction found self.old }
+    {
+        if found.is_some() {
+            self.contradictions = self.contradictions.saturating_add(1);
+            self.contradiction = found;
+        }
     }
 
     /// Returns the counts after these messages were given up.

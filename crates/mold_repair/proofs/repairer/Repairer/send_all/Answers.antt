@@ -28,6 +28,7 @@ loop-preserved c =
       options = c.send.ensures.options ∙ is.options;
       counts = c.send.ensures.counts ∙ is.counts;
       delays = c.send.ensures.delays ∙ is.delays;
+      audit = c.send.ensures.audit ∙ is.audit;
     }
 
 pub returns-clause-sent : goal.returns-clause-sent

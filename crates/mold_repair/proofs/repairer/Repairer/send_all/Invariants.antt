@@ -12,6 +12,7 @@ invariant-loop l = record {
   options : l.self.options ≡ l.fn.self.options;
   counts : l.self.counts ≡ l.fn.self.counts;
   delays : l.self.delays ≡ l.fn.self.delays;
+  audit : l.self.audit ≡ l.fn.self.audit;
 }
 
 abbrev pub decreases-loop : goal.decreases-loop

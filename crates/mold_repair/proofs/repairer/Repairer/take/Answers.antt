@@ -1,4 +1,4 @@
-use Rattle.std.proofs.Common.{◌∙◌, ℕ, List, [], cond, max, nat_lt, ap, subst, sym}
+use Rattle.std.proofs.Common.{◌∙◌, ℕ, List, [], cond, drop, length, max, nat_lt, ap, subst, sym, arith}
 use Rattle.mold_pacing.specs.declared.delays.Delays.{Delays}
 use Rattle.mold_pacing.specs.declared.state.PacerState.{PacerState}
 use Rattle.mold_pacing.specs.declared.step.Step.{Step}
@@ -10,6 +10,10 @@ use Rattle.mold_repair.specs.Came.{noted, numbers}
 use Rattle.mold_repair.specs.Taking.{HasLearned, taken_steps}
 use Rattle.mold_repair.specs.Timing.{IsTimed, adapted_from}
 use Rattle.mold_repair.specs.declared.options.RepairOptions.{RepairOptions}
+use Rattle.mold_audit.specs.declared.audit.Audit.{Audit}
+use Rattle.mold_audit.specs.Kept.{HasNoted}
+use Rattle.mold_repair.specs.Stats.{counted_contradiction}
+use Rattle.mold_repair.proofs.AuditLemmas.{is_delivered, noted_last, noted_within}
 use Rattle.mold_repair.proofs.TakingLemmas.{advanced_now, learned_all, passed}
 use Rattle.mold_repair.proofs.repairer.Repairer.take.Goals as goal
 use Rattle.mold_wire.specs.Reading.{reading}
@@ -70,3 +74,40 @@ returns-in-Ok-clause-taken c =
     (subst (λ (a : Arbitration). HasArbitrated (line_of c.receiver_origin.result) c.args.self.now.arbiter
     c.args.datagram.now c.args.batch.now a c.take_from.new.batch c.in-Ok.field-0)
     (sym (c.adapt.ensures.arbiter ∙ c.learn.ensures.arbiter)) c.in-Ok.ensures.taken)
+
+pub audit_taken-found-requires-clause-there : goal.audit_taken-found-requires-clause-there
+audit_taken-found-requires-clause-there c =
+    let is = is_delivered c.taken_law.ensures _ _ _ _ _ _ _ c.in-Ok.ensures.taken in
+    omega (arith, is.long)
+
+pub invariant_of-self-clause-noted : goal.invariant_of-self-clause-noted
+invariant_of-self-clause-noted c =
+    let old = c.args.self.now in
+    let batch = c.take_from.new.batch in
+    let is = is_delivered c.taken_law.ensures _ _ _ _ _ _ _ c.in-Ok.ensures.taken in
+    let next = c.next-next.ensures ∙ ap (λ (v : View). v.next) c.receiver.ensures in
+    let noted = noted_last old.audit c.audit_taken-found.new.audit old.arbiter c.take_from.new.self c.args.batch.now
+    batch c.in-Ok.field-0.handed is (rw next at c.audit_taken-found.ensures.noted) in
+    noted_within old.audit c.audit_taken-found.new.audit old.arbiter c.take_from.new.self c.args.batch.now batch
+    c.in-Ok.field-0.handed is (c.next_law.ensures old.audit c.audit_taken-found.new.audit old.arbiter.view.next
+    (drop (length c.args.batch.now.messages) batch.messages) old.noted noted)
+
+pub returns-in-Ok-clause-audited : goal.returns-in-Ok-clause-audited
+returns-in-Ok-clause-audited c =
+    let old = c.args.self.now in
+    let batch = c.take_from.new.batch in
+    let is = is_delivered c.taken_law.ensures _ _ _ _ _ _ _ c.in-Ok.ensures.taken in
+    let next = c.next-next.ensures ∙ ap (λ (v : View). v.next) c.receiver.ensures in
+    let noted = noted_last old.audit c.audit_taken-found.new.audit old.arbiter c.take_from.new.self c.args.batch.now
+    batch c.in-Ok.field-0.handed is (rw next at c.audit_taken-found.ensures.noted) in
+    record {
+      found = c.audit_taken-found.result;
+      is = c.audit_taken-found.ensures.compared;
+      counts =
+          c.adapt.ensures.counts ∙ c.learn.ensures.counts ∙ c.contradict.ensures
+          ∙ ap (counted_contradiction c.audit_taken-found.result) c.take.ensures;
+      noted =
+          subst (λ (a : Audit). HasNoted old.audit a old.arbiter.view.next
+          (drop (length c.args.batch.now.messages) batch.messages))
+          (sym (c.adapt.ensures.audit ∙ c.learn.ensures.audit)) noted;
+    }
