@@ -5,7 +5,8 @@ use mold_pacing::Gap;
 use mold_receiver::{Arbiter, Batch, Line, Receiver};
 use mold_repair::run::{apply, run};
 use mold_repair::{
-    Ask, LineStats, Outcome, RepairError, RepairOptions, RepairOrigin, RepairStep, Repairer,
+    Ask, LineStats, Outcome, RepairError, RepairOptions, RepairOrigin, RepairStats, RepairStep,
+    Repairer,
 };
 use mold_wire::{Request, Session};
 use std::alloc::Global;
@@ -20,6 +21,10 @@ const DATA_2: &[u8] = b"SESSION001\0\0\0\0\0\0\0\x02\0\x01\0\x01B";
 
 const DATA_3: &[u8] = b"SESSION001\0\0\0\0\0\0\0\x03\0\x01\0\x01C";
 
+const OTHER_1: &[u8] = b"SESSION001\0\0\0\0\0\0\0\x01\0\x01\0\x01?";
+
+const OTHER_3: &[u8] = b"SESSION001\0\0\0\0\0\0\0\x03\0\x01\0\x01?";
+
 const DATA_5: &[u8] = b"SESSION001\0\0\0\0\0\0\0\x05\0\x01\0\x01E";
 
 const OPTIONS: RepairOptions = RepairOptions {
@@ -32,6 +37,7 @@ const OPTIONS: RepairOptions = RepairOptions {
     places: 4,
     servers: 2,
     give_up: 2,
+    audit: 0,
 };
 
 fn repairer(alloc: Global, options: RepairOptions) -> Result<Repairer, Fail> {
@@ -253,6 +259,38 @@ fn counts_lines(rt: HostRuntime) -> Result<(), Fail> {
     assert!(&rt; stats.b == b, "other statistics of line B");
     assert!(&rt; stats.patience == 600_000, "another patience");
     Ok(())
+}
+
+// Message 1 comes again as it was, and then with another byte. Message 2 is given up. Then message 3, which was stored,
+// comes again with another byte.
+#[test]
+fn counts_contradictions(rt: HostRuntime) -> Result<(), Fail> {
+    let options = RepairOptions {
+        audit: 2,
+        ..OPTIONS
+    };
+    let mut repairer = repairer(rt.alloc(), options)?;
+    let mut batch = Batch::new(rt.alloc());
+    expect_requests(&rt, &mut repairer, &mut batch);
+    let stats = take_all(&mut repairer, &mut batch, [DATA_1, OTHER_1]);
+    assert!(&rt; stats.counts.contradictions == 1, "another count");
+    assert!(&rt; stats.counts.contradiction == Some(1), "another number");
+    batch.clear();
+    let lost = repairer.lost(400, &mut batch)?;
+    assert!(&rt; lost.is_some(), "nothing is given up");
+    let stats = take_all(&mut repairer, &mut batch, [DATA_3, OTHER_3]);
+    assert!(&rt; stats.counts.contradictions == 2, "another count");
+    assert!(&rt; stats.counts.contradiction == Some(3), "another number");
+    Ok(())
+}
+
+// Takes two datagrams of line B, and returns the statistics after them.
+fn take_all(repairer: &mut Repairer, batch: &mut Batch, datagrams: [&[u8]; 2]) -> RepairStats {
+    for datagram in datagrams {
+        batch.clear();
+        let _taken = repairer.take(400, RepairOrigin::Line(Line::B), datagram, batch);
+    }
+    repairer.stats()
 }
 
 #[test]
