@@ -324,16 +324,27 @@ impl Shelf {
         self.occupied.skip(count);
     }
 
+    // Returns whether no slot from `from` up to, but not including, `to` has a message. It searches the flags.
+    #[inline(never)]
+    fn are_unset(&self, from: usize, to: usize) -> bool
+        requires { IsKept self.now }
+        ensures { IsTrue result ↔ AreEmpty (slots_on self.now) from to }
+    {
+        self.occupied.is_clear(from, to)
+    }
+
     /// Returns whether no slot from `from` up to, but not including, `to` has a message.
+    // For speed: one slot's place tells whether it is empty, so the flags are searched for several slots alone, by a
+    // function that is not inlined.
+    #[inline(always)]
     pub(crate) fn is_clear(&self, from: usize, to: usize) -> bool
         requires { IsKept self.now }
         ensures { IsTrue result ↔ AreEmpty (slots_on self.now) from to }
     {
-        // For speed: one slot's place tells whether it is empty.
         if to.saturating_sub(from) == 1 {
             return !self.has(from);
         }
-        self.occupied.is_clear(from, to)
+        self.are_unset(from, to)
     }
 
     /// Returns whether `count` slots from `first` on exist and are empty.

@@ -143,6 +143,8 @@ impl Slots {
     }
 
     /// Returns whether no slot from `from` up to, but not including, `to` has a message.
+    // For the optimizer: it is not inlined, so that a datagram in order needs fewer registers.
+    #[inline(never)]
     pub(crate) fn is_clear(&self, from: usize, to: usize) -> bool
         ensures { IsTrue result ↔ AreEmpty self.now from to }
     {

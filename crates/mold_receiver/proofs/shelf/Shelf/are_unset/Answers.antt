@@ -1,6 +1,6 @@
 use Rattle.mold_receiver.specs.Shelf.{slots_on}
 use Rattle.mold_receiver.proofs.SlotLemmas.{clear_flags, clear_slots}
-use Rattle.mold_receiver.proofs.shelf.Shelf.is_clear.Goals as goal
+use Rattle.mold_receiver.proofs.shelf.Shelf.are_unset.Goals as goal
 
 pub returns : goal.returns
 returns c = (
