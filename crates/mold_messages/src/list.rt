@@ -139,7 +139,7 @@ impl MessageList {
         self.ends.reserve(1)?;
         self.bytes.extend_from_slice(message)?;
         let end = self.bytes.len();
-        self.ends.push(end).unwrap();
+        self.ends.push_reserved(end);
         Ok(())
     }
 

@@ -116,7 +116,7 @@ impl PartList {
             self.cut();
             return Err(error);
         }
-        self.ends.push(end).unwrap();
+        self.ends.push_reserved(end);
         Ok(())
     }
 

@@ -28,8 +28,8 @@ returns-in_err-extend_from_slice-clause-succeeds c =
 pub invariant_of-self-2 : goal.invariant_of-self-2
 invariant_of-self-2 c =
     let f = c.self.inside in
-    let more = rw c.unwrap.ensures at c.push.ensures.items in
-    (pushed f.ends.items f.bytes.items c.args.message.now c.push.new.self.items c.extend_from_slice.new.self.items
+    let more = c.push_reserved.ensures.items in
+    (pushed f.ends.items f.bytes.items c.args.message.now c.push_reserved.new.self.items c.extend_from_slice.new.self.items
     c.len-end.result c.self.invariant
     (more ∙ ap (λ (t : List ℕ). t ++ c.len-end.result ∷ []) c.in_ok-reserve.ensures.items)
     c.in_ok-extend_from_slice.ensures.items (omega arith)).rising
@@ -37,8 +37,8 @@ invariant_of-self-2 c =
 pub returns-clause-added : goal.returns-clause-added
 returns-clause-added c =
     let f = c.self.inside in
-    let more = rw c.unwrap.ensures at c.push.ensures.items in
-    (pushed f.ends.items f.bytes.items c.args.message.now c.push.new.self.items c.extend_from_slice.new.self.items
+    let more = c.push_reserved.ensures.items in
+    (pushed f.ends.items f.bytes.items c.args.message.now c.push_reserved.new.self.items c.extend_from_slice.new.self.items
     c.len-end.result c.self.invariant
     (more ∙ ap (λ (t : List ℕ). t ++ c.len-end.result ∷ []) c.in_ok-reserve.ensures.items)
     c.in_ok-extend_from_slice.ensures.items (omega arith)).messages
