@@ -22,6 +22,16 @@ pub(crate) fn ring_index(head: usize, count: usize, slot: usize) -> usize
     if index < count { index } else { index - count }
 }
 
+// Returns the index of the slot after the first one, in a ring of `count` items whose first slot has the index `head`.
+// For speed: a release waits for one such index before it computes the next one.
+fn second_index(head: usize, count: usize) -> usize
+    requires { head < count }
+    ensures { result ≡ index_of head count 1 }
+{
+    let index = head + 1;
+    if index == count { 0 } else { index }
+}
+
 /// A ring of slots. It is allocated once, and takes 8 bytes a slot. Its slots move without a copy.
 #[derive(Debug, Drop)]
 pub(crate) struct Ring {
@@ -107,7 +117,7 @@ impl Ring {
         ensures place { result ≡ place_at self.old 0 }
         ensures moved { self.new ≡ drop 1 self.old ++ None ∷ [] }
     {
-        let next = ring_index(self.head, self.places.len(), 1);
+        let next = second_index(self.head, self.places.len());
         let place = self.places[self.head];
         self.places[self.head] = Place::none();
         self.head = next;

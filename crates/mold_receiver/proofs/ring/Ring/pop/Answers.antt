@@ -18,5 +18,5 @@ returns-clause-moved c =
     let f = c.self.inside in
     let places = set f.places.items f.head c.none.result in
     let long : c.len.result ≡ length f.places.items = c.len.ensures ∙ f.places.ok.0 in
-    ap (λ (i : ℕ). ring_of places i) (c.ring_index-next.ensures ∙ ap (λ (n : ℕ). index_of f.head n 1) long)
+    ap (λ (i : ℕ). ring_of places i) (c.second_index-next.ensures ∙ ap (λ (n : ℕ). index_of f.head n 1) long)
     ∙ ring_popped f.places.items f.head c.self.invariant.0 c.args.self.now c.none.result c.self.view_is c.none.ensures
