@@ -32,8 +32,10 @@ fn print_to_empty(outgoing: &mut Outgoing, batch: &Batch) -> Result<(), AllocErr
     Ok(())
 }
 
-// Appends a line or a block for each message of the batch that can be printed.
-fn print_handed(outgoing: &mut Outgoing, batch: &Batch) -> Result<(), AllocError>
+/// Appends a line or a block for each message of the batch that can be printed, in the format of `outgoing`. In the
+/// format `BlocksToEmpty` an empty message stops printing: see `Outgoing::stopped`. An error means out of memory; the
+/// bytes after the former text are then meaningless. It is linear in the text that it appends.
+pub fn print_handed(outgoing: &mut Outgoing, batch: &Batch) -> Result<(), AllocError>
     ensures text { OnOk result (outgoing.new ≡ with_handed batch.now.first batch.now.messages outgoing.old) }
     ensures kept { OnErr result (take (length outgoing.old.text) outgoing.new.text ≡ outgoing.old.text) }
     ensures keeps { KeepsSide outgoing.old outgoing.new }
