@@ -1,4 +1,5 @@
-//! Tests of `mold_wire`, `mold_devices`, `mold_messages`, `mold_digits`, `mold_input`, `mold_text`, `mold_ports`.
+//! Tests of `mold_wire`, `mold_devices`, `mold_messages`, `mold_digits`, `mold_input`, `mold_text`, `mold_ports`,
+//! `mold_port_set`.
 #![tactic(auto)]
 
 #[cfg(test)]
@@ -13,6 +14,8 @@ mod input;
 mod messages;
 #[cfg(test)]
 mod outlook;
+#[cfg(test)]
+mod port_sets;
 #[cfg(test)]
 mod ports;
 #[cfg(test)]

@@ -1,0 +1,3 @@
+pub mod Memory
+pub mod PortSet
+pub mod Udp
