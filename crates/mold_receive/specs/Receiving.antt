@@ -1,0 +1,199 @@
+-- The calls that a receiver over ports makes of its repairer, and what they print and send.
+use Rattle.std.specs.Prelude.{◌≡◌, ℕ, ◌+◌, ◌-◌, ◌&&◌, ◌==◌, Bool, true, false, if◌then◌else◌}
+use Rattle.std.specs.Prelude.{codes, decimal}
+use Rattle.std.specs.Prelude.{List, [], ◌∷◌, ◌++◌, slice_get, Option, None, Some}
+use Rattle.std.specs.Io.KnownBytes.{Appends}
+use Rattle.mold_devices.specs.Devices.{AppendsPrefix}
+use Rattle.mold_input.specs.declared.message_format.MessageFormat.{MessageFormat}
+use Rattle.mold_input.specs.declared.message_format.MessageFormat.TheVariants.{Lines, Blocks}
+use Rattle.mold_listen.specs.Listening.{ends_at}
+use Rattle.mold_listen.specs.Text.{handed_text}
+use Rattle.mold_pacing.specs.declared.gap.Gap.{Gap}
+use Rattle.mold_port_set.specs.PortSet.{Given, PortSetState, Sent}
+use Rattle.mold_receive.specs.declared.feed_receiver.FeedReceiver.{FeedReceiver}
+use Rattle.mold_receiver.specs.declared.line.Line.TheVariants.{A, B}
+use Rattle.mold_repair.specs.Run.{IsStepOf}
+use Rattle.mold_repair.specs.declared.ask.Ask.{Ask}
+use Rattle.mold_repair.specs.declared.origin.RepairOrigin.{RepairOrigin}
+use Rattle.mold_repair.specs.declared.origin.RepairOrigin.TheVariants.{Line, Server}
+use Rattle.mold_repair.specs.declared.outcome.Outcome.{Outcome}
+use Rattle.mold_repair.specs.declared.repairer.Repairer.{Repairer}
+use Rattle.mold_repair.specs.declared.step.RepairStep.{RepairStep}
+use Rattle.mold_repair.specs.declared.step.RepairStep.TheVariants.{Take, Poll, Lost, Pass}
+use Rattle.mold_text.specs.Line.{line_of}
+use Rattle.mold_turns.specs.Outgoing.{note_text}
+use Rattle.mold_wire.specs.Request.{request_spelling}
+
+-- A call of the repairer: its step, what it returned, and the repairer before and after it.
+pub record Call : Type 0 where
+  pub before : Repairer
+  pub after : Repairer
+  pub step : RepairStep
+  pub outcome : Outcome
+  pub is : IsStepOf before after step outcome
+  -- whether the send of the request failed, if the call returned one
+  pub fails : Bool
+
+-- The calls follow each other, from the repairer `old` to the repairer `new`.
+unfoldable pub Follow : Repairer → List Call → Repairer → Type 0
+Follow old [] new = new ≡ old
+Follow old (call ∷ calls) new = (call.before ≡ old) × Follow call.after calls new
+
+-- The index of the port on which datagrams of this origin come. `lines` is the number of lines: the ports of the
+-- servers follow those of the lines.
+abbrev pub port_of : ℕ → RepairOrigin → ℕ
+port_of lines (Line A) = 0
+port_of lines (Line B) = 1
+port_of lines (Server server) = lines + server
+
+-- The datagram that a step took, if it took one.
+abbrev pub taken_by : ℕ → RepairStep → List Given
+taken_by lines (Take time origin datagram) = record { port = port_of lines origin; bytes = datagram.now } ∷ []
+taken_by lines (Poll time) = []
+taken_by lines (Lost time) = []
+taken_by lines (Pass time) = []
+
+-- The datagrams that calls took, in order.
+unfoldable pub all_taken : ℕ → List Call → List Given
+all_taken lines [] = []
+all_taken lines (call ∷ calls) = taken_by lines call.step ++ all_taken lines calls
+
+-- The datagram of a request to this server, if there is such a server.
+abbrev pub datagram_to : {P : Type 0} → ℕ → Ask → Option P → List (Sent P)
+datagram_to lines ask None = []
+datagram_to lines ask (Some server) =
+    record { port = lines + ask.server; to = server; bytes = request_spelling ask.request } ∷ []
+
+-- The datagram of the request that a call returned, if it returned one. `servers` has the address of each server.
+abbrev pub datagram_of : {P : Type 0} → ℕ → List P → Option Ask → List (Sent P)
+datagram_of lines servers None = []
+datagram_of lines servers (Some ask) = datagram_to lines ask (slice_get servers ask.server)
+
+-- The datagrams of the requests that calls returned and that could be sent, in order.
+unfoldable pub all_sent : {P : Type 0} → ℕ → List P → List Call → List (Sent P)
+all_sent lines servers [] = []
+all_sent lines servers (call ∷ calls) =
+    (if call.fails then [] else datagram_of lines servers call.outcome.ask) ++ all_sent lines servers calls
+
+-- The line of messages that were given up: their first and their last number.
+abbrev pub lost_line : Gap → List ℕ
+lost_line gap = line_of (codes "lost" ∷ decimal gap.first ∷ decimal (gap.end - 1) ∷ [])
+
+-- The text on standard output for messages that were given up, if there are any. Among blocks there is none.
+abbrev pub lost_text : MessageFormat → Option Gap → List ℕ
+lost_text format None = []
+lost_text format (Some gap) = note_text format (lost_line gap)
+
+-- The text of a call on standard output: what was given up, and then the messages that it delivered.
+abbrev pub call_text : MessageFormat → Call → List ℕ
+call_text format call =
+    lost_text format call.outcome.lost ++ handed_text format call.is.handed.first call.is.handed.messages
+
+-- The text of calls on standard output.
+unfoldable pub all_text : MessageFormat → List Call → List ℕ
+all_text format [] = []
+all_text format (call ∷ calls) = call_text format call ++ all_text format calls
+
+-- One call was made of the repairer, with this step. It returned this request or none. What it delivered and gave up
+-- was printed.
+pub record HasCalled (format : MessageFormat) (step : RepairStep) (ask : Option Ask) (old new : Repairer)
+    (before after : List ℕ) : Type 0 where
+  pub call : Call
+  pub from : call.before ≡ old
+  pub to : call.after ≡ new
+  pub stepped : call.step ≡ step
+  pub asked : call.outcome.ask ≡ ask
+  pub printed : after ≡ before ++ call_text format call
+
+-- A receiver over ports: its repairer, its ports, and all text that it has printed.
+pub record ReceiverState (P : Type 0) : Type 0 where
+  pub repairer : Repairer
+  pub ports : PortSetState P
+  pub text : List ℕ
+
+-- The receiver made some calls of its repairer, and nothing else that changes it. It took exactly the datagrams that
+-- its ports gave, sent the requests that it was to send, and printed what the calls delivered and gave up. What ports
+-- give and send is stated only if it is known, which it is for ports in memory.
+pub record HasReceived {P : Type 0} (lines : ℕ) (servers : List P) (format : MessageFormat) (modeled : Bool)
+    (old new : ReceiverState P) : Type 0 where
+  pub calls : List Call
+  pub follow : Follow old.repairer calls new.repairer
+  pub taken : modeled ≡ true → new.ports.given ≡ old.ports.given ++ all_taken lines calls
+  pub sent : modeled ≡ true → new.ports.sent ≡ old.ports.sent ++ all_sent lines servers calls
+  pub printed : new.text ≡ old.text ++ all_text format calls
+
+-- The state of the receiver `feed`. `state` gives that of its ports.
+abbrev pub state_of : {D P : Type 0} → (D → PortSetState P) → FeedReceiver D → ReceiverState P
+state_of state feed =
+    record { repairer = feed.repairer; ports = state feed.ports; text = feed.outgoing.text }
+
+-- What a receiver over ports leaves in time: the text `written`, and the text that it still holds, are what it printed.
+pub record HasWritten {P : Type 0} (lines : ℕ) (servers : List P) (format : MessageFormat) (modeled : Bool)
+    (old new : ReceiverState P) (held_old held_new : Option (List ℕ)) : Type 0 where
+  pub written : List ℕ
+  pub appended : Appends held_old held_new written
+  pub received : HasReceived lines servers format modeled old
+      (record { repairer = new.repairer; ports = new.ports; text = written ++ new.text })
+
+-- What a receiver over ports leaves after a fault: a prefix of the text of some calls that it made was written.
+pub record HasFailed {P : Type 0} (lines : ℕ) (servers : List P) (format : MessageFormat) (modeled : Bool)
+    (old : ReceiverState P) (held_old held_new : Option (List ℕ)) : Type 0 where
+  pub end : ReceiverState P
+  pub received : HasReceived lines servers format modeled old end
+  pub front : AppendsPrefix held_old held_new end.text
+
+-- The format in which messages are printed: as blocks, or as lines.
+abbrev pub format_for : Bool → MessageFormat
+format_for true = Blocks
+format_for false = Lines
+
+-- Whether the receiver has delivered or given up all messages up to the known end of the session.
+abbrev pub is_finished : Repairer → Bool
+is_finished repairer = ends_at repairer.arbiter.view.ended repairer.arbiter.view.next
+
+-- The last line of a receiver that is finished: the number of the next message, the count of messages that were given
+-- up, and the count of failed waits, receives and sends.
+abbrev pub finished_line : Repairer → ℕ → List ℕ
+finished_line repairer failures = line_of
+    (codes "finished" ∷ codes "next" ∷ decimal repairer.arbiter.view.next
+    ∷ codes "lost" ∷ decimal repairer.counts.lost ∷ codes "failed" ∷ decimal failures ∷ [])
+
+-- The last line of a receiver that is not finished. It also has the known top.
+abbrev pub open_line : Repairer → ℕ → List ℕ
+open_line repairer failures = line_of
+    (codes "open" ∷ codes "next" ∷ decimal repairer.arbiter.view.next
+    ∷ codes "known" ∷ decimal repairer.arbiter.view.known
+    ∷ codes "lost" ∷ decimal repairer.counts.lost ∷ codes "failed" ∷ decimal failures ∷ [])
+
+-- The last line.
+abbrev pub last_line : Repairer → ℕ → List ℕ
+last_line repairer failures =
+    if is_finished repairer then finished_line repairer failures else open_line repairer failures
+
+-- The status: 0 if the receiver is finished and nothing was given up, otherwise 1.
+abbrev pub last_status : Repairer → ℕ
+last_status repairer = if is_finished repairer && repairer.counts.lost == 0 then 0 else 1
+
+-- A receiver at its start, before it printed anything.
+abbrev pub started : {P : Type 0} → Repairer → PortSetState P → ReceiverState P
+started repairer ports = record { repairer = repairer; ports = ports; text = [] }
+
+-- A receiver that started with no text has ended: all its text is written, and then its last line. Among blocks the
+-- last line is not on standard output.
+pub record HasEnded {P : Type 0} (lines : ℕ) (servers : List P) (format : MessageFormat) (modeled : Bool)
+    (old new : Repairer) (before after : PortSetState P) (held_old held_new : Option (List ℕ)) (status : ℕ) :
+    Type 0 where
+  pub text : List ℕ
+  pub received : HasReceived lines servers format modeled
+      (started old before) (record { repairer = new; ports = after; text = text })
+  pub appended : Appends held_old held_new (text ++ note_text format (last_line new after.failures))
+  pub status_is : status ≡ last_status new
+
+-- What a receiver over ports leaves if its loop ends with a fault: a prefix of the text of some calls, and of the last
+-- line that follows them, was written.
+pub record HasBroken {P : Type 0} (lines : ℕ) (servers : List P) (format : MessageFormat) (modeled : Bool)
+    (old : ReceiverState P) (held_old held_new : Option (List ℕ)) : Type 0 where
+  pub end : ReceiverState P
+  pub received : HasReceived lines servers format modeled old end
+  pub front : AppendsPrefix held_old held_new
+      (end.text ++ note_text format (last_line end.repairer end.ports.failures))

@@ -1,0 +1,388 @@
+//! A receiver over ports: what it does in a turn.
+
+ghost use Rattle.std.specs.Prelude.{◌≡◌, ◌+◌, ◌<◌, ◌≤◌, ◌^◌, ◌++◌, [], ℕ, IfOk, List, None, length, take, OnErr, OnOk};
+ghost use Rattle.mold_input.specs.declared.message_format.MessageFormat.TheVariants.{BlocksToEmpty};
+ghost use Rattle.mold_receive.specs.Receiving.{HasBroken, HasCalled, HasEnded, HasFailed, HasReceived};
+ghost use Rattle.mold_receive.specs.Receiving.{HasWritten, last_line, last_status, lost_text, port_of, started};
+ghost use Rattle.mold_receive.specs.Receiving.{state_of};
+ghost use Rattle.mold_repair.specs.declared.origin.RepairOrigin.TheVariants.{Line as OnLine};
+ghost use Rattle.mold_repair.specs.declared.step.RepairStep.TheVariants.{Take};
+ghost use Rattle.mold_turns.specs.Outgoing.{note_text};
+ghost use Rattle.mold_turns.specs.Runs.{Begins};
+ghost use Rattle.std.specs.Io.KnownBytes.{Appends};
+ghost use Rattle.mold_devices.specs.Devices.{AppendsPrefix};
+
+use crate::calls;
+use crate::last_line::{last_status, push_last};
+use crate::receive_options::ReceiveOptions;
+use mold_devices::{CommandFault, Sink};
+use mold_listen::print_handed;
+use mold_pacing::Gap;
+use mold_port_set::PortSet;
+use mold_receiver::{Batch, Line, Refusal};
+use mold_repair::{RepairOrigin, Repairer};
+use mold_text::Word;
+use mold_turns::Outgoing;
+use std::alloc::AllocError;
+
+/// The most datagrams that are taken from a port before the next one is looked at.
+const AT_ONCE: u32 = 64;
+
+/// The most ranges that are given up in a turn. The others follow in the next one.
+const MOST_LOST: u32 = 64;
+
+/// The most requests that are sent in a turn.
+const MOST_REQUESTS: u32 = 65_536;
+
+/// A receiver over ports: the ports, the repairer, a batch for what a call delivers, and what is still to be printed.
+#[derive(Drop)]
+pub(crate) struct FeedReceiver<D> {
+    pub(crate) ports: D,
+    pub(crate) repairer: Repairer,
+    /// The messages that the last call delivered. The memory is kept for the next call.
+    pub(crate) batch: Batch,
+    /// The text that is still to be written.
+    pub(crate) outgoing: Outgoing,
+}
+
+impl<D: PortSet + Drop> FeedReceiver<D> {
+    // Takes a datagram of this origin. Prints what it delivers.
+    fn take(&mut self, origin: RepairOrigin, datagram: &[u8]) -> Result<(), AllocError>
+        requires plain { self.old.outgoing.format ≡ BlocksToEmpty → ⊥ }
+        ensures called { OnOk result (HasCalled self.old.outgoing.format
+            (Take (D.state self.old.ports).now origin datagram.entry) None self.old.repairer self.new.repairer
+            self.old.outgoing.text self.new.outgoing.text) }
+        ensures ports { self.new.ports ≡ self.old.ports }
+        ensures prints { Begins self.old.outgoing.text self.new.outgoing.text }
+        ensures format { self.new.outgoing.format ≡ self.old.outgoing.format }
+    {
+        self.batch.clear();
+        match calls::take(
+            &mut self.repairer,
+            self.ports.now(),
+            origin,
+            datagram,
+            &mut self.batch,
+        ) {
+            Err(Refusal::Memory) => Err(AllocError),
+            _ => print_handed(&mut self.outgoing, &self.batch),
+        }
+    }
+
+    // Takes the datagram that is at the port, if there is one. Returns whether there was one.
+    fn receive(
+        &mut self,
+        options: &ReceiveOptions<D::Peer>,
+        origin: RepairOrigin,
+        port: usize,
+        buffer: &mut [u8],
+    ) -> Result<bool, AllocError>
+        requires plain { self.old.outgoing.format ≡ BlocksToEmpty → ⊥ }
+        requires port { port ≡ port_of options.now.lines origin }
+        ensures received { OnOk result (HasReceived options.now.lines options.now.servers.items self.old.outgoing.format
+            D.modeled (state_of D.state self.old) (state_of D.state self.new)) }
+        ensures prints { Begins self.old.outgoing.text self.new.outgoing.text }
+        ensures format { self.new.outgoing.format ≡ self.old.outgoing.format }
+    {
+        match self.ports.receive(port, buffer) {
+            Ok(Some(count)) => {
+                self.take(origin, &buffer[..count])?;
+                Ok(true)
+            }
+            Ok(None) => Ok(false),
+            // The ports count it.
+            Err(_) => Ok(false),
+        }
+    }
+
+    // Takes what is at the port, at most `AT_ONCE` datagrams.
+    fn receive_some(
+        &mut self,
+        options: &ReceiveOptions<D::Peer>,
+        origin: RepairOrigin,
+        port: usize,
+        buffer: &mut [u8],
+    ) -> Result<(), AllocError>
+        requires plain { self.old.outgoing.format ≡ BlocksToEmpty → ⊥ }
+        requires port { port ≡ port_of options.now.lines origin }
+        ensures received { OnOk result (HasReceived options.now.lines options.now.servers.items
+            self.old.outgoing.format D.modeled (state_of D.state self.old) (state_of D.state self.new)) }
+        ensures prints { Begins self.old.outgoing.text self.new.outgoing.text }
+        ensures format { self.new.outgoing.format ≡ self.old.outgoing.format }
+    {
+        for _ in 0..AT_ONCE {
+            if !self.receive(options, origin, port, buffer)? {
+                return Ok(());
+            }
+        }
+        Ok(())
+    }
+
+    // Takes what is at all ports, at most `AT_ONCE` datagrams from each.
+    fn receive_all(
+        &mut self,
+        options: &ReceiveOptions<D::Peer>,
+        buffer: &mut [u8],
+    ) -> Result<(), AllocError>
+        requires plain { self.old.outgoing.format ≡ BlocksToEmpty → ⊥ }
+        ensures received { OnOk result (HasReceived options.now.lines options.now.servers.items
+            self.old.outgoing.format D.modeled (state_of D.state self.old) (state_of D.state self.new)) }
+        ensures prints { Begins self.old.outgoing.text self.new.outgoing.text }
+        ensures format { self.new.outgoing.format ≡ self.old.outgoing.format }
+    {
+        for port in 0..options.lines + options.servers.len() {
+            let origin = origin_of(options.lines, port);
+            self.receive_some(options, origin, port, buffer)?;
+        }
+        Ok(())
+    }
+
+    // Gives up the first missing messages, if that is due, and prints what was stored after them. Returns whether it
+    // was due.
+    fn lose_one(&mut self) -> Result<bool, AllocError>
+        requires plain { self.old.outgoing.format ≡ BlocksToEmpty → ⊥ }
+        ensures received { OnOk result ((lines : ℕ) (servers : List D.Peer) → HasReceived lines servers
+            self.old.outgoing.format D.modeled (state_of D.state self.old) (state_of D.state self.new)) }
+        ensures prints { Begins self.old.outgoing.text self.new.outgoing.text }
+        ensures format { self.new.outgoing.format ≡ self.old.outgoing.format }
+    {
+        self.batch.clear();
+        let lost = calls::lost(&mut self.repairer, self.ports.now(), &mut self.batch)?;
+        push_lost(&mut self.outgoing, lost)?;
+        print_handed(&mut self.outgoing, &self.batch)?;
+        Ok(lost.is_some())
+    }
+
+    // Gives up what is due, at most `MOST_LOST` ranges.
+    fn lose_all(&mut self) -> Result<(), AllocError>
+        requires plain { self.old.outgoing.format ≡ BlocksToEmpty → ⊥ }
+        ensures received { OnOk result ((lines : ℕ) (servers : List D.Peer) → HasReceived lines servers
+            self.old.outgoing.format D.modeled (state_of D.state self.old) (state_of D.state self.new)) }
+        ensures prints { Begins self.old.outgoing.text self.new.outgoing.text }
+        ensures format { self.new.outgoing.format ≡ self.old.outgoing.format }
+    {
+        for _ in 0..MOST_LOST {
+            if !self.lose_one()? {
+                return Ok(());
+            }
+        }
+        Ok(())
+    }
+
+    // Sends the request that the repairer returns, if it returns one. Returns whether there was a request.
+    fn request_one(&mut self, options: &ReceiveOptions<D::Peer>) -> bool
+        ensures received { HasReceived options.now.lines options.now.servers.items self.old.outgoing.format
+            D.modeled (state_of D.state self.old) (state_of D.state self.new) }
+        ensures text { self.new.outgoing.text ≡ self.old.outgoing.text }
+        ensures format { self.new.outgoing.format ≡ self.old.outgoing.format }
+    {
+        let Some(ask) = calls::poll(&mut self.repairer, self.ports.now()) else {
+            return false;
+        };
+        if let Some(server) = options.servers.get(ask.server as usize) {
+            let port = options.lines + ask.server as usize;
+            let _ = self.ports.send(port, *server, &ask.request.encode());
+        }
+        true
+    }
+
+    // Sends all requests that may be sent now.
+    fn request_all(&mut self, options: &ReceiveOptions<D::Peer>)
+        ensures received { HasReceived options.now.lines options.now.servers.items self.old.outgoing.format
+            D.modeled (state_of D.state self.old) (state_of D.state self.new) }
+        ensures text { self.new.outgoing.text ≡ self.old.outgoing.text }
+        ensures format { self.new.outgoing.format ≡ self.old.outgoing.format }
+    {
+        for _ in 0..MOST_REQUESTS {
+            if !self.request_one(options) {
+                return;
+            }
+        }
+    }
+
+    // Waits until a datagram is at a port, or until the repairer has something to do.
+    fn wait(&mut self)
+        ensures received { (lines : ℕ) (servers : List D.Peer) → HasReceived lines servers
+            self.old.outgoing.format D.modeled (state_of D.state self.old) (state_of D.state self.new) }
+        ensures text { self.new.outgoing.text ≡ self.old.outgoing.text }
+        ensures format { self.new.outgoing.format ≡ self.old.outgoing.format }
+    {
+        let until = calls::pass(&mut self.repairer, self.ports.now()).unwrap_or(u64::MAX);
+        let _ = self.ports.wait(until);
+    }
+
+    // Returns whether a datagram may be at a port.
+    fn is_busy(&mut self) -> bool
+        ensures received { (lines : ℕ) (servers : List D.Peer) → HasReceived lines servers
+            self.old.outgoing.format D.modeled (state_of D.state self.old) (state_of D.state self.new) }
+        ensures text { self.new.outgoing.text ≡ self.old.outgoing.text }
+        ensures format { self.new.outgoing.format ≡ self.old.outgoing.format }
+    {
+        self.ports.wait(0).unwrap_or(false)
+    }
+
+    // Unless a datagram is at a port, writes all text, and waits.
+    fn pause<K: Sink>(&mut self, sink: &mut K) -> Result<(), CommandFault>
+        ensures written { OnOk result ((lines : ℕ) (servers : List D.Peer) → HasWritten lines servers
+            self.old.outgoing.format D.modeled (state_of D.state self.old) (state_of D.state self.new)
+            (K.held sink.old) (K.held sink.new)) }
+        ensures failed { OnErr result ((lines : ℕ) (servers : List D.Peer) → HasFailed lines servers
+            self.old.outgoing.format D.modeled (state_of D.state self.old) (K.held sink.old) (K.held sink.new)) }
+        ensures format { self.new.outgoing.format ≡ self.old.outgoing.format }
+    {
+        if self.is_busy() {
+            return Ok(());
+        }
+        self.outgoing.send(sink)?;
+        self.wait();
+        Ok(())
+    }
+
+    // Makes one turn: takes what came, gives up what is due, and sends the requests that may be sent.
+    pub(crate) fn turn(
+        &mut self,
+        options: &ReceiveOptions<D::Peer>,
+        buffer: &mut [u8],
+    ) -> Result<(), AllocError>
+        requires plain { self.old.outgoing.format ≡ BlocksToEmpty → ⊥ }
+        ensures received { OnOk result (HasReceived options.now.lines options.now.servers.items
+            self.old.outgoing.format D.modeled (state_of D.state self.old) (state_of D.state self.new)) }
+        ensures prints { Begins self.old.outgoing.text self.new.outgoing.text }
+        ensures format { self.new.outgoing.format ≡ self.old.outgoing.format }
+    {
+        self.receive_all(options, buffer)?;
+        self.lose_all()?;
+        self.request_all(options);
+        Ok(())
+    }
+
+    // Makes a pause and then a turn. Writes the text for standard error, and the text if it is large.
+    fn write_turn<K: Sink, E: Sink>(
+        &mut self,
+        options: &ReceiveOptions<D::Peer>,
+        buffer: &mut [u8],
+        sink: &mut K,
+        errors: &mut E,
+    ) -> Result<(), CommandFault>
+        requires plain { self.old.outgoing.format ≡ BlocksToEmpty → ⊥ }
+        ensures written { OnOk result (HasWritten options.now.lines options.now.servers.items
+            self.old.outgoing.format D.modeled (state_of D.state self.old) (state_of D.state self.new)
+            (K.held sink.old) (K.held sink.new)) }
+        ensures failed { OnErr result (HasFailed options.now.lines options.now.servers.items
+            self.old.outgoing.format D.modeled (state_of D.state self.old) (K.held sink.old) (K.held sink.new)) }
+        ensures format { self.new.outgoing.format ≡ self.old.outgoing.format }
+    {
+        self.pause(sink)?;
+        let before = self.outgoing.unwritten();
+        let Ok(()) = self.turn(options, buffer) else {
+            return Err(self.outgoing.end_with(before, CommandFault::Memory, sink));
+        };
+        self.outgoing.send_side(errors)?;
+        self.outgoing.send_large(sink)
+    }
+
+    // Makes turns until all messages of the session were delivered or given up, at most `options.turns`.
+    fn take_turns<K: Sink, E: Sink>(
+        &mut self,
+        options: &ReceiveOptions<D::Peer>,
+        buffer: &mut [u8],
+        sink: &mut K,
+        errors: &mut E,
+    ) -> Result<(), CommandFault>
+        requires plain { self.old.outgoing.format ≡ BlocksToEmpty → ⊥ }
+        ensures written { OnOk result (HasWritten options.now.lines options.now.servers.items
+            self.old.outgoing.format D.modeled (state_of D.state self.old) (state_of D.state self.new)
+            (K.held sink.old) (K.held sink.new)) }
+        ensures failed { OnErr result (HasFailed options.now.lines options.now.servers.items
+            self.old.outgoing.format D.modeled (state_of D.state self.old) (K.held sink.old) (K.held sink.new)) }
+        ensures format { self.new.outgoing.format ≡ self.old.outgoing.format }
+    {
+        for _ in 0..options.turns {
+            self.write_turn(options, buffer, sink, errors)?;
+            if self.repairer.arbiter().receiver().finished() {
+                return Ok(());
+            }
+        }
+        Ok(())
+    }
+
+    // Appends the last line, and writes all text. Returns the status.
+    fn end<K: Sink, E: Sink>(&mut self, sink: &mut K, errors: &mut E) -> Result<u8, CommandFault>
+        ensures status { IfOk result (λ status. status ≡ last_status self.old.repairer) }
+        ensures written { OnOk result (Appends (K.held sink.old) (K.held sink.new)
+            (self.old.outgoing.text ++ note_text self.old.outgoing.format
+            (last_line self.old.repairer (D.state self.old.ports).failures))) }
+        ensures front { OnErr result (AppendsPrefix (K.held sink.old) (K.held sink.new)
+            (self.old.outgoing.text ++ note_text self.old.outgoing.format
+            (last_line self.old.repairer (D.state self.old.ports).failures))) }
+        ensures repairer { self.new.repairer ≡ self.old.repairer }
+        ensures ports { self.new.ports ≡ self.old.ports }
+    {
+        let before = self.outgoing.unwritten();
+        let Ok(()) = push_last(&mut self.outgoing, &self.repairer, self.ports.failures()) else {
+            return Err(self.outgoing.end_with(before, CommandFault::Memory, sink));
+        };
+        self.outgoing.send_side(errors)?;
+        self.outgoing.send(sink)?;
+        Ok(last_status(&self.repairer))
+    }
+
+    // Makes the turns, and ends.
+    pub(crate) fn run<K: Sink, E: Sink>(
+        &mut self,
+        options: &ReceiveOptions<D::Peer>,
+        buffer: &mut [u8],
+        sink: &mut K,
+        errors: &mut E,
+    ) -> Result<u8, CommandFault>
+        requires plain { self.old.outgoing.format ≡ BlocksToEmpty → ⊥ }
+        requires empty { self.old.outgoing.text ≡ [] }
+        ensures ended { IfOk result (HasEnded options.now.lines options.now.servers.items
+            self.old.outgoing.format D.modeled self.old.repairer self.new.repairer
+            (D.state self.old.ports) (D.state self.new.ports) (K.held sink.old) (K.held sink.new)) }
+        ensures failed { OnErr result (HasBroken options.now.lines options.now.servers.items
+            self.old.outgoing.format D.modeled
+            (started self.old.repairer (D.state self.old.ports)) (K.held sink.old) (K.held sink.new)) }
+    {
+        self.take_turns(options, buffer, sink, errors)?;
+        self.end(sink, errors)
+    }
+}
+
+// Returns the line whose port has this index.
+fn line_at(port: usize) -> Line
+    requires { port < 2 }
+    ensures { port_of 2 (OnLine result) ≡ port }
+{
+    if port == 0 { Line::A } else { Line::B }
+}
+
+// Returns the origin of the datagrams of the port. The ports of the servers follow those of the lines.
+fn origin_of(lines: usize, port: usize) -> RepairOrigin
+    requires lines { lines ≤ 2 }
+    requires few { port < lines + 2 ^ 32 }
+    ensures { port ≡ port_of lines result }
+{
+    if port < lines {
+        return RepairOrigin::Line(line_at(port));
+    }
+    RepairOrigin::Server((port - lines) as u32)
+}
+
+// Appends the line of the messages that were given up, if there are any.
+fn push_lost(outgoing: &mut Outgoing, lost: Option<Gap>) -> Result<(), AllocError>
+    ensures line { OnOk result (outgoing.new.text
+        ≡ outgoing.old.text ++ lost_text outgoing.old.format lost) }
+    ensures kept { OnErr result (take (length outgoing.old.text) outgoing.new.text ≡ outgoing.old.text) }
+    ensures format { outgoing.new.format ≡ outgoing.old.format }
+{
+    let Some(gap) = lost else {
+        return Ok(());
+    };
+    let words = [
+        Word::Text(b"lost"),
+        Word::Number(gap.first),
+        Word::Number(gap.end.saturating_sub(1)),
+    ];
+    outgoing.push_note(&words)
+}

@@ -1,0 +1,74 @@
+//! The loop of a receiver over a set of ports.
+
+ghost use Rattle.std.specs.Prelude.{◌≡◌, [], IfOk, OnErr};
+ghost use Rattle.mold_receive.specs.Receiving.{HasBroken, HasEnded, format_for, started};
+
+use crate::feed_receiver::FeedReceiver;
+use crate::receive_options::ReceiveOptions;
+use mold_devices::{CommandFault, Sink};
+use mold_port_set::PortSet;
+use mold_receiver::Batch;
+use mold_repair::Repairer;
+use mold_turns::Outgoing;
+use mold_wire::MAX_LIMIT;
+use std::alloc::Global;
+
+/// What a loop that ended leaves.
+#[derive(Drop)]
+pub struct Received<D> {
+    /// The status: 0 if the session is finished and nothing was given up, otherwise 1.
+    pub status: u8,
+    /// The ports.
+    pub ports: D,
+    /// The repairer.
+    pub repairer: Repairer,
+}
+
+/// Receives a session on one or two lines, and requests from the servers what is missing, as the repairer's policy
+/// says. Prints each message that is delivered, in order: as its number and its bytes, or as its block. Prints the line
+/// `lost FIRST LAST` for each range of messages that is given up.
+///
+/// In each turn the loop takes what is at the ports, at most 64 datagrams from each before the next one is looked at.
+/// Then it gives up what is due, and sends the requests that may be sent. When no datagram is at a port, it writes all
+/// text and waits for a datagram, or until the repairer has something to do. So less than 65,536 bytes of text are kept
+/// back, and none while it waits. It ends after the first turn that leaves the session finished, or after
+/// the `turns` of the options.
+///
+/// Then it prints a last line and returns the status: 0 if the session is finished and nothing was given up, otherwise
+/// 1. Among blocks, lines are written to `errors`, and `sink` gets the blocks and nothing else.
+///
+/// A failed wait, receive or send is counted, and the loop continues. After a fault, a prefix of the text is written.
+pub fn receive_loop<D: PortSet + Drop, K: Sink, E: Sink>(
+    alloc: Global,
+    ports: D,
+    repairer: Repairer,
+    options: &ReceiveOptions<D::Peer>,
+    sink: &mut K,
+    errors: &mut E,
+) -> Result<Received<D>, CommandFault>
+    ensures ended { IfOk result (λ received. HasEnded options.now.lines options.now.servers.items
+        (format_for options.now.blocks) D.modeled repairer received.repairer (D.state ports)
+        (D.state received.ports) (K.held sink.old) (K.held sink.new) received.status) }
+    ensures failed { OnErr result (HasBroken options.now.lines options.now.servers.items
+        (format_for options.now.blocks) D.modeled (started repairer (D.state ports)) (K.held sink.old)
+        (K.held sink.new)) }
+{
+    let mut buffer = vec![in alloc; 0; MAX_LIMIT]?;
+    let mut receiver = FeedReceiver {
+        ports,
+        repairer,
+        batch: Batch::new(alloc),
+        outgoing: Outgoing::with_format(alloc, options.format()),
+    };
+    let status = receiver.run(options, buffer.as_mut_slice(), sink, errors)?;
+    let FeedReceiver {
+        ports,
+        repairer,
+        ..
+    } = receiver;
+    Ok(Received {
+        status,
+        ports,
+        repairer,
+    })
+}

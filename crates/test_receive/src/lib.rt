@@ -1,0 +1,5 @@
+//! Tests of `mold_receive`: worked examples over a set of ports in memory.
+#![tactic(auto)]
+
+#[cfg(test)]
+mod receiving;
