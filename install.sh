@@ -1,5 +1,5 @@
 #!/bin/sh
-# Installs the program mold, its man page and its completions, or removes them.
+# Installs the programs mold and mold-join, their man pages and their completions, or removes them.
 #
 #     sh install.sh [--library] [--prefix DIR]    installs them below DIR; the default is /usr/local
 #     sh install.sh --uninstall [--prefix DIR]    removes what it installed there
@@ -7,9 +7,9 @@
 # With --library it also installs the library for programs in C, C++ and Rust: libmold.a, mold.h, mold.hpp,
 # and mold.pc for pkg-config.
 #
-# The program is the one that ./mold runs. If it is not built yet, ./mold builds it first, which takes
+# The program mold is the one that ./mold runs. If it is not built yet, ./mold builds it first, which takes
 # minutes and needs the toolchain. In the same way library/build builds the library, which also needs a C
-# compiler. The installed program does not need this repository.
+# compiler. The installed programs do not need this repository. mold-join needs Python 3.8 or later.
 #
 # A line is printed for each file that is installed or removed. The file share/doc/mold/installed below DIR
 # lists the installed files. An existing file that is not on that list is never replaced, because a linker
@@ -34,8 +34,11 @@ print_usage() {
 files() {
     cat <<'END'
 755 out/mold bin/mold
+755 mold-join bin/mold-join
 644 docs/mold.1 share/man/man1/mold.1
+644 docs/mold-join.1 share/man/man1/mold-join.1
 644 completions/mold.bash share/bash-completion/completions/mold
+644 completions/mold.bash share/bash-completion/completions/mold-join
 644 completions/_mold share/zsh/site-functions/_mold
 644 LICENSE-MIT share/doc/mold/LICENSE-MIT
 644 LICENSE-APACHE share/doc/mold/LICENSE-APACHE

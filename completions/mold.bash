@@ -1,5 +1,5 @@
-# Completion for the program mold in bash. Run `. completions/mold.bash`. A shell loads it without that if install.sh
-# installed it. tests/manual compares it with the program's help.
+# Completion for the programs mold and mold-join in bash. Run `. completions/mold.bash`. A shell loads it without that
+# if install.sh installed it. tests/manual compares it with the help of the programs.
 
 # The options of a command, with --help, which every command has.
 _mold_options() {
@@ -64,4 +64,25 @@ _mold() {
     esac
 }
 
+_mold_join_options='--a --interface-a --source-a --b --interface-b --source-b --help --version'
+
+# Completes the arguments that follow `--` as those of mold.
+_mold_join() {
+    local word=${COMP_WORDS[COMP_CWORD]} before=${COMP_WORDS[COMP_CWORD - 1]} at
+    COMPREPLY=()
+    for ((at = 1; at < COMP_CWORD; at++)); do
+        if [ "${COMP_WORDS[at]}" = -- ]; then
+            local COMP_WORDS=(mold "${COMP_WORDS[@]:at + 1}") COMP_CWORD=$((COMP_CWORD - at))
+            _mold
+            return
+        fi
+    done
+    # The value of an option is a group and port, or an address, which Bash splits as in _mold.
+    case $word:$before in
+    [:=]:* | *:[:=] | *:--*) ;;
+    *) _mold_words "$_mold_join_options --" "$word" ;;
+    esac
+}
+
 complete -F _mold mold ./mold
+complete -F _mold_join mold-join ./mold-join

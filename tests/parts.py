@@ -59,9 +59,10 @@ EDITS = Part("tests/edits --proved")
 WITHOUT_PROGRAM = (
     Part("tests/changed-test", ("tests/run",)),
     Part("tests/links", ("*.md",)),
-    Part("tests/prose", ("*.md", "docs/mold.1", "library/mold.h*", "crates/*/specs/*", "tests/prose-allowed")),
+    Part("tests/prose", ("*.md", "docs/*.1", "library/mold.h*", "crates/*/specs/*", "tests/prose-allowed")),
     Part("tests/contracts --check", ("docs/CONTRACTS.md", "crates.txt", "crates/*/src/*", "crates/*/specs/*",
                                      "crates/*/wrong/*", "crates/*/must-fail/*")),
+    Part("tests/join", ("mold-join", "crates/mold_words/src/command.rt")),
     Part("tests/edits-test", ("tests/edits", "tests/libraries.py")),
     # Longer runs with other seeds are not part of the gate.
     Part("tests/repair-network gate 200", (), DRIVER),
@@ -72,9 +73,10 @@ LANES = (
     (
         over_program("tests/program-checks", "try", "mold", "examples/*", "tests/checks.sh", "tests/table*",
                      "tests/udp-sessions", "tests/model.py"),
-        over_program("tests/library", "library/*", "docs/LIBRARY.md", "install.sh", "tests/udp-sessions",
+        over_program("tests/library", "library/*", "docs/LIBRARY.md", "install.sh", "mold-join", "tests/udp-sessions",
                      "tests/model.py", crate=LIBRARY, needs_compiler=True),
-        over_program("tests/documents " + " ".join(DOCUMENTS), *DOCUMENTS, "examples/*", "library/*", "install.sh"),
+        over_program("tests/documents " + " ".join(DOCUMENTS), *DOCUMENTS, "examples/*", "library/*", "install.sh",
+                     "mold-join"),
     ),
     (
         over_program("tests/out-of-memory", "examples/*", "tests/inject_faults.c"),
@@ -85,9 +87,9 @@ LANES = (
     ),
     (
         Part("sh tests/launcher", ("mold", "tests/checks.sh")),
-        over_program("tests/manual", "docs/mold.1", "completions/*"),
-        over_program("tests/install", "install.sh", "mold", "docs/mold.1", "completions/*", "LICENSE*", "library/*",
-                     "tests/checks.sh"),
+        over_program("tests/manual", "docs/*.1", "mold-join", "completions/*"),
+        over_program("tests/install", "install.sh", "mold", "mold-join", "docs/*.1", "completions/*", "LICENSE*",
+                     "library/*", "tests/checks.sh"),
     ),
 )
 
