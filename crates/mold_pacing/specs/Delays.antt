@@ -1,9 +1,10 @@
 -- The delays between two lines, by which the patience adapts. Times are in nanoseconds.
-use Rattle.std.specs.Prelude.{ℕ, ◌+◌, ◌*◌, ◌&&◌, Bool, not, List, [], ◌∷◌, ◌++◌, length, max, min, nat_eq, nat_lt, replicate, set}
-use Rattle.std.specs.Prelude.{if◌then◌else◌}
+use Rattle.std.specs.Prelude.{ℕ, ◌+◌, ◌*◌, ◌/◌, ◌%◌, ◌<◌, ◌&&◌, Bool, not, List, [], ◌∷◌, ◌++◌, length, max}
+use Rattle.std.specs.Prelude.{if◌then◌else◌, min, nat_eq, nat_lt, replicate, set}
 use Rattle.mold_pacing.specs.declared.arrival.Arrival.{Arrival}
-use Rattle.mold_pacing.specs.declared.arrival.TheConstants.{BOTH}
-use Rattle.mold_pacing.specs.declared.delays.TheConstants.{DELAYS, FIRST_PATIENCE, GREATEST_PATIENCE, LEAST_PATIENCE, SLOTS}
+use Rattle.mold_pacing.specs.declared.delays.TheConstants.{DELAYS, FIRST_PATIENCE, GREATEST_PATIENCE, LEAST_PATIENCE}
+use Rattle.mold_pacing.specs.declared.mark.Mark.{Mark}
+use Rattle.mold_pacing.specs.declared.mark.TheConstants.{BOTH, LINES, PART, PARTS, SLOTS, TIMES}
 
 -- The greatest of the delays, or 0 without a delay.
 abbrev pub greatest_of : List ℕ → ℕ
@@ -27,26 +28,55 @@ abbrev pub patience_for : List ℕ → ℕ
 patience_for [] = FIRST_PATIENCE
 patience_for (delay ∷ delays) = max LEAST_PATIENCE (min (greatest_of (delay ∷ delays) * 2) GREATEST_PATIENCE)
 
+-- The slot of a first number. Only numbers that differ by a multiple of `SLOTS` have the same slot.
+abbrev pub slot_of : ℕ → ℕ
+slot_of first = first % SLOTS / PARTS + first % SLOTS % PARTS * PART
+
+-- What is kept of an arrival's numbers. Its slot has the rest of the first number.
+abbrev pub key_of : Arrival → ℕ
+key_of a = a.first / SLOTS * SLOTS + a.count
+
+-- What is kept of an arrival.
+abbrev pub mark_of : Arrival → Mark
+mark_of a = record { key = key_of a; stamp = a.time % TIMES * LINES + a.line % LINES }
+
+-- The mark of the arrival keeps all of it.
+pub record IsMarked (a : Arrival) : Type 0 where
+  pub count : a.count < SLOTS
+  pub time : a.time < TIMES
+  pub line : a.line < LINES
+
+-- The time of a mark.
+abbrev pub time_of : Mark → ℕ
+time_of mark = mark.stamp / LINES
+
+-- The line of a mark.
+abbrev pub line_of : Mark → ℕ
+line_of mark = mark.stamp % LINES
+
 -- What is kept of the arrivals before the first one.
-abbrev pub no_arrival : Arrival
-no_arrival = record { first = 0; end = 0; time = 0; line = BOTH }
+abbrev pub no_arrival : Mark
+no_arrival = record { key = 0; stamp = BOTH }
 
 -- What is kept before the first arrival.
-abbrev pub no_arrivals : List Arrival
+abbrev pub no_arrivals : List Mark
 no_arrivals = replicate SLOTS no_arrival
 
--- Whether this is the same datagram: it has the same numbers.
-abbrev pub is_same : Arrival → Arrival → Bool
-is_same a b = nat_eq a.first b.first && nat_eq a.end b.end
+-- Whether this is the same datagram: it has the same numbers. The mark is in the slot of the arrival.
+abbrev pub is_same : Mark → Arrival → Bool
+is_same before a = nat_eq before.key (key_of a)
 
 -- Whether the datagram came before, and the other line alone brought it. The line `BOTH` means both lines.
-abbrev pub is_second : Arrival → Arrival → Bool
-is_second before a = is_same before a && (not (nat_eq before.line a.line) && not (nat_eq before.line BOTH))
+abbrev pub is_second : Mark → Arrival → Bool
+is_second before a =
+    is_same before a && (not (nat_eq (line_of before) a.line) && not (nat_eq (line_of before) BOTH))
 
 -- What is kept of a datagram that comes, in place of what was kept before.
-abbrev pub kept : Arrival → Arrival → Arrival
+abbrev pub kept : Mark → Arrival → Mark
 kept before a =
-    if is_second before a then record before { line = BOTH } else if is_same before a then before else a
+    if is_second before a then record before { stamp = time_of before * LINES + BOTH }
+    else if is_same before a then before
+    else mark_of a
 
 -- The last `DELAYS` delays after another one, or their lines. The one at the index leaves, if there are as many.
 abbrev pub pushed : ℕ → ℕ → List ℕ → List ℕ

@@ -1,18 +1,18 @@
 -- What the arrival of a datagram on a line changes.
-use Rattle.std.specs.Prelude.{◌≡◌, ◌-◌, ◌%◌, set, slice_get, if◌then◌else◌, Some}
-use Rattle.mold_pacing.specs.Delays.{index_after, is_second, kept, pushed}
+use Rattle.std.specs.Prelude.{◌≡◌, ◌-◌, set, slice_get, if◌then◌else◌, Some}
+use Rattle.mold_pacing.specs.Delays.{index_after, is_second, kept, pushed, slot_of, time_of}
 use Rattle.mold_pacing.specs.declared.arrival.Arrival.{Arrival}
 use Rattle.mold_pacing.specs.declared.delays.Delays.{Delays}
-use Rattle.mold_pacing.specs.declared.delays.TheConstants.{SLOTS}
+use Rattle.mold_pacing.specs.declared.mark.Mark.{Mark}
 
 -- The delays after an arrival. `before` is what was kept of the last arrival with such a number. If the arrival is the
 -- second one of a datagram, the time between both is the newest delay.
 pub record IsTaken (old new : Delays) (a : Arrival) : Type 0 where
-  pub before : Arrival
-  pub there : slice_get old.arrivals.items (a.first % SLOTS) ≡ Some before
-  pub arrivals : new.arrivals.items ≡ set old.arrivals.items (a.first % SLOTS) (kept before a)
+  pub before : Mark
+  pub there : slice_get old.arrivals.items (slot_of a.first) ≡ Some before
+  pub arrivals : new.arrivals.items ≡ set old.arrivals.items (slot_of a.first) (kept before a)
   pub recent : new.recent.items ≡ (if is_second before a
-      then pushed (a.time - before.time) old.next old.recent.items
+      then pushed (a.time - time_of before) old.next old.recent.items
       else old.recent.items)
   pub lines : new.lines.items ≡ (if is_second before a
       then pushed a.line old.next old.lines.items

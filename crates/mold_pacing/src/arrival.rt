@@ -1,49 +1,32 @@
 //! A datagram that a line brought.
 
 ghost use Rattle.std.specs.Prelude.{◌≡◌};
-ghost use Rattle.mold_pacing.specs.Delays.{is_same, is_second, kept};
+ghost use Rattle.mold_pacing.specs.Delays.{mark_of};
 
-/// The value of `Arrival::line` for a datagram that both lines brought.
-pub(crate) const BOTH: u32 = u32::MAX;
+use crate::mark::{LINES, Mark, SLOTS, TIMES};
 
 /// A datagram that a line brought.
 #[derive(Clone, Copy, Debug, PartialEq, Eq)]
 pub struct Arrival {
     /// The number of its first message.
     pub first: u64,
-    /// One more than the number of its last message.
-    pub end: u64,
-    /// The time at which it came, in nanoseconds.
+    /// The count of its messages.
+    pub count: u16,
+    /// The time at which it came, in nanoseconds. It is below 2^62.
     pub time: u64,
-    /// The index of the line, from 0.
+    /// The index of the line: 0, 1 or 2.
     pub line: u32,
 }
 
 impl Arrival {
-    // Returns whether the other arrival is of the same datagram.
+    /// Returns the mark that is kept of the arrival.
     #[inline(always)]
-    fn is_same(self, other: Arrival) -> bool
-        ensures { result ≡ is_same self other }
+    pub(crate) fn mark(self) -> Mark
+        ensures { result ≡ mark_of self }
     {
-        self.first == other.first && self.end == other.end
-    }
-
-    /// Returns whether the next arrival is of the same datagram, and the other line alone brought it before.
-    #[inline(always)]
-    pub(crate) fn is_second(self, next: Arrival) -> bool
-        ensures { result ≡ is_second self next }
-    {
-        self.is_same(next) && self.line != next.line && self.line != BOTH
-    }
-
-    /// Returns what is kept in place of this arrival after the next one.
-    #[inline(always)]
-    pub(crate) fn keep(self, next: Arrival) -> Arrival
-        ensures { result ≡ kept self next }
-    {
-        if self.is_second(next) {
-            return Arrival { line: BOTH, ..self };
+        Mark {
+            key: self.first / SLOTS * SLOTS + u64::from(self.count),
+            stamp: self.time % TIMES * LINES + u64::from(self.line) % LINES,
         }
-        if self.is_same(next) { self } else { next }
     }
 }

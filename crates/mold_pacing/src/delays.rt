@@ -3,16 +3,15 @@
 ghost use Rattle.std.specs.Prelude.{◌≡◌, ◌≤◌, ◌<◌, ℕ, List, [], length, vec_capacity, IfOk};
 ghost use Rattle.mold_pacing.specs.Delays.{delay_on, greatest_of, greatest_on, index_after, no_arrivals, patience_for};
 ghost use Rattle.mold_pacing.specs.Delays.{pushed};
-ghost use Rattle.mold_pacing.specs.declared.delays.TheConstants.{DELAYS, SLOTS};
+ghost use Rattle.mold_pacing.specs.declared.delays.TheConstants.{DELAYS};
+ghost use Rattle.mold_pacing.specs.declared.mark.TheConstants.{SLOTS};
 
-use crate::arrival::{Arrival, BOTH};
+use crate::arrival::Arrival;
+use crate::mark::{BOTH, Mark, SLOTS, slot_of};
 use std::alloc::{AllocError, Global};
 
 // How many delays count for the patience.
 pub(crate) const DELAYS: usize = 1024;
-
-// For how many datagrams the first arrival is kept.
-pub(crate) const SLOTS: usize = 65_536;
 
 /// The patience before a delay is known, in nanoseconds.
 pub const FIRST_PATIENCE: u64 = 1_000_000;
@@ -22,11 +21,9 @@ pub(crate) const LEAST_PATIENCE: u64 = 200_000;
 
 pub(crate) const GREATEST_PATIENCE: u64 = 100_000_000;
 
-const NO_ARRIVAL: Arrival = Arrival {
-    first: 0,
-    end: 0,
-    time: 0,
-    line: BOTH,
+const NO_ARRIVAL: Mark = Mark {
+    key: 0,
+    stamp: BOTH,
 };
 
 /// The delays between two lines: how much later the second line brought a datagram that both brought. It counts the
@@ -34,8 +31,8 @@ const NO_ARRIVAL: Arrival = Arrival {
 /// is greater by a multiple of 65,536.
 #[derive(Debug, Drop)]
 pub struct Delays {
-    // The arrivals, each at the index of its first number.
-    arrivals: Vec<Arrival>,
+    // The marks of the arrivals, each at the slot of its first number.
+    arrivals: Vec<Mark>,
     // The last delays.
     recent: Vec<u64>,
     // For each of them the line that brought the datagram second.
@@ -115,7 +112,7 @@ fn patience_after(greatest: u64) -> u64
 impl Delays {
     ghost use Rattle.mold_pacing.specs.Lines.{IsTaken};
 
-    /// Returns the state before any arrival. It takes its whole memory here, which is 2 MiB.
+    /// Returns the state before any arrival. It takes its whole memory here, which is 1 MiB.
     pub fn new(alloc: Global) -> Result<Delays, AllocError>
         ensures arrivals { IfOk result (λ delays. delays.arrivals.items ≡ no_arrivals) }
         ensures recent { IfOk result (λ delays. delays.recent.items ≡ []) }
@@ -123,7 +120,7 @@ impl Delays {
         ensures index { IfOk result (λ delays. delays.next ≡ 0) }
     {
         Ok(Delays {
-            arrivals: vec![in alloc; NO_ARRIVAL; SLOTS]?,
+            arrivals: vec![in alloc; NO_ARRIVAL; SLOTS as usize]?,
             recent: Vec::with_capacity(alloc, DELAYS)?,
             lines: Vec::with_capacity(alloc, DELAYS)?,
             next: 0,
@@ -160,16 +157,20 @@ impl Delays {
 
     /// Takes an arrival on one of two lines. If the other line brought the datagram before, the time since then is a
     /// delay.
-    // For the optimizer: a receiver calls it for each datagram.
+    // For the optimizer: a receiver calls it for each datagram. The first arrival of a datagram takes one comparison.
     #[inline(always)]
     pub fn take(&mut self, arrival: Arrival)
         ensures { IsTaken self.old self.new arrival }
     {
-        let slot = (arrival.first % SLOTS as u64) as usize;
+        let slot = slot_of(arrival.first);
         let before = self.arrivals[slot];
+        if !before.is_same(arrival) {
+            self.arrivals[slot] = arrival.mark();
+            return;
+        }
         self.arrivals[slot] = before.keep(arrival);
         if before.is_second(arrival) {
-            self.push(arrival.time.saturating_sub(before.time), arrival.line);
+            self.push(arrival.time.saturating_sub(before.time()), arrival.line);
         }
     }
 

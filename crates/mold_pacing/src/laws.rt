@@ -5,12 +5,14 @@ ghost use Rattle.std.specs.Prelude.{◌≡◌, ◌+◌, ◌-◌, ◌*◌, ◌<�
 ghost use Rattle.mold_pacing.specs.Asks.{are_gaps};
 ghost use Rattle.mold_pacing.specs.Attempts.{count_asks_for};
 ghost use Rattle.mold_pacing.specs.Deadline.{CanAsk};
+ghost use Rattle.mold_pacing.specs.Delays.{IsMarked, is_same, line_of, mark_of, slot_of, time_of};
 ghost use Rattle.mold_pacing.specs.Frugal.{AreMissingOnce, IsFrugal};
 ghost use Rattle.mold_pacing.specs.Laws.{AreApart, count_asks};
 ghost use Rattle.mold_pacing.specs.Polls.{HasAsked, IsIdle, last_request};
 ghost use Rattle.mold_pacing.specs.Repeat.{attempts_of};
 ghost use Rattle.mold_pacing.specs.Run.{IsRun};
 ghost use Rattle.mold_pacing.specs.State.{IsRipened, advanced, fresh};
+ghost use Rattle.mold_pacing.specs.declared.arrival.Arrival.{Arrival};
 ghost use Rattle.mold_pacing.specs.declared.ask.Ask.{Ask};
 ghost use Rattle.mold_pacing.specs.declared.gap.Gap.{Gap};
 ghost use Rattle.mold_pacing.specs.declared.options.PacerOptions.{PacerOptions};
@@ -69,4 +71,14 @@ pub fn attempts_law()
     ensures { (old new : Pacer) (steps : List Step) (asks : List (Option Ask)) (number : ℕ) →
         IsRun old new steps asks → old.flights.items ≡ [] →
         attempts_of (last_request new number) ≤ count_asks_for number asks }
+{}
+
+/// A mark keeps all of an arrival whose time is below 2^62 and whose line is below 4. In one slot, no two datagrams have
+/// the same mark.
+pub fn mark_law()
+    ensures same { (a b : Arrival) → IsMarked a → IsMarked b → slot_of a.first ≡ slot_of b.first →
+        is_same (mark_of a) b ≡ true → (a.first ≡ b.first) × (a.count ≡ b.count) }
+    ensures again { (a b : Arrival) → a.first ≡ b.first → a.count ≡ b.count → is_same (mark_of a) b ≡ true }
+    ensures time { (a : Arrival) → IsMarked a → time_of (mark_of a) ≡ a.time }
+    ensures line { (a : Arrival) → IsMarked a → line_of (mark_of a) ≡ a.line }
 {}

@@ -20,7 +20,7 @@ use Rattle.mold_receiver.specs.Origin.{line_of}
 use Rattle.mold_receiver.specs.Receive.{Reception, view_after}
 use Rattle.mold_receiver.specs.View.{View, IsWellFormed}
 use Rattle.mold_receiver.specs.declared.taken.Taken.{Taken}
-use Rattle.mold_repair.specs.Came.{came_below, came_steps, filled_steps, held_from, noted, numbers, range, response_steps}
+use Rattle.mold_repair.specs.Came.{came_below, came_steps, filled_steps, held_from, noted, range, response_steps}
 use Rattle.mold_repair.specs.Frugal.{IsFrugalRun}
 use Rattle.mold_repair.specs.GivingUp.{IsKept, IsLost}
 use Rattle.mold_repair.specs.Laws.{ArePacerSteps, ArePollSteps}
@@ -28,7 +28,9 @@ use Rattle.mold_repair.specs.Missing.{IsMissing}
 use Rattle.mold_repair.specs.Origin.{receiver_origin}
 use Rattle.mold_repair.specs.Run.{HasStepped, IsRepaired, nothing}
 use Rattle.mold_repair.specs.Taking.{HasLearned, HasPassed, taken_steps}
+use Rattle.mold_repair.specs.Header.{head}
 use Rattle.mold_repair.specs.Timing.{adapted_from}
+use Rattle.mold_repair.specs.declared.header.Head.{Head}
 use Rattle.mold_repair.specs.declared.options.RepairOptions.{RepairOptions}
 use Rattle.mold_repair.specs.declared.origin.RepairOrigin.{RepairOrigin}
 use Rattle.mold_repair.specs.declared.origin.RepairOrigin.TheVariants.{Line, Server}
@@ -190,7 +192,7 @@ quiet_came w origin g request each =
     (quiet_join w (Arrive (held_from w g.first) ∷ []) (filled_steps w request) (quiet_held w g.first)
     (quiet_filled w request)))
 
-pub quiet_adapted : (w : View) (options : RepairOptions) (origin : RepairOrigin) (g : Gap) (delays : Delays) →
+pub quiet_adapted : (w : View) (options : RepairOptions) (origin : RepairOrigin) (g : Head) (delays : Delays) →
     IsQuiet w (adapted_from options origin g delays)
 quiet_adapted w options origin g delays = quiet_if w _ _ (quiet_adapt w _)
 
@@ -209,9 +211,9 @@ module _ (laws : OnceLaws) (options : RepairOptions) (time : ℕ) (origin : Repa
       (λ q low high. laws.came v p q well low (omega (arith, high)) (omega (arith, high))) in
       subst (λ (x : View). IsQuiet x (taken_steps options time origin bytes v x delays old)) (sym is)
       (quiet_advance w time v.known _
-      (quiet_join w _ (adapted_from options origin (numbers (reading bytes)) delays)
+      (quiet_join w _ (adapted_from options origin (head (reading bytes)) delays)
       (quiet_if w (nat_lt v.next v.known) (noted origin bytes w now fs) (quiet_came w origin g _ each))
-      (quiet_adapted w options origin (numbers (reading bytes)) delays)))
+      (quiet_adapted w options origin (head (reading bytes)) delays)))
 
 module _ (laws : OnceLaws) (old new : Repairer) (well : IsWellFormed old.arbiter.view) where
   once_taken : (step : RepairStep) (o : Outcome) (time : ℕ) (origin : RepairOrigin) (bytes : List ℕ)

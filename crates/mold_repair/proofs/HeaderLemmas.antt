@@ -1,12 +1,12 @@
--- The numbers of a packet are those that its header states.
+-- The head of a packet is what its header states.
 use Rattle.std.proofs.Common.{◌≡◌, ℕ, zero, suc, ◌+◌, ◌-◌, ◌≤◌, ◌==◌, Bool, true, false, cond, List, [], ◌∷◌}
-use Rattle.std.proofs.Common.{Result, Ok, Err, length, take, drop, nat_le, nat_lt, refl, sym, ap, ◌∙◌, arith, min}
+use Rattle.std.proofs.Common.{Result, Ok, Err, length, take, drop, nat_le, nat_lt, refl, sym, ap, ◌∙◌, arith}
 use Rattle.std.proofs.lemmas.Bool.Decides.{nat_tests}
 use Rattle.byteorder.specs.Endian.{big_number}
 use Rattle.mold_receiver.specs.Receive.{Reception, receive, receive_read}
 use Rattle.mold_receiver.specs.View.{View}
-use Rattle.mold_repair.specs.Came.{numbers, range}
-use Rattle.mold_repair.specs.Header.{IsRead}
+use Rattle.mold_repair.specs.Header.{IsRead, head}
+use Rattle.mold_repair.specs.declared.header.Head.{Head}
 use Rattle.mold_wire.specs.Packet.{messages_of, stated_blocks}
 use Rattle.mold_wire.specs.Reading.{behind_first, blocks_at, body_of, packet_from, reading}
 use Rattle.mold_wire.specs.declared.error.DecodeError.{DecodeError}
@@ -102,15 +102,6 @@ stated bytes packet read =
     stated_by bytes packet (nat_lt (length bytes) 20) (blocks_at (stated_blocks count) (drop 20 bytes)) refl
     (λ f found. blocks_length (stated_blocks count) (drop 20 bytes) f found) read
 
--- The numbers of what was read.
-pub numbers_are : (bytes : List ℕ) (is : IsRead bytes) → numbers (reading bytes)
-    ≡ range (big_number 8 (drop 10 bytes))
-    (min (big_number 8 (drop 10 bytes) + stated_blocks (big_number 2 (drop 18 bytes))) 18446744073709551615)
-numbers_are bytes is =
-    let has = stated bytes is.packet is.read in
-    ap numbers is.read
-    ∙ (λ i. range (has.sequence i) (min (has.sequence i + has.counted i) 18446744073709551615))
-
 accepted_by : (v : View) (bytes : List ℕ) (o : Result Packet DecodeError) (r : Reception) → reading bytes ≡ o →
     receive_read v o ≡ Ok r → IsRead bytes
 accepted_by v bytes (Ok packet) r read same = record { packet = packet; read = read }
@@ -120,10 +111,11 @@ accepted_by v bytes (Err error) r read same = absurd (let none : ⊥ = cc in non
 pub accepted : (v : View) (bytes : List ℕ) (r : Reception) → receive v bytes ≡ Ok r → IsRead bytes
 accepted v bytes r same = accepted_by v bytes (reading bytes) r refl same
 
-pub gap_is : (bytes : List ℕ) (is : IsRead bytes) (first count end : ℕ) → first ≡ big_number 8 (drop 10 bytes)
-    → count ≡ stated_blocks (big_number 2 (drop 18 bytes)) → end ≡ min (first + count) 18446744073709551615
-    → range first end ≡ numbers (reading bytes)
-gap_is bytes is first count end begins counted ends =
-    (λ i. range (begins i) (ends i))
-    ∙ (λ i. range (big_number 8 (drop 10 bytes)) (min (begins i + counted i) 18446744073709551615))
-    ∙ sym (numbers_are bytes is)
+abbrev pub head_of : ℕ → ℕ → Head
+head_of first count = record { first = first; count = count }
+
+pub head_is : (bytes : List ℕ) (is : IsRead bytes) (first count : ℕ) → first ≡ big_number 8 (drop 10 bytes)
+    → count ≡ stated_blocks (big_number 2 (drop 18 bytes)) → head_of first count ≡ head (reading bytes)
+head_is bytes is first count begins counted =
+    let has = stated bytes is.packet is.read in
+    (λ i. head_of ((begins ∙ sym has.sequence) i) ((counted ∙ sym has.counted) i)) ∙ sym (ap head is.read)

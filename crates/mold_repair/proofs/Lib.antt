@@ -16,3 +16,5 @@ pub mod FrugalLemmas
 pub mod TableLemmas
 pub mod NeededLemmas
 pub mod AuditLemmas
+pub mod CountLemmas
+pub mod LossLemmas

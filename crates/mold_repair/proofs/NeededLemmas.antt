@@ -31,7 +31,7 @@ use Rattle.mold_receiver.specs.Skip.{skipped}
 use Rattle.mold_receiver.specs.Store.{Message}
 use Rattle.mold_receiver.specs.View.{View, IsWellFormed}
 use Rattle.mold_receiver.specs.declared.taken.Taken.{Taken}
-use Rattle.mold_repair.specs.Came.{came_below, filled_steps, held_end, held_from, noted, numbers, range, response_steps}
+use Rattle.mold_repair.specs.Came.{came_below, filled_steps, held_end, held_from, noted, range, response_steps}
 use Rattle.mold_repair.specs.GivingUp.{IsKept, IsLost}
 use Rattle.mold_repair.specs.Missing.{IsMissing}
 use Rattle.mold_repair.specs.Needed.{AreNeeded, IsNeeded}
@@ -39,6 +39,7 @@ use Rattle.mold_repair.specs.Origin.{receiver_origin}
 use Rattle.mold_repair.specs.Polls.{HasPolled, HasRequested, HaveRequested, IsStill}
 use Rattle.mold_repair.specs.Run.{HasStepped, IsRepaired, nothing}
 use Rattle.mold_repair.specs.Taking.{HasLearned, HasPassed, taken_steps}
+use Rattle.mold_repair.specs.Header.{head}
 use Rattle.mold_repair.specs.Timing.{adapted_from}
 use Rattle.mold_repair.specs.declared.ask.Ask.{Ask}
 use Rattle.mold_repair.specs.declared.options.RepairOptions.{RepairOptions}
@@ -252,7 +253,7 @@ module _ (laws : NeededLaws) (options : RepairOptions) (time : ℕ) (origin : Re
   request = find (covers now came.first) old.flights.items
 
   abbrev adapted : List Step
-  adapted = adapted_from options origin (numbers (reading bytes)) delays
+  adapted = adapted_from options origin (head (reading bytes)) delays
 
   -- What is missing before and not after is in the datagram's range.
   in_came : (q : ℕ) → IsMissing v q → HasMessage w q → (came.first ≤ q) × (q < came.end)
@@ -312,7 +313,7 @@ module _ (laws : NeededLaws) (options : RepairOptions) (time : ℕ) (origin : Re
       let q = need.number in
       let lies = in_came q need.missing (filled q need.low need.high) in
       let parts = in_parts (omega (arith, need.missing.after, need.missing.below)) (omega (arith, lies.0, lies.1)) in
-      let adapts = run_shrinks adapted parts.fill new (quiet_adapted w options origin (numbers (reading bytes)) delays).none
+      let adapts = run_shrinks adapted parts.fill new (quiet_adapted w options origin (head (reading bytes)) delays).none
       parts.adapts in
       let fills = run_shrinks (filled_steps w request) parts.arrive parts.fill (quiet_filled w request).none parts.fills in
       let after = shrinks_twice parts.arrive parts.fill new fills adapts in
@@ -372,7 +373,7 @@ module _ (laws : NeededLaws) (options : RepairOptions) (time : ℕ) (origin : Re
       let none = none_join (cond (nat_lt v.next v.known) (noted origin bytes w now old.flights.items) []) adapted
       (quiet_if w (nat_lt v.next v.known) (noted origin bytes w now old.flights.items)
       (quiet_came w origin came request has_came)).none
-      (quiet_adapted w options origin (numbers (reading bytes)) delays).none in
+      (quiet_adapted w options origin (head (reading bytes)) delays).none in
       tidy_after v w old new known_grows
       (run_shrinks (taken_steps options time origin bytes v w delays old) old new none ran) tidy never_filled
 

@@ -1,5 +1,5 @@
 -- What a pacer learns of a datagram.
-use Rattle.std.proofs.Common.{◌≡◌, true, false, ℕ, ◌<◌, ◌≤◌, List, [], ◌∷◌, ◌++◌, ◌==◌, ◌&&◌, Bool, max, ◌-◌, map, nat_lt, cond, Option, None, refl, subst, sym, ap, ◌∙◌, arith}
+use Rattle.std.proofs.Common.{◌≡◌, true, false, ℕ, ◌<◌, ◌≤◌, List, [], ◌∷◌, ◌++◌, ◌==◌, ◌&&◌, Bool, max, ◌-◌, map, nat_lt, not, cond, Option, None, refl, subst, sym, ap, ◌∙◌, arith}
 use Rattle.std.proofs.lemmas.Bool.Decides.{nat_tests}
 use Rattle.mold_pacing.specs.Responses.{after_arrival}
 use Rattle.mold_pacing.specs.Run.{Takes}
@@ -16,6 +16,7 @@ use Rattle.mold_pacing.specs.Delays.{patience_for}
 use Rattle.mold_pacing.specs.declared.delays.Delays.{Delays}
 use Rattle.mold_repair.specs.Taking.{HasLearned, HasPassed}
 use Rattle.mold_repair.specs.Timing.{adapted_from, is_line, is_timed}
+use Rattle.mold_repair.specs.declared.header.Head.{Head}
 use Rattle.mold_repair.specs.declared.options.RepairOptions.{RepairOptions}
 use Rattle.mold_repair.specs.declared.origin.RepairOrigin.{RepairOrigin}
 
@@ -89,22 +90,22 @@ learned_all now flag before steps more old p q new took is learned adapted =
           took.2 (subst (HasLearned p new) same both),
     )
 
-pub adapted_none : (options : RepairOptions) (origin : RepairOrigin) (came : Gap) (delays : Delays) (p : Pacer) →
+pub adapted_none : (options : RepairOptions) (origin : RepairOrigin) (came : Head) (delays : Delays) (p : Pacer) →
     is_timed options origin came ≡ false → HasLearned p p (adapted_from options origin came delays)
 adapted_none options origin came delays p off =
     subst (λ (b : Bool). HasLearned p p (cond b (Adapt (patience_for delays.recent.items) ∷ []) [])) (sym off) refl
 
-pub adapted_some : (options : RepairOptions) (origin : RepairOrigin) (came : Gap) (delays : Delays) (p q : Pacer)
+pub adapted_some : (options : RepairOptions) (origin : RepairOrigin) (came : Head) (delays : Delays) (p q : Pacer)
     → is_timed options origin came ≡ true → Takes p q (Adapt (patience_for delays.recent.items)) None
     → HasLearned p q (adapted_from options origin came delays)
 adapted_some options origin came delays p q on took =
     subst (λ (b : Bool). HasLearned p q (cond b (Adapt (patience_for delays.recent.items) ∷ []) [])) (sym on) (q, took, refl)
 
-pub not_timed : (options : RepairOptions) (origin : RepairOrigin) (came : Gap) → (options.patience ≡ 0 → ⊥) →
+pub not_timed : (options : RepairOptions) (origin : RepairOrigin) (came : Head) → (options.patience ≡ 0 → ⊥) →
     is_timed options origin came ≡ false
 not_timed options origin came some =
     let off : (options.patience == 0) ≡ false = grind (arith, nat_tests, some) in
-    ap (λ b. b && (is_line origin && nat_lt came.first came.end)) off
+    ap (λ b. b && (is_line origin && not (came.count == 0))) off
 
 now_of : (b : Bool) (s t : PacerState) → t.now ≡ s.now → (cond b s t).now ≡ s.now
 now_of true s t same = refl

@@ -1,5 +1,5 @@
 -- What the laws of a run state.
-use Rattle.std.specs.Prelude.{◌≡◌, ◌⊎◌, ℕ, ◌+◌, ◌<◌, ◌≤◌, List, [], ◌∷◌, ◌++◌, length, Option, None, Some, IfSome}
+use Rattle.std.specs.Prelude.{◌≡◌, ◌⊎◌, ℕ, ◌+◌, ◌-◌, ◌<◌, ◌≤◌, List, [], ◌∷◌, ◌++◌, length, Option, None, Some, IfSome}
 use Rattle.mold_pacing.specs.Laws.{AreApart}
 use Rattle.mold_pacing.specs.Run.{IsRun}
 use Rattle.mold_pacing.specs.declared.ask.Ask.{Ask as Sent}
@@ -51,6 +51,21 @@ listed (Some ask) asks = ask ∷ asks
 abbrev pub requests_of : List Outcome → List Ask
 requests_of [] = []
 requests_of (o ∷ os) = listed o.ask (requests_of os)
+
+-- The range before some others, if there is one.
+abbrev pub with_gap : Option Gap → List Gap → List Gap
+with_gap None gaps = gaps
+with_gap (Some gap) gaps = gap ∷ gaps
+
+-- The ranges that the run gave up, in order.
+abbrev pub all_lost : List Outcome → List Gap
+all_lost [] = []
+all_lost (o ∷ os) = with_gap o.lost (all_lost os)
+
+-- How many numbers the ranges have.
+abbrev pub count_numbers : List Gap → ℕ
+count_numbers [] = 0
+count_numbers (gap ∷ gaps) = (gap.end - gap.first) + count_numbers gaps
 
 -- The requests that are returned for those of a pacer.
 abbrev pub returned_all : Session → ℕ → List (Option Sent) → List Ask

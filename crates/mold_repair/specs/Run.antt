@@ -6,10 +6,12 @@ use Rattle.mold_receiver.specs.Arbiter.{HasArbitrated, HasRefused}
 use Rattle.mold_receiver.specs.Batch.{Handed}
 use Rattle.mold_receiver.specs.Origin.{line_of}
 use Rattle.mold_receiver.specs.declared.taken.Taken.{Taken}
-use Rattle.mold_repair.specs.Came.{numbers, range}
+use Rattle.mold_repair.specs.Came.{range}
+use Rattle.mold_repair.specs.Header.{head}
 use Rattle.mold_repair.specs.GivingUp.{HasGivenUp}
 use Rattle.mold_repair.specs.Origin.{receiver_origin}
 use Rattle.mold_repair.specs.Polls.{HasPolled}
+use Rattle.mold_repair.specs.Stats.{counted_lost, counted_poll}
 use Rattle.mold_repair.specs.Taking.{HasLearned, HasPassed, taken_steps}
 use Rattle.mold_repair.specs.Timing.{IsTimed}
 use Rattle.mold_repair.specs.declared.ask.Ask.{Ask}
@@ -60,9 +62,10 @@ pub record HasTaken (old new : Repairer) (time : ℕ) (origin : RepairOrigin) (b
   pub batch : OnErr result (handed ≡ nothing)
   pub learned : OnOk result (HasLearned old.pacer new.pacer
       (taken_steps old.options time origin bytes old.arbiter.view new.arbiter.view new.delays old.pacer))
-  pub timed : OnOk result (IsTimed old.options (max old.pacer.state.now time) origin (numbers (reading bytes))
+  pub timed : OnOk result (IsTimed old.options (max old.pacer.state.now time) origin (head (reading bytes))
       old.delays new.delays)
   pub passed : OnErr result (HasPassed time old.arbiter.view old.pacer new.pacer)
+  pub given_up : new.counts.lost ≡ old.counts.lost
 
 -- A poll returned this request, or none.
 pub record HasPolledOnce (old new : Repairer) (time : ℕ) (handed : Handed) (outcome : Outcome) : Type 0 where
@@ -71,6 +74,7 @@ pub record HasPolledOnce (old new : Repairer) (time : ℕ) (handed : Handed) (ou
   pub arbiter : new.arbiter ≡ old.arbiter
   pub batch : handed ≡ nothing
   pub delays : new.delays ≡ old.delays
+  pub counts : new.counts ≡ counted_poll outcome.ask old.counts
 
 -- Only the time passed.
 pub record HasWaited (old new : Repairer) (time : ℕ) (handed : Handed) (outcome : Outcome) : Type 0 where
@@ -79,12 +83,14 @@ pub record HasWaited (old new : Repairer) (time : ℕ) (handed : Handed) (outcom
   pub arbiter : new.arbiter ≡ old.arbiter
   pub batch : handed ≡ nothing
   pub delays : new.delays ≡ old.delays
+  pub counts : new.counts ≡ old.counts
 
 -- These messages were given up, if any were.
 pub record HasLostSome (old new : Repairer) (time : ℕ) (handed : Handed) (outcome : Outcome) : Type 0 where
   pub gave : HasGivenUp time old.options.give_up old.arbiter new.arbiter nothing handed old.pacer new.pacer outcome.lost
   pub returned : outcome ≡ delivers old new None outcome.lost
   pub delays : new.delays ≡ old.delays
+  pub counts : new.counts ≡ counted_lost outcome.lost old.counts
 
 -- The step changed the repairer from `old` to `new`, delivered these messages, and returned this. If an allocation
 -- fails while messages are given up, only the time passes.

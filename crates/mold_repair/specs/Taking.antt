@@ -8,7 +8,8 @@ use Rattle.mold_pacing.specs.declared.step.Step.{Step}
 use Rattle.mold_pacing.specs.declared.step.Step.TheVariants.{Advance}
 use Rattle.mold_receiver.specs.View.{View}
 use Rattle.mold_pacing.specs.declared.delays.Delays.{Delays}
-use Rattle.mold_repair.specs.Came.{noted, numbers}
+use Rattle.mold_repair.specs.Came.{noted}
+use Rattle.mold_repair.specs.Header.{head}
 use Rattle.mold_repair.specs.Timing.{adapted_from}
 use Rattle.mold_repair.specs.declared.options.RepairOptions.{RepairOptions}
 use Rattle.mold_wire.specs.Reading.{reading}
@@ -34,7 +35,7 @@ HasLearned old new steps = IsRun old new steps (map no_ask steps)
 abbrev pub taken_steps : RepairOptions → ℕ → RepairOrigin → List ℕ → View → View → Delays → Pacer → List Step
 taken_steps options now origin bytes before after delays p =
     Advance now before.known ∷ (learned_from origin bytes before after (max p.state.now now) p.flights.items
-    ++ adapted_from options origin (numbers (reading bytes)) delays)
+    ++ adapted_from options origin (head (reading bytes)) delays)
 
 -- The pacer learned the time, and nothing else.
 abbrev pub HasPassed : ℕ → View → Pacer → Pacer → Type 0

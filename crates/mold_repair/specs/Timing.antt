@@ -1,13 +1,13 @@
 -- The patience that adapts to the delays between the lines.
-use Rattle.std.specs.Prelude.{◌≡◌, ℕ, ◌==◌, ◌&&◌, Bool, true, false, List, [], ◌∷◌, nat_lt, if◌then◌else◌}
+use Rattle.std.specs.Prelude.{◌≡◌, ℕ, ◌==◌, ◌&&◌, Bool, true, false, List, [], ◌∷◌, not, if◌then◌else◌}
 use Rattle.mold_pacing.specs.Delays.{patience_for}
 use Rattle.mold_pacing.specs.Lines.{IsTaken}
 use Rattle.mold_pacing.specs.declared.arrival.Arrival.{Arrival}
 use Rattle.mold_pacing.specs.declared.delays.Delays.{Delays}
-use Rattle.mold_pacing.specs.declared.gap.Gap.{Gap}
 use Rattle.mold_pacing.specs.declared.step.Step.{Step}
 use Rattle.mold_pacing.specs.declared.step.Step.TheVariants.{Adapt}
 use Rattle.mold_receiver.specs.declared.line.Line.TheVariants.{A, B}
+use Rattle.mold_repair.specs.declared.header.Head.{Head}
 use Rattle.mold_repair.specs.declared.options.RepairOptions.{RepairOptions}
 use Rattle.mold_repair.specs.declared.origin.RepairOrigin.{RepairOrigin}
 use Rattle.mold_repair.specs.declared.origin.RepairOrigin.TheVariants.{Line, Server}
@@ -23,22 +23,22 @@ abbrev pub is_line : RepairOrigin → Bool
 is_line (Line line) = true
 is_line (Server server) = false
 
--- Whether a datagram with these numbers counts for the delays: the patience adapts, and it brought messages on a line.
-abbrev pub is_timed : RepairOptions → RepairOrigin → Gap → Bool
-is_timed options origin came = (options.patience == 0) && (is_line origin && nat_lt came.first came.end)
+-- Whether a datagram with this head counts for the delays: the patience adapts, and it brought messages on a line.
+abbrev pub is_timed : RepairOptions → RepairOrigin → Head → Bool
+is_timed options origin head = (options.patience == 0) && (is_line origin && not (head.count == 0))
 
--- The arrival of these numbers.
-abbrev pub arrival_of : ℕ → RepairOrigin → Gap → Arrival
-arrival_of now origin came =
-    record { first = came.first; end = came.end; time = now; line = line_index origin }
+-- The arrival of this head.
+abbrev pub arrival_of : ℕ → RepairOrigin → Head → Arrival
+arrival_of now origin head =
+    record { first = head.first; count = head.count; time = now; line = line_index origin }
 
--- The delays after a datagram with these numbers.
-pub record IsTimed (options : RepairOptions) (now : ℕ) (origin : RepairOrigin) (came : Gap) (old new : Delays) :
+-- The delays after a datagram with this head.
+pub record IsTimed (options : RepairOptions) (now : ℕ) (origin : RepairOrigin) (head : Head) (old new : Delays) :
     Type 0 where
-  pub taken : is_timed options origin came ≡ true → IsTaken old new (arrival_of now origin came)
-  pub same : is_timed options origin came ≡ false → new ≡ old
+  pub taken : is_timed options origin head ≡ true → IsTaken old new (arrival_of now origin head)
+  pub same : is_timed options origin head ≡ false → new ≡ old
 
 -- What the pacer learns of it: the patience that fits these delays.
-abbrev pub adapted_from : RepairOptions → RepairOrigin → Gap → Delays → List Step
-adapted_from options origin came delays =
-    if is_timed options origin came then Adapt (patience_for delays.recent.items) ∷ [] else []
+abbrev pub adapted_from : RepairOptions → RepairOrigin → Head → Delays → List Step
+adapted_from options origin head delays =
+    if is_timed options origin head then Adapt (patience_for delays.recent.items) ∷ [] else []

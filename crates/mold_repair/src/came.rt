@@ -8,6 +8,7 @@ ghost use Rattle.mold_repair.specs.Came.{response_steps};
 ghost use Rattle.mold_repair.specs.Taking.{HasLearned};
 ghost use Rattle.mold_repair.specs.Timing.{is_timed};
 
+use crate::header::Head;
 use crate::options::RepairOptions;
 use crate::origin::RepairOrigin;
 use mold_pacing::{Flight, Gap, Pacer};
@@ -112,9 +113,9 @@ pub(crate) fn report(arbiter: &Arbiter, pacer: &mut Pacer, origin: RepairOrigin,
     report_filled(arbiter, pacer, request);
 }
 
-/// Returns whether a datagram with these numbers counts for the delays between the lines.
-pub(crate) fn is_timed(options: &RepairOptions, origin: RepairOrigin, came: Gap) -> bool
-    ensures { result ≡ is_timed options.now origin came }
+/// Returns whether a datagram with this head counts for the delays between the lines.
+pub(crate) fn is_timed(options: &RepairOptions, origin: RepairOrigin, head: Head) -> bool
+    ensures { result ≡ is_timed options.now origin head }
 {
-    options.patience == 0 && origin.is_line() && came.first < came.end
+    options.patience == 0 && origin.is_line() && head.count != 0
 }

@@ -1,8 +1,9 @@
 //! Theorems about all runs of a repairer. Each law is a function with an empty body whose contract is the theorem.
 //! `run::run` returns such a run.
 
-ghost use Rattle.std.specs.Prelude.{◌≡◌, ◌+◌, ◌-◌, ◌*◌, ◌<◌, ◌≤◌, ℕ, [], List, Option, IfSome, Some, false, length};
+ghost use Rattle.std.specs.Prelude.{◌≡◌, ◌+◌, ◌-◌, ◌*◌, ◌<◌, ◌≤◌, ◌^◌, ℕ, [], List, Option, IfSome, Some, false, length};
 ghost use Rattle.std.specs.Prelude.{◌∷◌, ◌⊎◌, Bool, max};
+ghost use Rattle.std.specs.Io.Iter.{u64_saturate};
 ghost use Rattle.mold_pacing.specs.Attempts.{count_asks_for};
 ghost use Rattle.mold_pacing.specs.Deadline.{CanAsk};
 ghost use Rattle.mold_pacing.specs.State.{advanced};
@@ -15,7 +16,8 @@ ghost use Rattle.mold_receiver.specs.Wanted.{missing};
 ghost use Rattle.mold_repair.specs.CatchUp.{RanOutOfMemory, TakesFirst, count_deliveries, missing_below};
 ghost use Rattle.mold_repair.specs.Frugal.{IsFrugalRun};
 ghost use Rattle.mold_repair.specs.GivingUp.{is_due};
-ghost use Rattle.mold_repair.specs.Laws.{AreInOrder, HasNumbers, IsPaced, RequestsFirst, requests_of};
+ghost use Rattle.mold_repair.specs.Laws.{AreInOrder, HasNumbers, IsPaced, RequestsFirst, all_lost, count_numbers};
+ghost use Rattle.mold_repair.specs.Laws.{requests_of};
 ghost use Rattle.mold_repair.specs.Missing.{IsWanted};
 ghost use Rattle.mold_repair.specs.Needed.{AreNeeded};
 ghost use Rattle.mold_repair.specs.Options.{tolerance};
@@ -46,6 +48,14 @@ pub fn order_law()
 {
     taken_law();
 }
+
+/// In a run, the count of messages that were given up grows by the lengths of the ranges that its steps gave up. A count
+/// that reaches 2^64 - 1 stays there.
+pub fn lost_count_law()
+    ensures { (old new : Repairer) (steps : List RepairStep) (outcomes : List Outcome) →
+        IsRepaired old new steps outcomes → old.counts.lost < 2 ^ 64 →
+        new.counts.lost ≡ u64_saturate (old.counts.lost + count_numbers (all_lost outcomes)) }
+{}
 
 /// What is delivered is what was published. Each datagram of the run is true of the session, or does not encode a
 /// packet of it, and the receiver is honest at the start: it knows nothing false. Then each step delivers the published

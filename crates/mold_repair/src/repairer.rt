@@ -8,7 +8,7 @@ use crate::auditing::audit_taken;
 use crate::came::{came_below, is_timed, report};
 use crate::error::RepairError;
 use crate::gaps::find_free;
-use crate::header::numbers_in;
+use crate::header::head_in;
 use crate::line_stats::LineStats;
 use crate::options::RepairOptions;
 use crate::origin::RepairOrigin;
@@ -53,8 +53,8 @@ impl Repairer {
     ghost use Rattle.mold_receiver.specs.Origin.{line_of};
     ghost use Rattle.mold_receiver.specs.Wanted.{HasNoGap, IsNextGap};
     ghost use Rattle.mold_repair.specs.Auditing.{HasAudited, HasAuditedLoss};
-    ghost use Rattle.mold_repair.specs.Came.{noted, numbers};
-    ghost use Rattle.mold_repair.specs.Header.{IsRead};
+    ghost use Rattle.mold_repair.specs.Came.{noted};
+    ghost use Rattle.mold_repair.specs.Header.{IsRead, head};
     ghost use Rattle.mold_repair.specs.GivingUp.{HasGivenUp, IsGivenUp, is_due};
     ghost use Rattle.mold_repair.specs.Missing.{IsMissing, IsWanted};
     ghost use Rattle.mold_repair.specs.Origin.{receiver_origin};
@@ -149,10 +149,10 @@ impl Repairer {
     #[inline(always)]
     fn adapt(&mut self, origin: RepairOrigin, datagram: &[u8])
         requires read { IsRead datagram.now }
-        ensures timed { IsTimed self.old.options self.old.pacer.state.now origin (numbers (reading datagram.now))
+        ensures timed { IsTimed self.old.options self.old.pacer.state.now origin (head (reading datagram.now))
             self.old.delays self.new.delays }
         ensures learned { HasLearned self.old.pacer self.new.pacer
-            (adapted_from self.old.options origin (numbers (reading datagram.now)) self.new.delays) }
+            (adapted_from self.old.options origin (head (reading datagram.now)) self.new.delays) }
         ensures arbiter { self.new.arbiter ≡ self.old.arbiter }
         ensures options { self.new.options ≡ self.old.options }
         ensures counts { self.new.counts ≡ self.old.counts }
@@ -161,13 +161,13 @@ impl Repairer {
         if self.options.patience != 0 {
             return;
         }
-        let came = numbers_in(datagram);
-        if !is_timed(&self.options, origin, came) {
+        let head = head_in(datagram);
+        if !is_timed(&self.options, origin, head) {
             return;
         }
         self.delays.take(Arrival {
-            first: came.first,
-            end: came.end,
+            first: head.first,
+            count: head.count,
             time: self.pacer.state().now,
             line: origin.line_index(),
         });
@@ -197,7 +197,7 @@ impl Repairer {
         ensures learned { OnOk result (HasLearned self.old.pacer self.new.pacer (taken_steps self.old.options now origin
             datagram.now self.old.arbiter.view self.new.arbiter.view self.new.delays self.old.pacer)) }
         ensures timed { OnOk result (IsTimed self.old.options (max self.old.pacer.state.now now) origin
-            (numbers (reading datagram.now)) self.old.delays self.new.delays) }
+            (head (reading datagram.now)) self.old.delays self.new.delays) }
         ensures passed { OnErr result (HasPassed now self.old.arbiter.view self.old.pacer self.new.pacer) }
         ensures same { OnErr result (self.new.delays ≡ self.old.delays) }
         ensures options { self.new.options ≡ self.old.options }
@@ -205,6 +205,7 @@ impl Repairer {
             (counted_taken origin taken self.old.counts) self.new.counts datagram.now self.old.arbiter.view.next
             (drop (length batch.old.messages) batch.new.messages)) }
         ensures counts { OnErr result (self.new.counts ≡ self.old.counts) }
+        ensures given_up { self.new.counts.lost ≡ self.old.counts.lost }
         ensures audit { OnErr result (self.new.audit ≡ self.old.audit) }
     {
         taken_law();
@@ -213,7 +214,8 @@ impl Repairer {
         let known = receiver.known();
         let is_missing = receiver.next() < known;
         self.pacer.advance(now, known);
-        // For the optimizer: `Taken` is rebuilt field by field, as in `Arbiter::take_from`.
+        // For the optimizer: `Taken` is rebuilt field by field, as in `Arbiter::take_from`. `contradict` follows
+        // `audit_taken` at once, so that both are one test without an audit.
         match self
             .arbiter
             .take_from(origin.receiver_origin(), datagram, batch)
@@ -232,8 +234,8 @@ impl Repairer {
                 };
                 let next = self.arbiter.receiver().next();
                 let found = audit_taken(&mut self.audit, datagram, batch, next, handed);
-                self.counts.take(origin, taken);
                 self.counts.contradict(found);
+                self.counts.take(origin, taken);
                 self.learn(origin, datagram, is_missing);
                 self.adapt(origin, datagram);
                 Ok(taken)
@@ -469,6 +471,13 @@ impl Repairer {
             b: self.line_stats(Line::B, self.counts.again_b),
             counts: self.counts,
         }
+    }
+
+    /// Returns what was counted since the beginning. `stats` returns it too, but visits the stored messages for a gap.
+    pub fn counts(&self) -> RepairCounts
+        ensures { result ≡ self.now.counts }
+    {
+        self.counts
     }
 
     /// Returns the arbiter.

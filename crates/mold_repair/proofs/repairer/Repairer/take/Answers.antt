@@ -6,14 +6,18 @@ use Rattle.mold_receiver.specs.Arbiter.{Arbitration, HasArbitrated}
 use Rattle.mold_receiver.specs.Origin.{line_of}
 use Rattle.mold_receiver.specs.declared.origin.Origin.{Origin}
 use Rattle.mold_receiver.specs.View.{View}
-use Rattle.mold_repair.specs.Came.{noted, numbers}
+use Rattle.mold_repair.specs.Came.{noted}
+use Rattle.mold_repair.specs.Header.{head}
 use Rattle.mold_repair.specs.Taking.{HasLearned, taken_steps}
 use Rattle.mold_repair.specs.Timing.{IsTimed, adapted_from}
 use Rattle.mold_repair.specs.declared.options.RepairOptions.{RepairOptions}
 use Rattle.mold_audit.specs.declared.audit.Audit.{Audit}
 use Rattle.mold_audit.specs.Kept.{HasNoted}
-use Rattle.mold_repair.specs.Stats.{counted_contradiction}
+use Rattle.mold_repair.specs.Stats.{counted_taken}
+use Rattle.mold_repair.specs.declared.stats.RepairCounts.{RepairCounts}
 use Rattle.mold_repair.proofs.AuditLemmas.{is_delivered, noted_last, noted_within}
+use Rattle.mold_repair.proofs.CountLemmas.{counted_either}
+use Rattle.mold_repair.proofs.LossLemmas.{contradicted_lost, taken_lost}
 use Rattle.mold_repair.proofs.TakingLemmas.{advanced_now, learned_all, passed}
 use Rattle.mold_repair.proofs.repairer.Repairer.take.Goals as goal
 use Rattle.mold_wire.specs.Reading.{reading}
@@ -47,7 +51,7 @@ returns-in-Ok-clause-learned c =
     (λ i. noted origin bytes taken (time i) (flights i)) c.learn.ensures.learned in
     let all = learned_all now (nat_lt c.next.result c.known-known.result) v
     (noted origin bytes taken (max old.pacer.state.now now) old.pacer.flights.items)
-    (adapted_from c.learn.new.self.options origin (numbers (reading bytes)) new.delays) old.pacer between
+    (adapted_from c.learn.new.self.options origin (head (reading bytes)) new.delays) old.pacer between
     c.learn.new.self.pacer new.pacer took (λ i. nat_lt (next i) (known i)) learned c.adapt.ensures.learned in
     subst (λ (w : View). HasLearned old.pacer new.pacer
     (taken_steps old.options now origin bytes v w new.delays old.pacer)) (sym after)
@@ -57,7 +61,7 @@ returns-in-Ok-clause-learned c =
 pub returns-in-Ok-clause-timed : goal.returns-in-Ok-clause-timed
 returns-in-Ok-clause-timed c =
     let old = c.args.self.now in
-    let came = numbers (reading c.args.datagram.now) in
+    let came = head (reading c.args.datagram.now) in
     let new = c.adapt.new.self in
     let now = c.learn.ensures.now ∙ ap (λ (s : PacerState). s.now) c.advance.ensures.state
     ∙ advanced_now c.args.now c.known-known.result old.pacer.state in
@@ -104,10 +108,18 @@ returns-in-Ok-clause-audited c =
       found = c.audit_taken-found.result;
       is = c.audit_taken-found.ensures.compared;
       counts =
-          c.adapt.ensures.counts ∙ c.learn.ensures.counts ∙ c.contradict.ensures
-          ∙ ap (counted_contradiction c.audit_taken-found.result) c.take.ensures;
+          c.adapt.ensures.counts ∙ c.learn.ensures.counts ∙ c.take.ensures
+          ∙ ap (counted_taken c.args.origin c.in-Ok.field-0) c.contradict.ensures
+          ∙ counted_either c.args.origin c.in-Ok.field-0 c.audit_taken-found.result old.counts;
       noted =
           subst (λ (a : Audit). HasNoted old.audit a old.arbiter.view.next
           (drop (length c.args.batch.now.messages) batch.messages))
           (sym (c.adapt.ensures.audit ∙ c.learn.ensures.audit)) noted;
     }
+
+pub returns-in-Ok-clause-given_up : goal.returns-in-Ok-clause-given_up
+returns-in-Ok-clause-given_up c =
+    ap (λ (k : RepairCounts). k.lost) (c.adapt.ensures.counts ∙ c.learn.ensures.counts ∙ c.take.ensures)
+    ∙ taken_lost c.args.origin c.in-Ok.field-0 c.contradict.new.self
+    ∙ ap (λ (k : RepairCounts). k.lost) c.contradict.ensures
+    ∙ contradicted_lost c.audit_taken-found.result c.args.self.now.counts

@@ -1,8 +1,8 @@
 use Rattle.std.proofs.Common.{◌∙◌, ap, arith}
 use Rattle.byteorder.specs.Endian.{big_number}
 use Rattle.mold_wire.specs.Packet.{stated_blocks}
-use Rattle.mold_repair.proofs.HeaderLemmas.{gap_is, stated}
-use Rattle.mold_repair.proofs.header.numbers_in.Goals as goal
+use Rattle.mold_repair.proofs.HeaderLemmas.{head_is, stated}
+use Rattle.mold_repair.proofs.header.head_in.Goals as goal
 
 pub split_at-requires : goal.split_at-requires
 split_at-requires c = omega (arith, (stated c.args.datagram.now c.requires.packet c.requires.read).long)
@@ -20,7 +20,6 @@ read_u16-requires c =
 
 pub returns : goal.returns
 returns c =
-    gap_is c.args.datagram.now c.requires c.read_u64-first.result c.stated-count.result c.saturating_add.result
-    (c.read_u64-first.ensures ∙ ap (big_number 8) c.split_at.ensures.back)
-    (c.stated-count.ensures ∙ ap stated_blocks (c.read_u16.ensures ∙ ap (big_number 2) c.split_at-2.ensures.back))
-    (omega (arith, c.saturating_add.ensures, c.from.ensures))
+    head_is c.args.datagram.now c.requires c.read_u64.result c.stated.result
+    (c.read_u64.ensures ∙ ap (big_number 8) c.split_at.ensures.back)
+    (c.stated.ensures ∙ ap stated_blocks (c.read_u16.ensures ∙ ap (big_number 2) c.split_at-2.ensures.back))
