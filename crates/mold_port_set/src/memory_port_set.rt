@@ -1,6 +1,6 @@
 //! A script in memory as a set of ports, for tests.
 
-ghost use Rattle.std.specs.Prelude.{◌≡◌, ◌≤◌, ◌⊎◌, ◌++◌, true, [], length, map, is_err, is_some};
+ghost use Rattle.std.specs.Prelude.{◌≡◌, ◌≤◌, ◌⊎◌, ◌++◌, true, [], None, length, map, is_err, is_some};
 ghost use Rattle.std.specs.Prelude.{IfOk, IfSome, IsErr, IsSome};
 ghost use Rattle.std.specs.List.{list_any};
 ghost use Rattle.mold_devices.specs.Devices.{Counts, one_more};
@@ -215,6 +215,22 @@ impl PortSet for MemoryPortSet {
             return Err(self.fail());
         }
         Ok(())
+    }
+
+    /// Returns `None`: a script drops nothing, and counts nothing.
+    fn drops(&mut self) -> Option<u64>
+        ensures same { self.new ≡ self.old }
+        ensures none { result ≡ None }
+    {
+        None
+    }
+
+    /// Returns 0: a script knows no senders.
+    fn passed_over(&self, port: usize) -> u64
+        ensures { result ≡ 0 }
+    {
+        let _ = port;
+        0
     }
 
     fn failures(&self) -> u64 {

@@ -49,6 +49,14 @@ pub trait PortSet {
         ensures clock { (state self.new).now ≡ (state self.old).now }
         ensures failures { Counts (state self.old).failures (state self.new).failures result };
 
+    /// Returns the number of datagrams that were dropped at the ports before a receive could give them, or `None` if it
+    /// is not known.
+    fn drops(&mut self) -> Option<u64>
+        ensures { state self.new ≡ state self.old };
+
+    /// Returns the number of datagrams that the port passed over because another sender sent them.
+    fn passed_over(&self, port: usize) -> u64;
+
     /// Returns the number of waits, receives and sends that failed. It stops at `u64::MAX`.
     fn failures(&self) -> u64
         ensures { result ≡ (state self.now).failures };

@@ -184,30 +184,6 @@ impl UdpPortSet {
         self.descriptor(port)?.address()
     }
 
-    /// Returns the number of datagrams of other senders that were passed over at the port. It stops at `u64::MAX`. If
-    /// the set has no such port, it is 0.
-    pub fn passed_over(&self, port: usize) -> u64 {
-        match self.filters[..self.count].get(port) {
-            Some(filter) => filter.passed_over(),
-            None => 0,
-        }
-    }
-
-    /// Returns the number of datagrams that the system dropped at the set's sockets, for example because a receive
-    /// buffer was full. It is counted from the opening of each socket, which for an adopted one may be before the
-    /// process started. Returns `None` if the system does not report it for each of them. This reads a table with a
-    /// row for each UDP socket of the machine, so its cost grows with their number.
-    pub fn drops(&mut self) -> Option<u64>
-        ensures { self.new ≡ self.old }
-    {
-        self.table.update(&mut self.drops);
-        let mut total = 0u64;
-        for port in &self.drops[..self.count] {
-            total = total.saturating_add(port.count?);
-        }
-        Some(total)
-    }
-
     // The descriptor of a port, or `None` if the set has no such port.
     fn descriptor(&self, port: usize) -> Option<Descriptor>
         ensures { IsSome result ↔ (port < length self.now.ports) }
@@ -324,6 +300,30 @@ impl PortSet for UdpPortSet {
         match sent {
             Ok(()) => Ok(()),
             Err(_) => Err(self.fail()),
+        }
+    }
+
+    /// Returns the number of datagrams that the system dropped at the set's sockets, for example because a receive
+    /// buffer was full. It is counted from the opening of each socket, which for an adopted one may be before the
+    /// process started. Returns `None` if the system does not report it for each of them. This reads a table with a
+    /// row for each UDP socket of the machine, so its cost grows with their number.
+    fn drops(&mut self) -> Option<u64>
+        ensures { self.new ≡ self.old }
+    {
+        self.table.update(&mut self.drops);
+        let mut total = 0u64;
+        for port in &self.drops[..self.count] {
+            total = total.saturating_add(port.count?);
+        }
+        Some(total)
+    }
+
+    /// Returns the number of datagrams of other senders that were passed over at the port. It stops at `u64::MAX`. If
+    /// the set has no such port, it is 0.
+    fn passed_over(&self, port: usize) -> u64 {
+        match self.filters[..self.count].get(port) {
+            Some(filter) => filter.passed_over(),
+            None => 0,
         }
     }
 

@@ -1,9 +1,9 @@
 -- Calls of the repairer, and the text that they print.
-use Rattle.std.proofs.Common.{◌≡◌, ℕ, ◌+◌, ◌++◌, [], ◌∷◌, Bool, true, List, ap, refl, subst, sym, append-nil, append_assoc, ◌∙◌}
+use Rattle.std.proofs.Common.{◌≡◌, ℕ, suc, length, ◌+◌, ◌++◌, [], ◌∷◌, Bool, true, List, ap, refl, subst, sym, append-nil, append_assoc, ◌∙◌}
 use Rattle.std.proofs.KnownBytes.{Appends-nil, Appends-trans}
 use Rattle.std.specs.Io.KnownBytes.{Appends}
 use Rattle.mold_devices.specs.Devices.{AppendsPrefix}
-use Rattle.std.specs.Prelude.{Result, Ok, Err, OnErr, Option, None, Some, false, if◌then◌else◌, slice_get, take}
+use Rattle.std.specs.Prelude.{Result, Ok, Err, IfOk, OnErr, OnOk, Option, None, Some, false, if◌then◌else◌, slice_get, take}
 use Rattle.mold_input.specs.declared.message_format.MessageFormat.{MessageFormat}
 use Rattle.mold_input.specs.declared.message_format.MessageFormat.TheVariants.{Lines, Blocks, BlocksToEmpty}
 use Rattle.mold_listen.specs.Listening.{with_handed}
@@ -17,10 +17,11 @@ use Rattle.mold_repair.specs.declared.repairer.Repairer.{Repairer}
 use Rattle.mold_repair.specs.declared.step.RepairStep.{RepairStep}
 use Rattle.mold_turns.proofs.PrintingLemmas.{front_none}
 use Rattle.mold_turns.specs.Outgoing.{OutgoingState, note_text}
+use Rattle.mold_turns.specs.Runs.{Begins}
 use Rattle.mold_wire.specs.Request.{request_spelling}
-use Rattle.mold_receive.specs.Receiving.{Call, Follow, HasBroken, HasCalled, HasFailed, HasReceived, HasWritten, ReceiverState, all_sent, all_taken, all_text}
-use Rattle.mold_receive.specs.Receiving.{call_text, datagram_of, datagram_to, format_for, last_line, lost_text, taken_by}
-use Rattle.mold_port_set.specs.PortSet.{Given, Sent, given_by, sent_by}
+use Rattle.mold_receive.specs.Receiving.{Call, Follow, HasBroken, HasCalled, HasEnded, HasFailed, HasReceived, HasRun, HasWritten, ReceiverState, all_sent, all_taken, all_text}
+use Rattle.mold_receive.specs.Receiving.{call_text, datagram_of, datagram_to, format_for, last_line, last_status, lost_text, taken_by}
+use Rattle.mold_port_set.specs.PortSet.{Given, PortSetState, Sent, given_by, sent_by}
 use Rattle.mold_repair.specs.declared.ask.Ask.{Ask}
 
 -- all messages are printed, unless an empty one ends the printing
@@ -184,6 +185,12 @@ pub received_more : {P : Type 0} (lines : ℕ) (servers : List P) (format other 
 received_more {P = P} lines servers format other modeled old mid new first same last =
     received_then lines servers format modeled old mid new first
     (subst (λ (f : MessageFormat). HasReceived lines servers f modeled mid new) same last)
+
+-- a call without a request sends nothing
+sends_none : {P : Type 0} (lines : ℕ) (servers : List P) (fails : Bool) (ask : Option Ask) → ask ≡ None →
+    (if fails then [] else datagram_of lines servers ask) ≡ []
+sends_none lines servers true ask none = refl
+sends_none lines servers false ask none = ap (λ (a : Option Ask). datagram_of lines servers a) none
 
 -- nothing was called yet
 pub received_yet : {P : Type 0} (lines : ℕ) (servers : List P) (format : MessageFormat) (modeled : Bool)
@@ -350,16 +357,132 @@ failed_more {P = P} lines servers format other modeled old mid held_old held hel
     failed_then lines servers format modeled old mid held_old held held_new first
     (subst (λ (f : MessageFormat). HasFailed lines servers f modeled mid held held_new) same last)
 
+-- a list that did not change begins with itself
+pub begins_same : {A : Type 0} (old new : List A) → new ≡ old → Begins old new
+begins_same old new same = record { rest = []; parts = same ∙ sym (append-nil old) }
+
+-- calls of datagrams that the ports gave are a run
+pub run_of : {P : Type 0} (lines : ℕ) (servers : List P) (format : MessageFormat) (modeled : Bool)
+    (old new : ReceiverState P) → HasReceived lines servers format modeled old new →
+    HasRun lines servers format modeled [] old new
+run_of lines servers format modeled old new has = record {
+  calls = has.calls;
+  follow = has.follow;
+  since = all_taken lines has.calls;
+  given = has.taken;
+  taken = λ is. refl;
+  sent = has.sent;
+  printed = has.printed;
+}
+
+-- one call with a datagram that the ports had given before, or none
+pub run_first : {P : Type 0} (lines : ℕ) (servers : List P) (format : MessageFormat) (modeled : Bool)
+    (step : RepairStep) (old new : ReceiverState P) →
+    HasCalled format step None old.repairer new.repairer old.text new.text → new.ports ≡ old.ports →
+    HasRun lines servers format modeled (taken_by lines step) old new
+unfolding Follow all_taken all_sent all_text
+run_first {P = P} lines servers format modeled step old new made ports = record {
+  calls = made.call ∷ [];
+  follow = (made.from, sym made.to);
+  since = [];
+  given = λ is. ap (λ (p : PortSetState P). p.given) ports ∙ sym (append-nil old.ports.given);
+  taken = λ is. ap (λ (s : RepairStep). taken_by lines s ++ []) made.stepped;
+  sent = λ is. ap (λ (p : PortSetState P). p.sent) ports ∙ sym (append-nil old.ports.sent)
+      ∙ ap (λ (l : List (Sent P)). old.ports.sent ++ l)
+      (sym (append-nil (if made.call.fails then [] else datagram_of lines servers made.call.outcome.ask)
+      ∙ sends_none lines servers made.call.fails made.call.outcome.ask made.asked));
+  printed = made.printed
+      ∙ ap (λ (t : List ℕ). old.text ++ t) (sym (append-nil (call_text format made.call)));
+}
+
+-- nothing was taken
+pub run_none : {P : Type 0} (lines : ℕ) (servers : List P) (format : MessageFormat) (modeled : Bool)
+    (state : ReceiverState P) → HasRun lines servers format modeled [] state state
+run_none lines servers format modeled state =
+    run_of lines servers format modeled state state (received_yet lines servers format modeled state)
+
+-- a run, and then one that took nothing from before
+pub run_then : {P : Type 0} (lines : ℕ) (servers : List P) (format : MessageFormat) (modeled : Bool)
+    (first : List Given) (old mid new : ReceiverState P) → HasRun lines servers format modeled first old mid →
+    HasRun lines servers format modeled [] mid new → HasRun lines servers format modeled first old new
+run_then lines servers format modeled first old mid new one two = record {
+  calls = one.calls ++ two.calls;
+  follow = follow_then old.repairer mid.repairer new.repairer one.calls two.calls one.follow two.follow;
+  since = one.since ++ two.since;
+  given = λ is. appended old.ports.given mid.ports.given new.ports.given _ _ _ (one.given is) (two.given is) refl;
+  taken = λ is. taken_then lines one.calls two.calls
+      ∙ ap (λ (l : List Given). l ++ all_taken lines two.calls) (one.taken is)
+      ∙ ap (λ (l : List Given). (first ++ one.since) ++ l) (two.taken is)
+      ∙ append_assoc first one.since two.since;
+  sent = λ is. appended old.ports.sent mid.ports.sent new.ports.sent _ _ _ (one.sent is) (two.sent is)
+      (sent_then lines servers one.calls two.calls);
+  printed = appended old.text mid.text new.text _ _ _ one.printed two.printed
+      (text_then format one.calls two.calls);
+}
+
+-- an end after a run
+pub ended_then : {P : Type 0} (lines : ℕ) (servers : List P) (format : MessageFormat) (modeled : Bool)
+    (first : List Given) (old mid : ReceiverState P) (new : Repairer) (after : PortSetState P)
+    (held_old held_new : Option (List ℕ)) (status : ℕ) → HasRun lines servers format modeled first old mid →
+    HasEnded lines servers format modeled [] mid new after held_old held_new status →
+    HasEnded lines servers format modeled first old new after held_old held_new status
+ended_then lines servers format modeled first old mid new after held_old held_new status one ended = record {
+  text = ended.text;
+  ran = run_then lines servers format modeled first old mid _ one ended.ran;
+  appended = ended.appended;
+  status_is = ended.status_is;
+}
+
+no_prefix : {A : Type 0} (some rest : List A) → [] ≡ some ++ rest → some ≡ []
+no_prefix [] rest parts = refl
+no_prefix {A = A} (x ∷ some) rest parts = let e : length {A = A} [] ≡ suc (length (some ++ rest)) = ap length parts in cc
+
+-- a fault after a run
+pub broken_then : {P : Type 0} (lines : ℕ) (servers : List P) (format : MessageFormat) (modeled : Bool)
+    (first : List Given) (old mid : ReceiverState P) (held_old held_new : Option (List ℕ)) →
+    HasRun lines servers format modeled first old mid →
+    HasBroken lines servers format modeled [] mid held_old held_new →
+    HasBroken lines servers format modeled first old held_old held_new
+broken_then lines servers format modeled first old mid held_old held_new one broken = record {
+  took = first;
+  part = begins_same first first refl;
+  end = broken.end;
+  ran = run_then lines servers format modeled first old mid broken.end one
+      (subst (λ (took : List Given). HasRun lines servers format modeled took mid broken.end)
+      (no_prefix broken.took broken.part.rest broken.part.parts) broken.ran);
+  front = broken.front;
+}
+
+-- an end after a part of the text was written
+pub ended_at : {P E : Type 0} (lines : ℕ) (servers : List P) (format : MessageFormat) (modeled : Bool)
+    (old mid : ReceiverState P) (held_old held held_new : Option (List ℕ)) (result : Result ℕ E) →
+    HasWritten lines servers format modeled old mid held_old held →
+    OnOk result (Appends held held_new (mid.text ++ note_text format (last_line mid.repairer mid.ports.failures))) →
+    IfOk result (λ status. status ≡ last_status mid.repairer) →
+    IfOk result (HasEnded lines servers format modeled [] old mid.repairer mid.ports held_old held_new)
+ended_at lines servers format modeled old mid held_old held held_new (Ok status) first appends is =
+    let last = note_text format (last_line mid.repairer mid.ports.failures) in
+    record {
+      text = first.written ++ mid.text;
+      ran = run_of lines servers format modeled old (behind_text first.written mid) first.received;
+      appended = subst (λ (t : List ℕ). Appends held_old held_new t) (sym (append_assoc first.written mid.text last))
+          (Appends-trans held_old held held_new first.written (mid.text ++ last) first.appended appends);
+      status_is = is;
+    }
+ended_at lines servers format modeled old mid held_old held held_new (Err fault) first appends is = tt
+
 -- a fault of a turn is a fault of the loop
 pub broken_turn : {P : Type 0} (lines : ℕ) (servers : List P) (format : MessageFormat) (modeled : Bool)
     (old : ReceiverState P) (held_old held_new : Option (List ℕ)) →
     HasFailed lines servers format modeled old held_old held_new →
-    HasBroken lines servers format modeled old held_old held_new
+    HasBroken lines servers format modeled [] old held_old held_new
 broken_turn lines servers format modeled old held_old held_new failed =
     let last = note_text format (last_line failed.end.repairer failed.end.ports.failures) in
     record {
+      took = [];
+      part = begins_same [] [] refl;
       end = failed.end;
-      received = failed.received;
+      ran = run_of lines servers format modeled old failed.end failed.received;
       front = record {
         front = failed.front.front;
         rest = failed.front.rest ++ last;
@@ -374,12 +497,14 @@ pub broken_end : {P : Type 0} (lines : ℕ) (servers : List P) (format : Message
     (old mid : ReceiverState P) (held_old held held_new : Option (List ℕ)) →
     HasWritten lines servers format modeled old mid held_old held →
     AppendsPrefix held held_new (mid.text ++ note_text format (last_line mid.repairer mid.ports.failures)) →
-    HasBroken lines servers format modeled old held_old held_new
+    HasBroken lines servers format modeled [] old held_old held_new
 broken_end lines servers format modeled old mid held_old held held_new first front =
     let last = note_text format (last_line mid.repairer mid.ports.failures) in
     record {
+      took = [];
+      part = begins_same [] [] refl;
       end = behind_text first.written mid;
-      received = first.received;
+      ran = run_of lines servers format modeled old (behind_text first.written mid) first.received;
       front = record {
         front = first.written ++ front.front;
         rest = front.rest;
@@ -390,12 +515,15 @@ broken_end lines servers format modeled old mid held_old held held_new first fro
       };
     }
 
--- nothing was written, and nothing called
+-- nothing was taken and nothing written
 pub broken_yet : {P : Type 0} (lines : ℕ) (servers : List P) (format : MessageFormat) (modeled : Bool)
-    (old : ReceiverState P) (held : Option (List ℕ)) → HasBroken lines servers format modeled old held held
-broken_yet lines servers format modeled old held = record {
+    (first : List Given) (old : ReceiverState P) (held : Option (List ℕ)) →
+    HasBroken lines servers format modeled first old held held
+broken_yet lines servers format modeled first old held = record {
+  took = [];
+  part = record { rest = first; parts = refl };
   end = old;
-  received = received_yet lines servers format modeled old;
+  ran = run_none lines servers format modeled old;
   front = front_none held _;
 }
 
@@ -416,3 +544,7 @@ plain_format format blocks is ends = plain_for blocks (sym is ∙ ends)
 pub on_err_map : {T E P Q : Type 0} (result : Result T E) → (P → Q) → OnErr result P → OnErr result Q
 on_err_map (Ok _) more holds = tt
 on_err_map (Err _) more holds = more holds
+
+pub on_ok_all : {T E P : Type 0} (result : Result T E) → P → OnOk result P
+on_ok_all (Ok _) holds = holds
+on_ok_all (Err _) holds = tt

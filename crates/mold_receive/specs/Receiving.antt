@@ -11,6 +11,7 @@ use Rattle.mold_listen.specs.Text.{handed_text}
 use Rattle.mold_pacing.specs.declared.gap.Gap.{Gap}
 use Rattle.mold_port_set.specs.PortSet.{Given, PortSetState, Sent}
 use Rattle.mold_receive.specs.declared.feed_receiver.FeedReceiver.{FeedReceiver}
+use Rattle.mold_receive.specs.declared.first_packet.FirstPacket.{FirstPacket}
 use Rattle.mold_receiver.specs.declared.line.Line.TheVariants.{A, B}
 use Rattle.mold_repair.specs.Run.{IsStepOf}
 use Rattle.mold_repair.specs.declared.ask.Ask.{Ask}
@@ -22,6 +23,7 @@ use Rattle.mold_repair.specs.declared.step.RepairStep.{RepairStep}
 use Rattle.mold_repair.specs.declared.step.RepairStep.TheVariants.{Take, Poll, Lost, Pass}
 use Rattle.mold_text.specs.Line.{line_of}
 use Rattle.mold_turns.specs.Outgoing.{note_text}
+use Rattle.mold_turns.specs.Runs.{Begins}
 use Rattle.mold_wire.specs.Request.{request_spelling}
 
 -- A call of the repairer: its step, what it returned, and the repairer before and after it.
@@ -165,6 +167,12 @@ open_line repairer failures = line_of
     ∷ codes "known" ∷ decimal repairer.arbiter.view.known
     ∷ codes "lost" ∷ decimal repairer.counts.lost ∷ codes "failed" ∷ decimal failures ∷ [])
 
+-- The last line of a receiver for which no session came.
+abbrev pub unopened_line : ℕ → ℕ → List ℕ
+unopened_line next failures = line_of
+    (codes "open" ∷ codes "next" ∷ decimal next ∷ codes "known" ∷ decimal next
+    ∷ codes "lost" ∷ decimal 0 ∷ codes "failed" ∷ decimal failures ∷ [])
+
 -- The last line.
 abbrev pub last_line : Repairer → ℕ → List ℕ
 last_line repairer failures =
@@ -178,22 +186,44 @@ last_status repairer = if is_finished repairer && repairer.counts.lost == 0 then
 abbrev pub started : {P : Type 0} → Repairer → PortSetState P → ReceiverState P
 started repairer ports = record { repairer = repairer; ports = ports; text = [] }
 
--- A receiver that started with no text has ended: all its text is written, and then its last line. Among blocks the
--- last line is not on standard output.
+-- The datagram of a first packet, if there is one. `lines` is the number of lines.
+abbrev pub datagram_of_first : ℕ → Option FirstPacket → List Given
+datagram_of_first lines None = []
+datagram_of_first lines (Some first) =
+    record { port = port_of lines first.origin; bytes = first.datagram.items } ∷ []
+
+-- The receiver took the datagrams `first`, which its ports had given before, and then exactly those that its ports
+-- gave. It sent the requests that it was to send, and printed what the calls delivered and gave up.
+pub record HasRun {P : Type 0} (lines : ℕ) (servers : List P) (format : MessageFormat) (modeled : Bool)
+    (first : List Given) (old new : ReceiverState P) : Type 0 where
+  pub calls : List Call
+  pub follow : Follow old.repairer calls new.repairer
+  -- what the ports gave since then
+  pub since : List Given
+  pub given : modeled ≡ true → new.ports.given ≡ old.ports.given ++ since
+  pub taken : modeled ≡ true → all_taken lines calls ≡ first ++ since
+  pub sent : modeled ≡ true → new.ports.sent ≡ old.ports.sent ++ all_sent lines servers calls
+  pub printed : new.text ≡ old.text ++ all_text format calls
+
+-- A receiver has ended: all its text is written, and then its last line. Among blocks the last line is not on standard
+-- output.
 pub record HasEnded {P : Type 0} (lines : ℕ) (servers : List P) (format : MessageFormat) (modeled : Bool)
-    (old new : Repairer) (before after : PortSetState P) (held_old held_new : Option (List ℕ)) (status : ℕ) :
-    Type 0 where
+    (first : List Given) (old : ReceiverState P) (new : Repairer) (after : PortSetState P)
+    (held_old held_new : Option (List ℕ)) (status : ℕ) : Type 0 where
   pub text : List ℕ
-  pub received : HasReceived lines servers format modeled
-      (started old before) (record { repairer = new; ports = after; text = text })
+  pub ran : HasRun lines servers format modeled first
+      old (record { repairer = new; ports = after; text = text })
   pub appended : Appends held_old held_new (text ++ note_text format (last_line new after.failures))
   pub status_is : status ≡ last_status new
 
 -- What a receiver over ports leaves if its loop ends with a fault: a prefix of the text of some calls, and of the last
 -- line that follows them, was written.
 pub record HasBroken {P : Type 0} (lines : ℕ) (servers : List P) (format : MessageFormat) (modeled : Bool)
-    (old : ReceiverState P) (held_old held_new : Option (List ℕ)) : Type 0 where
+    (first : List Given) (old : ReceiverState P) (held_old held_new : Option (List ℕ)) : Type 0 where
+  -- the prefix of `first` that was taken
+  pub took : List Given
+  pub part : Begins took first
   pub end : ReceiverState P
-  pub received : HasReceived lines servers format modeled old end
+  pub ran : HasRun lines servers format modeled took old end
   pub front : AppendsPrefix held_old held_new
       (end.text ++ note_text format (last_line end.repairer end.ports.failures))

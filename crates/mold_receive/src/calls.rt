@@ -19,6 +19,7 @@ pub(crate) fn take(
     requires time { time < 2 ^ 62 }
     requires empty { batch.old ≡ nothing }
     ensures taken { HasTaken repairer.old repairer.new time origin datagram.now batch.new }
+    ensures refused { OnErr result (batch.new ≡ nothing) }
     ensures options { repairer.new.options ≡ repairer.old.options }
 {
     repairer.take(time, origin, datagram, batch)?;

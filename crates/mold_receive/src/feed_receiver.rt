@@ -3,7 +3,8 @@
 ghost use Rattle.std.specs.Prelude.{◌≡◌, ◌+◌, ◌<◌, ◌≤◌, ◌^◌, ◌++◌, [], ℕ, IfOk, List, None, length, take, OnErr, OnOk};
 ghost use Rattle.mold_input.specs.declared.message_format.MessageFormat.TheVariants.{BlocksToEmpty};
 ghost use Rattle.mold_receive.specs.Receiving.{HasBroken, HasCalled, HasEnded, HasFailed, HasReceived};
-ghost use Rattle.mold_receive.specs.Receiving.{HasWritten, last_line, last_status, lost_text, port_of, started};
+ghost use Rattle.mold_receive.specs.Receiving.{HasRun, HasWritten, datagram_of_first, last_line};
+ghost use Rattle.mold_receive.specs.Receiving.{last_status, lost_text, port_of};
 ghost use Rattle.mold_receive.specs.Receiving.{state_of};
 ghost use Rattle.mold_repair.specs.declared.origin.RepairOrigin.TheVariants.{Line as OnLine};
 ghost use Rattle.mold_repair.specs.declared.step.RepairStep.TheVariants.{Take};
@@ -13,20 +14,24 @@ ghost use Rattle.std.specs.Io.KnownBytes.{Appends};
 ghost use Rattle.mold_devices.specs.Devices.{AppendsPrefix};
 
 use crate::calls;
+use crate::first_packet::FirstPacket;
 use crate::last_line::{last_status, push_last};
-use crate::receive_options::ReceiveOptions;
+use crate::lines::{name_of, push_refused_from};
+use crate::receive_options::{NEVER, ReceiveOptions};
+use crate::reporting::Reporting;
+use crate::statistics::Statistics;
 use mold_devices::{CommandFault, Sink};
 use mold_listen::print_handed;
 use mold_pacing::Gap;
 use mold_port_set::PortSet;
 use mold_receiver::{Batch, Line, Refusal};
 use mold_repair::{RepairOrigin, Repairer};
-use mold_text::Word;
+use mold_text::{Word, push_line};
 use mold_turns::Outgoing;
 use std::alloc::AllocError;
 
 /// The most datagrams that are taken from a port before the next one is looked at.
-const AT_ONCE: u32 = 64;
+pub(crate) const AT_ONCE: u32 = 64;
 
 /// The most ranges that are given up in a turn. The others follow in the next one.
 const MOST_LOST: u32 = 64;
@@ -43,10 +48,34 @@ pub(crate) struct FeedReceiver<D> {
     pub(crate) batch: Batch,
     /// The text that is still to be written.
     pub(crate) outgoing: Outgoing,
+    /// What was reported on standard error, and when the next report is due.
+    pub(crate) reporting: Reporting,
 }
 
 impl<D: PortSet + Drop> FeedReceiver<D> {
-    // Takes a datagram of this origin. Prints what it delivers.
+    // Prints why a datagram was refused, if a line about it is due.
+    fn refuse(
+        &mut self,
+        origin: RepairOrigin,
+        why: Refusal,
+        datagram: &[u8],
+    ) -> Result<(), AllocError>
+        ensures repairer { self.new.repairer ≡ self.old.repairer }
+        ensures ports { self.new.ports ≡ self.old.ports }
+        ensures text { self.new.outgoing.text ≡ self.old.outgoing.text }
+        ensures format { self.new.outgoing.format ≡ self.old.outgoing.format }
+    {
+        if !self
+            .reporting
+            .refusals
+            .admit(origin, &why, self.ports.now())
+        {
+            return Ok(());
+        }
+        push_refused_from(&mut self.outgoing.side, origin, why, datagram)
+    }
+
+    // Takes a datagram of this origin. Prints what it delivers, or why it is refused.
     fn take(&mut self, origin: RepairOrigin, datagram: &[u8]) -> Result<(), AllocError>
         requires plain { self.old.outgoing.format ≡ BlocksToEmpty → ⊥ }
         ensures called { OnOk result (HasCalled self.old.outgoing.format
@@ -57,15 +86,28 @@ impl<D: PortSet + Drop> FeedReceiver<D> {
         ensures format { self.new.outgoing.format ≡ self.old.outgoing.format }
     {
         self.batch.clear();
-        match calls::take(
-            &mut self.repairer,
-            self.ports.now(),
-            origin,
-            datagram,
-            &mut self.batch,
-        ) {
+        let now = self.ports.now();
+        match calls::take(&mut self.repairer, now, origin, datagram, &mut self.batch) {
+            Ok(()) => {
+                self.reporting.accept(now);
+                print_handed(&mut self.outgoing, &self.batch)
+            }
             Err(Refusal::Memory) => Err(AllocError),
-            _ => print_handed(&mut self.outgoing, &self.batch),
+            Err(why) => self.refuse(origin, why, datagram),
+        }
+    }
+
+    // Takes the first packet, if there is one. The ports gave it before.
+    pub(crate) fn take_first(&mut self, first: &Option<FirstPacket>) -> Result<(), AllocError>
+        requires plain { self.old.outgoing.format ≡ BlocksToEmpty → ⊥ }
+        ensures ran { OnOk result ((lines : ℕ) (servers : List D.Peer) → HasRun lines servers
+            self.old.outgoing.format D.modeled (datagram_of_first lines first.now)
+            (state_of D.state self.old) (state_of D.state self.new)) }
+        ensures format { self.new.outgoing.format ≡ self.old.outgoing.format }
+    {
+        match first {
+            Some(first) => self.take(first.origin, first.datagram.as_slice()),
+            None => Ok(()),
         }
     }
 
@@ -200,14 +242,17 @@ impl<D: PortSet + Drop> FeedReceiver<D> {
         }
     }
 
-    // Waits until a datagram is at a port, or until the repairer has something to do.
-    fn wait(&mut self)
+    // Waits until a datagram is at a port, or until the repairer or the reports have something to do.
+    fn wait(&mut self, options: &ReceiveOptions<D::Peer>)
         ensures received { (lines : ℕ) (servers : List D.Peer) → HasReceived lines servers
             self.old.outgoing.format D.modeled (state_of D.state self.old) (state_of D.state self.new) }
         ensures text { self.new.outgoing.text ≡ self.old.outgoing.text }
         ensures format { self.new.outgoing.format ≡ self.old.outgoing.format }
     {
-        let until = calls::pass(&mut self.repairer, self.ports.now()).unwrap_or(u64::MAX);
+        let until = calls::pass(&mut self.repairer, self.ports.now())
+            .unwrap_or(NEVER)
+            .min(self.reporting.stats_at())
+            .min(self.reporting.quiet_at(options.quiet));
         let _ = self.ports.wait(until);
     }
 
@@ -222,7 +267,11 @@ impl<D: PortSet + Drop> FeedReceiver<D> {
     }
 
     // Unless a datagram is at a port, writes all text, and waits.
-    fn pause<K: Sink>(&mut self, sink: &mut K) -> Result<(), CommandFault>
+    fn pause<K: Sink>(
+        &mut self,
+        options: &ReceiveOptions<D::Peer>,
+        sink: &mut K,
+    ) -> Result<(), CommandFault>
         ensures written { OnOk result ((lines : ℕ) (servers : List D.Peer) → HasWritten lines servers
             self.old.outgoing.format D.modeled (state_of D.state self.old) (state_of D.state self.new)
             (K.held sink.old) (K.held sink.new)) }
@@ -234,11 +283,52 @@ impl<D: PortSet + Drop> FeedReceiver<D> {
             return Ok(());
         }
         self.outgoing.send(sink)?;
-        self.wait();
+        self.wait(options);
         Ok(())
     }
 
-    // Makes one turn: takes what came, gives up what is due, and sends the requests that may be sent.
+    // Prints the statistics.
+    fn push_stats(&mut self, options: &ReceiveOptions<D::Peer>) -> Result<(), AllocError>
+        ensures repairer { self.new.repairer ≡ self.old.repairer }
+        ensures ports { D.state self.new.ports ≡ D.state self.old.ports }
+        ensures text { self.new.outgoing.text ≡ self.old.outgoing.text }
+        ensures format { self.new.outgoing.format ≡ self.old.outgoing.format }
+    {
+        let statistics = Statistics {
+            time: self.ports.now(),
+            both: options.has_both(),
+            stats: self.repairer.stats(),
+            drops: self.ports.drops(),
+        };
+        statistics.push(&mut self.outgoing.side)?;
+        push_passed(&mut self.outgoing.side, Line::A, self.ports.passed_over(0))?;
+        if options.has_both() {
+            push_passed(&mut self.outgoing.side, Line::B, self.ports.passed_over(1))?;
+        }
+        Ok(())
+    }
+
+    // Prints a contradiction and the statistics, if they are due.
+    fn report(&mut self, options: &ReceiveOptions<D::Peer>) -> Result<(), AllocError>
+        ensures repairer { self.new.repairer ≡ self.old.repairer }
+        ensures ports { D.state self.new.ports ≡ D.state self.old.ports }
+        ensures text { self.new.outgoing.text ≡ self.old.outgoing.text }
+        ensures format { self.new.outgoing.format ≡ self.old.outgoing.format }
+    {
+        let now = self.ports.now();
+        let counts = self.repairer.counts();
+        if let Some(number) = self.reporting.take_contradiction(now, &counts) {
+            let words = [Word::Text(b"contradiction"), Word::Number(number)];
+            push_line(&mut self.outgoing.side, &words)?;
+        }
+        if self.reporting.take_stats(now, options.stats) {
+            self.push_stats(options)?;
+        }
+        Ok(())
+    }
+
+    // Makes one turn: takes what came, gives up what is due, sends the requests that may be sent, and reports what is
+    // due.
     pub(crate) fn turn(
         &mut self,
         options: &ReceiveOptions<D::Peer>,
@@ -253,7 +343,7 @@ impl<D: PortSet + Drop> FeedReceiver<D> {
         self.receive_all(options, buffer)?;
         self.lose_all()?;
         self.request_all(options);
-        Ok(())
+        self.report(options)
     }
 
     // Makes a pause and then a turn. Writes the text for standard error, and the text if it is large.
@@ -272,7 +362,7 @@ impl<D: PortSet + Drop> FeedReceiver<D> {
             self.old.outgoing.format D.modeled (state_of D.state self.old) (K.held sink.old) (K.held sink.new)) }
         ensures format { self.new.outgoing.format ≡ self.old.outgoing.format }
     {
-        self.pause(sink)?;
+        self.pause(options, sink)?;
         let before = self.outgoing.unwritten();
         let Ok(()) = self.turn(options, buffer) else {
             return Err(self.outgoing.end_with(before, CommandFault::Memory, sink));
@@ -281,7 +371,13 @@ impl<D: PortSet + Drop> FeedReceiver<D> {
         self.outgoing.send_large(sink)
     }
 
-    // Makes turns until all messages of the session were delivered or given up, at most `options.turns`.
+    // Returns whether no datagram was accepted for too long.
+    fn is_quiet(&self, options: &ReceiveOptions<D::Peer>) -> bool {
+        self.reporting.quiet_at(options.quiet) <= self.ports.now()
+    }
+
+    // Makes turns until all messages of the session were delivered or given up, or no datagram was accepted for too
+    // long. They are at most `options.turns`.
     fn take_turns<K: Sink, E: Sink>(
         &mut self,
         options: &ReceiveOptions<D::Peer>,
@@ -299,15 +395,35 @@ impl<D: PortSet + Drop> FeedReceiver<D> {
     {
         for _ in 0..options.turns {
             self.write_turn(options, buffer, sink, errors)?;
-            if self.repairer.arbiter().receiver().finished() {
+            if self.repairer.arbiter().receiver().finished() || self.is_quiet(options) {
                 return Ok(());
             }
         }
         Ok(())
     }
 
+    // Appends the last statistics and the last line.
+    fn push_end(&mut self, options: &ReceiveOptions<D::Peer>) -> Result<(), AllocError>
+        ensures line { OnOk result (self.new.outgoing.text ≡ self.old.outgoing.text
+            ++ note_text self.old.outgoing.format (last_line self.old.repairer (D.state self.old.ports).failures)) }
+        ensures kept { OnErr result
+            (take (length self.old.outgoing.text) self.new.outgoing.text ≡ self.old.outgoing.text) }
+        ensures repairer { self.new.repairer ≡ self.old.repairer }
+        ensures ports { D.state self.new.ports ≡ D.state self.old.ports }
+    {
+        if options.has_stats() {
+            self.push_stats(options)?;
+        }
+        push_last(&mut self.outgoing, &self.repairer, self.ports.failures())
+    }
+
     // Appends the last line, and writes all text. Returns the status.
-    fn end<K: Sink, E: Sink>(&mut self, sink: &mut K, errors: &mut E) -> Result<u8, CommandFault>
+    fn end<K: Sink, E: Sink>(
+        &mut self,
+        options: &ReceiveOptions<D::Peer>,
+        sink: &mut K,
+        errors: &mut E,
+    ) -> Result<u8, CommandFault>
         ensures status { IfOk result (λ status. status ≡ last_status self.old.repairer) }
         ensures written { OnOk result (Appends (K.held sink.old) (K.held sink.new)
             (self.old.outgoing.text ++ note_text self.old.outgoing.format
@@ -316,10 +432,10 @@ impl<D: PortSet + Drop> FeedReceiver<D> {
             (self.old.outgoing.text ++ note_text self.old.outgoing.format
             (last_line self.old.repairer (D.state self.old.ports).failures))) }
         ensures repairer { self.new.repairer ≡ self.old.repairer }
-        ensures ports { self.new.ports ≡ self.old.ports }
+        ensures ports { D.state self.new.ports ≡ D.state self.old.ports }
     {
         let before = self.outgoing.unwritten();
-        let Ok(()) = push_last(&mut self.outgoing, &self.repairer, self.ports.failures()) else {
+        let Ok(()) = self.push_end(options) else {
             return Err(self.outgoing.end_with(before, CommandFault::Memory, sink));
         };
         self.outgoing.send_side(errors)?;
@@ -336,16 +452,14 @@ impl<D: PortSet + Drop> FeedReceiver<D> {
         errors: &mut E,
     ) -> Result<u8, CommandFault>
         requires plain { self.old.outgoing.format ≡ BlocksToEmpty → ⊥ }
-        requires empty { self.old.outgoing.text ≡ [] }
         ensures ended { IfOk result (HasEnded options.now.lines options.now.servers.items
-            self.old.outgoing.format D.modeled self.old.repairer self.new.repairer
-            (D.state self.old.ports) (D.state self.new.ports) (K.held sink.old) (K.held sink.new)) }
+            self.old.outgoing.format D.modeled [] (state_of D.state self.old) self.new.repairer
+            (D.state self.new.ports) (K.held sink.old) (K.held sink.new)) }
         ensures failed { OnErr result (HasBroken options.now.lines options.now.servers.items
-            self.old.outgoing.format D.modeled
-            (started self.old.repairer (D.state self.old.ports)) (K.held sink.old) (K.held sink.new)) }
+            self.old.outgoing.format D.modeled [] (state_of D.state self.old) (K.held sink.old) (K.held sink.new)) }
     {
         self.take_turns(options, buffer, sink, errors)?;
-        self.end(sink, errors)
+        self.end(options, sink, errors)
     }
 }
 
@@ -357,8 +471,8 @@ fn line_at(port: usize) -> Line
     if port == 0 { Line::A } else { Line::B }
 }
 
-// Returns the origin of the datagrams of the port. The ports of the servers follow those of the lines.
-fn origin_of(lines: usize, port: usize) -> RepairOrigin
+/// Returns the origin of the datagrams of the port. The ports of the servers follow those of the lines.
+pub(crate) fn origin_of(lines: usize, port: usize) -> RepairOrigin
     requires lines { lines ≤ 2 }
     requires few { port < lines + 2 ^ 32 }
     ensures { port ≡ port_of lines result }
@@ -385,4 +499,17 @@ fn push_lost(outgoing: &mut Outgoing, lost: Option<Gap>) -> Result<(), AllocErro
         Word::Number(gap.end.saturating_sub(1)),
     ];
     outgoing.push_note(&words)
+}
+
+// Appends the count of datagrams of other senders that a line passed over, if there are any.
+fn push_passed(out: &mut Vec<u8>, line: Line, passed: u64) -> Result<(), AllocError> {
+    if passed == 0 {
+        return Ok(());
+    }
+    let words = [
+        Word::Text(b"passed"),
+        Word::Text(name_of(line)),
+        Word::Number(passed),
+    ];
+    push_line(out, &words)
 }

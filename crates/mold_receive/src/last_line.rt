@@ -1,13 +1,29 @@
 //! The last line of a receiver over ports.
 
-ghost use Rattle.std.specs.Prelude.{◌≡◌, ◌++◌, length, take, OnErr, OnOk};
-ghost use Rattle.mold_receive.specs.Receiving.{finished_line, last_line, last_status, open_line};
-ghost use Rattle.mold_turns.specs.Outgoing.{with_note};
+ghost use Rattle.std.specs.Prelude.{◌≡◌, ◌++◌, length, take, IfOk, OnErr, OnOk};
+ghost use Rattle.std.specs.Io.KnownBytes.{Appends};
+ghost use Rattle.mold_receive.specs.Receiving.{finished_line, format_for, last_line, last_status, open_line};
+ghost use Rattle.mold_receive.specs.Receiving.{unopened_line};
+ghost use Rattle.mold_turns.specs.Outgoing.{note_side, note_text, with_note};
 
+use crate::receive_options::ReceiveOptions;
+use mold_devices::{CommandFault, Sink};
 use mold_repair::Repairer;
 use mold_text::Word;
 use mold_turns::Outgoing;
-use std::alloc::AllocError;
+use std::alloc::{AllocError, Global};
+
+/// The status of a receiver that is not finished, or that gave up messages.
+const UNFINISHED: u8 = 1;
+
+/// What the last line of a receiver reports for which no session came.
+#[derive(Clone, Copy, Debug, PartialEq, Eq)]
+pub struct Unopened {
+    /// The number at which it would have started.
+    pub next: u64,
+    /// The count of failed waits and receives.
+    pub failures: u64,
+}
 
 // Appends the last line of a receiver that is finished.
 fn push_finished(
@@ -74,5 +90,45 @@ pub(crate) fn last_status(repairer: &Repairer) -> u8
     if repairer.arbiter().receiver().finished() && repairer.stats().counts.lost == 0 {
         return 0;
     }
-    1
+    UNFINISHED
+}
+
+// Appends the last line of a receiver for which no session came.
+fn push_unopened(outgoing: &mut Outgoing, next: u64, failures: u64) -> Result<(), AllocError>
+    ensures line { OnOk result (outgoing.new ≡ with_note (unopened_line next failures) outgoing.old) }
+{
+    let words = [
+        Word::Text(b"open"),
+        Word::Text(b"next"),
+        Word::Number(next),
+        Word::Text(b"known"),
+        Word::Number(next),
+        Word::Text(b"lost"),
+        Word::Number(0),
+        Word::Text(b"failed"),
+        Word::Number(failures),
+    ];
+    outgoing.push_note(&words)
+}
+
+/// Prints the last line of a receiver that started at `next`, and for which no session came. Among blocks it is written
+/// to `errors`, otherwise to `sink`. Returns the status, which is 1.
+pub fn end_unopened<P: Copy, K: Sink, E: Sink>(
+    alloc: Global,
+    numbers: Unopened,
+    options: &ReceiveOptions<P>,
+    sink: &mut K,
+    errors: &mut E,
+) -> Result<u8, CommandFault>
+    ensures status { IfOk result (λ status. status ≡ 1) }
+    ensures text { OnOk result (Appends (K.held sink.old) (K.held sink.new)
+        (note_text (format_for options.now.blocks) (unopened_line numbers.next numbers.failures))) }
+    ensures side { OnOk result (Appends (E.held errors.old) (E.held errors.new)
+        (note_side (format_for options.now.blocks) (unopened_line numbers.next numbers.failures))) }
+{
+    let mut outgoing = Outgoing::with_format(alloc, options.format());
+    push_unopened(&mut outgoing, numbers.next, numbers.failures)?;
+    outgoing.send_side(errors)?;
+    outgoing.send(sink)?;
+    Ok(UNFINISHED)
 }

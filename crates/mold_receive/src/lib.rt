@@ -2,10 +2,20 @@
 #![tactic(auto)]
 
 mod calls;
+mod came;
 mod feed_receiver;
+mod first_packet;
 mod last_line;
+mod lines;
+mod opening;
 mod receive_options;
 mod receiving;
+mod refusal_limit;
+mod reporting;
+mod statistics;
 
+pub use first_packet::FirstPacket;
+pub use last_line::{Unopened, end_unopened};
+pub use opening::{Opened, await_session};
 pub use receive_options::ReceiveOptions;
-pub use receiving::{Received, receive_loop};
+pub use receiving::{ReceiveParts, Received, receive_loop};

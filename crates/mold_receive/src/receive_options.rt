@@ -1,12 +1,23 @@
 //! The options of the loop.
 
 ghost use Rattle.std.specs.Prelude.{◌≡◌, ◌<◌, ◌≤◌, ◌↔◌, length, IfSome, IsSome};
+ghost use Rattle.mold_receive.specs.Options.{span_of};
 ghost use Rattle.mold_receive.specs.Receiving.{format_for};
+ghost use Rattle.mold_receive.specs.declared.receive_options.TheConstants.{NEVER};
 
 use mold_input::MessageFormat;
 
 /// The most servers of a receiver.
 pub(crate) const MOST_SERVERS: usize = 8;
+
+/// The most ports of a receiver: those of two lines and of the servers.
+pub(crate) const MOST_PORTS: usize = 10;
+
+/// A second in nanoseconds.
+pub(crate) const SECOND: u64 = 1_000_000_000;
+
+/// The span of time that stands for an event that never happens, in nanoseconds. All times are below 2^62.
+pub(crate) const NEVER: u64 = u64::MAX;
 
 /// The options of a receiver over ports.
 #[derive(Debug, Drop)]
@@ -17,6 +28,10 @@ pub struct ReceiveOptions<P> {
     pub(crate) servers: Vec<P>,
     pub(crate) blocks: bool,
     pub(crate) turns: u64,
+    // After how many nanoseconds without an accepted datagram the receiver ends.
+    pub(crate) quiet: u64,
+    // Every how many nanoseconds statistics are printed.
+    pub(crate) stats: u64,
     ghost some: { 0 < lines },
     ghost two: { lines ≤ 2 },
     ghost few: { length servers.items ≤ 8 },
@@ -26,12 +41,14 @@ impl<P: Copy> ReceiveOptions<P> {
     /// Returns the options of a receiver of 1 or 2 lines and at most 8 servers, or `None` for other numbers. The ports
     /// of the lines come first in the set of ports, and those of the servers follow. `blocks` states whether messages
     /// are printed as blocks, and not as lines. After this many `turns` the receiver ends, even if the session is not
-    /// finished.
+    /// finished. It prints no statistics, and does not end because nothing comes.
     pub fn new(lines: usize, servers: Vec<P>, blocks: bool, turns: u64) -> Option<ReceiveOptions<P>>
         ensures lines { IfSome result (λ options. options.lines ≡ lines) }
         ensures servers { IfSome result (λ options. options.servers ≡ servers) }
         ensures blocks { IfSome result (λ options. options.blocks ≡ blocks) }
         ensures turns { IfSome result (λ options. options.turns ≡ turns) }
+        ensures quiet { IfSome result (λ options. options.quiet ≡ NEVER) }
+        ensures stats { IfSome result (λ options. options.stats ≡ NEVER) }
         ensures some { IsSome result ↔ ((0 < lines) × (lines ≤ 2) × (length servers.items ≤ 8)) }
     {
         if lines == 0 || lines > 2 || servers.len() > MOST_SERVERS {
@@ -42,7 +59,39 @@ impl<P: Copy> ReceiveOptions<P> {
             servers,
             blocks,
             turns,
+            quiet: NEVER,
+            stats: NEVER,
         })
+    }
+
+    /// Returns the same options for a receiver that ends when no datagram was accepted for so long, in seconds. If it
+    /// is 0, the receiver never ends for this reason.
+    pub fn with_quiet(self, seconds: u32) -> ReceiveOptions<P>
+        ensures { result ≡ record self { quiet = span_of seconds } }
+    {
+        let mut options = self;
+        options.quiet = span_of(seconds);
+        options
+    }
+
+    /// Returns the same options for a receiver that prints statistics every time this span has passed, in seconds, and
+    /// before its last line. If it is 0, no statistics are printed.
+    pub fn with_stats(self, seconds: u32) -> ReceiveOptions<P>
+        ensures { result ≡ record self { stats = span_of seconds } }
+    {
+        let mut options = self;
+        options.stats = span_of(seconds);
+        options
+    }
+
+    /// Returns whether statistics are printed.
+    pub(crate) fn has_stats(&self) -> bool {
+        self.stats != NEVER
+    }
+
+    /// Returns whether there are two lines.
+    pub(crate) fn has_both(&self) -> bool {
+        self.lines == 2
     }
 
     /// Returns the format in which messages are printed.
@@ -55,4 +104,14 @@ impl<P: Copy> ReceiveOptions<P> {
             MessageFormat::Lines
         }
     }
+}
+
+// Returns the span of these seconds in nanoseconds, or `NEVER` for 0.
+fn span_of(seconds: u32) -> u64
+    ensures { result ≡ span_of seconds }
+{
+    if seconds == 0 {
+        return NEVER;
+    }
+    u64::from(seconds) * SECOND
 }

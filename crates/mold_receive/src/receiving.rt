@@ -1,10 +1,12 @@
 //! The loop of a receiver over a set of ports.
 
 ghost use Rattle.std.specs.Prelude.{◌≡◌, [], IfOk, OnErr};
-ghost use Rattle.mold_receive.specs.Receiving.{HasBroken, HasEnded, format_for, started};
+ghost use Rattle.mold_receive.specs.Receiving.{HasBroken, HasEnded, datagram_of_first, format_for, started};
 
 use crate::feed_receiver::FeedReceiver;
+use crate::first_packet::FirstPacket;
 use crate::receive_options::ReceiveOptions;
+use crate::reporting::Reporting;
 use mold_devices::{CommandFault, Sink};
 use mold_port_set::PortSet;
 use mold_receiver::Batch;
@@ -12,6 +14,17 @@ use mold_repair::Repairer;
 use mold_turns::Outgoing;
 use mold_wire::MAX_LIMIT;
 use std::alloc::Global;
+
+/// What a receiver over ports works with.
+#[derive(Drop)]
+pub struct ReceiveParts<D> {
+    /// The ports: those of the lines, and then those of the servers.
+    pub ports: D,
+    /// The repairer.
+    pub repairer: Repairer,
+    /// A datagram that the ports gave before, and that is taken first. `await_session` returns it.
+    pub first: Option<FirstPacket>,
+}
 
 /// What a loop that ended leaves.
 #[derive(Drop)]
@@ -40,26 +53,34 @@ pub struct Received<D> {
 /// A failed wait, receive or send is counted, and the loop continues. After a fault, a prefix of the text is written.
 pub fn receive_loop<D: PortSet + Drop, K: Sink, E: Sink>(
     alloc: Global,
-    ports: D,
-    repairer: Repairer,
+    parts: ReceiveParts<D>,
     options: &ReceiveOptions<D::Peer>,
     sink: &mut K,
     errors: &mut E,
 ) -> Result<Received<D>, CommandFault>
     ensures ended { IfOk result (λ received. HasEnded options.now.lines options.now.servers.items
-        (format_for options.now.blocks) D.modeled repairer received.repairer (D.state ports)
-        (D.state received.ports) (K.held sink.old) (K.held sink.new) received.status) }
+        (format_for options.now.blocks) D.modeled (datagram_of_first options.now.lines parts.first)
+        (started parts.repairer (D.state parts.ports)) received.repairer (D.state received.ports)
+        (K.held sink.old) (K.held sink.new) received.status) }
     ensures failed { OnErr result (HasBroken options.now.lines options.now.servers.items
-        (format_for options.now.blocks) D.modeled (started repairer (D.state ports)) (K.held sink.old)
-        (K.held sink.new)) }
+        (format_for options.now.blocks) D.modeled (datagram_of_first options.now.lines parts.first)
+        (started parts.repairer (D.state parts.ports)) (K.held sink.old) (K.held sink.new)) }
 {
+    let ReceiveParts {
+        ports,
+        repairer,
+        first,
+    } = parts;
     let mut buffer = vec![in alloc; 0; MAX_LIMIT]?;
+    let reporting = Reporting::new(ports.now(), options.stats);
     let mut receiver = FeedReceiver {
         ports,
         repairer,
         batch: Batch::new(alloc),
         outgoing: Outgoing::with_format(alloc, options.format()),
+        reporting,
     };
+    receiver.take_first(&first)?;
     let status = receiver.run(options, buffer.as_mut_slice(), sink, errors)?;
     let FeedReceiver {
         ports,

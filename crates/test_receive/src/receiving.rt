@@ -1,97 +1,16 @@
 //! A receiver by worked examples. Message 2 is on no line. The expected text was worked out by hand from the rules of
 //! the specification.
 
-use mold_devices::MemorySink;
-use mold_port_set::{MemoryPortSet, PortSetStep};
-use mold_receive::{ReceiveOptions, Received, receive_loop};
-use mold_receiver::{Arbiter, Receiver};
-use mold_repair::{RepairOptions, Repairer};
-use mold_wire::Session;
+use crate::parts::{
+    DATA_2, OPTIONS, SERVER, add, expect_request, expect_text, line, options, parts_of, repairer,
+};
+use mold_devices::{CommandFault, MemorySink};
+use mold_port_set::MemoryPortSet;
+use mold_receive::{ReceiveOptions, ReceiveParts, receive_loop};
+use mold_repair::RepairOptions;
 use std::alloc::Global;
 use std::process::Abort;
 use std::test::Fail;
-
-const SESSION: Session = Session(*b"SESSION001");
-
-const DATA_1: &[u8] = b"SESSION001\0\0\0\0\0\0\0\x01\0\x01\0\x01A";
-
-const DATA_2: &[u8] = b"SESSION001\0\0\0\0\0\0\0\x02\0\x01\0\x01B";
-
-const DATA_3: &[u8] = b"SESSION001\0\0\0\0\0\0\0\x03\0\x01\0\x01C";
-
-const END_4: &[u8] = b"SESSION001\0\0\0\0\0\0\0\x04\xff\xff";
-
-const REQUEST_2: &[u8] = b"SESSION001\0\0\0\0\0\0\0\x02\0\x01";
-
-const MILLI: u64 = 1_000_000;
-
-const SERVER: u32 = 9;
-
-const OPTIONS: RepairOptions = RepairOptions {
-    patience: MILLI,
-    timeout: 50 * MILLI,
-    ceiling: 1000 * MILLI,
-    settle: 2 * MILLI,
-    interval: MILLI,
-    bucket: 32,
-    places: 256,
-    servers: 1,
-    give_up: 0,
-    audit: 0,
-};
-
-fn add(
-    alloc: Global,
-    script: &mut Vec<PortSetStep>,
-    millis: u32,
-    port: usize,
-    bytes: &[u8],
-) -> Result<(), Fail> {
-    let mut copy = Vec::new(alloc);
-    copy.extend_from_slice(bytes)?;
-    script.push(PortSetStep::Come {
-        at: u64::from(millis) * MILLI,
-        port,
-        bytes: copy,
-    })?;
-    Ok(())
-}
-
-// The datagrams of line A, which has no message 2.
-fn line(alloc: Global) -> Result<Vec<PortSetStep>, Fail> {
-    let mut script = Vec::new(alloc);
-    add(alloc, &mut script, 1, 0, DATA_1)?;
-    add(alloc, &mut script, 2, 0, DATA_3)?;
-    add(alloc, &mut script, 3, 0, END_4)?;
-    Ok(script)
-}
-
-fn repairer(alloc: Global, options: RepairOptions) -> Result<Repairer, Fail> {
-    let receiver = Receiver::new(alloc, SESSION, 1, 16)?;
-    Ok(Repairer::new(alloc, Arbiter::new(receiver), options)?)
-}
-
-// A receiver of line A. The servers have these addresses.
-fn options(servers: Vec<u32>, blocks: bool) -> Result<ReceiveOptions<u32>, Fail> {
-    match ReceiveOptions::new(1, servers, blocks, 1000) {
-        Some(options) => Ok(options),
-        None => Err(Fail::new("no options")),
-    }
-}
-
-fn expect_text(rt: &impl Abort, sink: &MemorySink, wanted: &[u8]) {
-    assert_eq!(rt; sink.bytes(), wanted);
-}
-
-fn expect_request(rt: &impl Abort, received: &Received<MemoryPortSet>) {
-    match received.ports.sent() {
-        [(to, datagram)] => {
-            assert!(rt; *to == SERVER && datagram.port == 1, "another server");
-            assert_eq!(rt; datagram.bytes.as_slice(), REQUEST_2);
-        }
-        _ => assert!(rt; false, "not one request"),
-    }
-}
 
 #[test]
 fn a_missing_message_is_requested(rt: HostRuntime) -> Result<(), Fail> {
@@ -104,7 +23,8 @@ fn a_missing_message_is_requested(rt: HostRuntime) -> Result<(), Fail> {
     let (mut sink, mut errors) = (MemorySink::new(alloc), MemorySink::new(alloc));
     let ports = MemoryPortSet::new(alloc, script)?;
     let repairer = repairer(alloc, OPTIONS)?;
-    let received = receive_loop(alloc, ports, repairer, &options, &mut sink, &mut errors)?;
+    let parts = parts_of(ports, repairer);
+    let received = receive_loop(alloc, parts, &options, &mut sink, &mut errors)?;
     assert!(&rt; received.status == 0, "another status");
     expect_text(
         &rt,
@@ -127,7 +47,8 @@ fn a_message_that_nobody_has_is_given_up(rt: HostRuntime) -> Result<(), Fail> {
     };
     let repairer = repairer(alloc, alone)?;
     let options = options(Vec::new(alloc), false)?;
-    let received = receive_loop(alloc, ports, repairer, &options, &mut sink, &mut errors)?;
+    let parts = parts_of(ports, repairer);
+    let received = receive_loop(alloc, parts, &options, &mut sink, &mut errors)?;
     assert!(&rt; received.status == 1, "another status");
     expect_text(
         &rt,
@@ -149,8 +70,48 @@ fn blocks_are_printed_alone(rt: HostRuntime) -> Result<(), Fail> {
     };
     let repairer = repairer(alloc, alone)?;
     let options = options(Vec::new(alloc), true)?;
-    receive_loop(alloc, ports, repairer, &options, &mut sink, &mut errors)?;
+    let parts = parts_of(ports, repairer);
+    receive_loop(alloc, parts, &options, &mut sink, &mut errors)?;
     expect_text(&rt, &sink, b"\0\x01A\0\x01C");
     expect_text(&rt, &errors, b"lost 2 2\nfinished next 4 lost 1 failed 0\n");
+    Ok(())
+}
+
+const GIVEN_UP: &[u8] = b"1 41\nlost 2 2\n3 43\nfinished next 4 lost 1 failed 0\n";
+
+// A receiver that gives up message 2, and reports a refusal.
+fn giving_up(alloc: Global) -> Result<ReceiveParts<MemoryPortSet>, Fail> {
+    let mut script = line(alloc)?;
+    add(alloc, &mut script, 2, 0, b"SHORT")?;
+    let alone = RepairOptions {
+        servers: 0,
+        give_up: 2,
+        ..OPTIONS
+    };
+    Ok(parts_of(MemoryPortSet::new(alloc, script)?, repairer(alloc, alone)?))
+}
+
+// After a fault, a prefix of the text is written.
+fn expect_prefix(
+    rt: &(impl Abort + AllocGlobal),
+    parts: ReceiveParts<MemoryPortSet>,
+    options: &ReceiveOptions<u32>,
+) -> Result<(), CommandFault> {
+    let alloc = rt.alloc();
+    let (mut sink, mut errors) = (MemorySink::new(alloc), MemorySink::new(alloc));
+    let outcome = receive_loop(alloc, parts, options, &mut sink, &mut errors);
+    assert!(rt; GIVEN_UP.starts_with(sink.bytes()), "not a prefix");
+    outcome?;
+    expect_text(rt, &sink, GIVEN_UP);
+    Ok(())
+}
+
+#[test]
+fn out_of_memory_leaves_a_prefix_of_what_came(rt: HostRuntime) -> Result<(), Fail> {
+    let alloc = rt.alloc();
+    let options = options(Vec::new(alloc), false)?.with_stats(1);
+    if expect_prefix(&rt, giving_up(alloc)?, &options).is_err() {
+        expect_prefix(&rt, giving_up(alloc)?, &options)?;
+    }
     Ok(())
 }

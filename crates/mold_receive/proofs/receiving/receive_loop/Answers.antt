@@ -1,30 +1,74 @@
-use Rattle.std.proofs.Common.{ap, subst, ◌∙◌}
-use Rattle.mold_turns.specs.Outgoing.{OutgoingState}
+use Rattle.std.proofs.Common.{ℕ, List, [], ap, subst, ◌∙◌}
 use Rattle.mold_input.specs.declared.message_format.MessageFormat.{MessageFormat}
-use Rattle.mold_receive.specs.Receiving.{HasBroken, HasEnded, started}
-use Rattle.mold_receive.proofs.CallLemmas.{broken_yet, on_err_of, plain_format}
+use Rattle.mold_receive.specs.Receiving.{HasBroken, HasEnded, HasRun, datagram_of_first, format_for, started, state_of}
+use Rattle.mold_receive.proofs.CallLemmas.{broken_then, broken_yet, ended_then, on_err_of, plain_format}
+use Rattle.mold_turns.specs.Outgoing.{OutgoingState}
 use Rattle.mold_receive.proofs.receiving.receive_loop.Goals as goal
 
 pub returns-in_err-buffer-clause-failed : goal.returns-in_err-buffer-clause-failed
-returns-in_err-buffer-clause-failed g c = on_err_of c.from_residual.result (broken_yet _ _ _ _ _ _)
+returns-in_err-buffer-clause-failed g c = on_err_of c.from_residual.result (broken_yet _ _ _ _ _ _ _)
 
-pub run-requires-clause-plain : goal.run-requires-clause-plain
-run-requires-clause-plain g c =
-    plain_format _ c.args.options.now.blocks
-    (ap (λ (o : OutgoingState). o.format) c.with_format.ensures ∙ c.format.ensures)
+pub take_first-requires : goal.take_first-requires
+take_first-requires g c = record {
+  plain = plain_format _ c.args.options.now.blocks
+      (ap (λ (o : OutgoingState). o.format) c.with_format.ensures ∙ c.format.ensures);
+}
+
+pub returns-in_err-take_first-clause-failed : goal.returns-in_err-take_first-clause-failed
+returns-in_err-take_first-clause-failed g c =
+    on_err_of c.from_residual-in_err-take_first.result (broken_yet _ _ _ _ _ _ _)
+
+pub run-requires : goal.run-requires
+run-requires g c = record {
+  plain = plain_format _ c.args.options.now.blocks
+      (c.take_first.ensures.format
+      ∙ (ap (λ (o : OutgoingState). o.format) c.with_format.ensures ∙ c.format.ensures));
+}
 
 pub returns-clause-ended : goal.returns-clause-ended
 returns-clause-ended g c =
-    subst (λ (f : MessageFormat). HasEnded c.args.options.now.lines c.args.options.now.servers.items f
-    g.D.PortSet.modeled c.args.repairer c.run.new.self.repairer (g.D.PortSet.state c.args.ports)
-    (g.D.PortSet.state c.run.new.self.ports) (g.K.Sink.held c.args.sink.now) (g.K.Sink.held c.run.new.sink)
-    c.in_ok-status.status)
-    (ap (λ (o : OutgoingState). o.format) c.with_format.ensures ∙ c.format.ensures) c.in_ok-status.ensures.ended
+    let lines = c.args.options.now.lines in
+    let servers = c.args.options.now.servers.items in
+    let given = datagram_of_first lines c.args.parts.first in
+    let format = format_for c.args.options.now.blocks in
+    let same = ap (λ (o : OutgoingState). o.format) c.with_format.ensures ∙ c.format.ensures in
+    ended_then lines servers format g.D.PortSet.modeled given (started c.args.parts.repairer (g.D.PortSet.state
+    c.args.parts.ports)) (state_of g.D.PortSet.state c.take_first.new.self) _ _ _ _ _
+    (subst (λ (t : List ℕ). HasRun lines servers format g.D.PortSet.modeled given (record {
+      repairer = c.args.parts.repairer;
+      ports = g.D.PortSet.state c.args.parts.ports;
+      text = t;
+    }) (state_of g.D.PortSet.state c.take_first.new.self)) (ap (λ (o : OutgoingState). o.text) c.with_format.ensures)
+    (subst (λ (f : MessageFormat). HasRun lines servers f g.D.PortSet.modeled given (record {
+      repairer = c.args.parts.repairer;
+      ports = g.D.PortSet.state c.args.parts.ports;
+      text = c.with_format.result.text;
+    }) (state_of g.D.PortSet.state c.take_first.new.self)) same (c.in_ok-take_first.ensures.ran lines servers)))
+    (subst (λ (f : MessageFormat). HasEnded lines servers f g.D.PortSet.modeled []
+    (state_of g.D.PortSet.state c.take_first.new.self) c.run.new.self.repairer (g.D.PortSet.state c.run.new.self.ports)
+    (g.K.Sink.held c.args.sink.now) (g.K.Sink.held c.run.new.sink) c.in_ok-status.status)
+    (c.take_first.ensures.format ∙ same) c.in_ok-status.ensures.ended)
 
 pub returns-in_err-status-clause-failed : goal.returns-in_err-status-clause-failed
 returns-in_err-status-clause-failed g c =
+    let lines = c.args.options.now.lines in
+    let servers = c.args.options.now.servers.items in
+    let given = datagram_of_first lines c.args.parts.first in
+    let format = format_for c.args.options.now.blocks in
+    let same = ap (λ (o : OutgoingState). o.format) c.with_format.ensures ∙ c.format.ensures in
     on_err_of c.from_residual-in_err-status.result
-    (subst (λ (f : MessageFormat). HasBroken c.args.options.now.lines c.args.options.now.servers.items f
-    g.D.PortSet.modeled (started c.args.repairer (g.D.PortSet.state c.args.ports)) (g.K.Sink.held c.args.sink.now)
-    (g.K.Sink.held c.run.new.sink))
-    (ap (λ (o : OutgoingState). o.format) c.with_format.ensures ∙ c.format.ensures) c.in_err-status.ensures.failed)
+    (broken_then lines servers format g.D.PortSet.modeled given (started c.args.parts.repairer (g.D.PortSet.state
+    c.args.parts.ports)) (state_of g.D.PortSet.state c.take_first.new.self) _ _
+    (subst (λ (t : List ℕ). HasRun lines servers format g.D.PortSet.modeled given (record {
+      repairer = c.args.parts.repairer;
+      ports = g.D.PortSet.state c.args.parts.ports;
+      text = t;
+    }) (state_of g.D.PortSet.state c.take_first.new.self)) (ap (λ (o : OutgoingState). o.text) c.with_format.ensures)
+    (subst (λ (f : MessageFormat). HasRun lines servers f g.D.PortSet.modeled given (record {
+      repairer = c.args.parts.repairer;
+      ports = g.D.PortSet.state c.args.parts.ports;
+      text = c.with_format.result.text;
+    }) (state_of g.D.PortSet.state c.take_first.new.self)) same (c.in_ok-take_first.ensures.ran lines servers)))
+    (subst (λ (f : MessageFormat). HasBroken lines servers f g.D.PortSet.modeled []
+    (state_of g.D.PortSet.state c.take_first.new.self) (g.K.Sink.held c.args.sink.now)
+    (g.K.Sink.held c.run.new.sink)) (c.take_first.ensures.format ∙ same) c.in_err-status.ensures.failed))
