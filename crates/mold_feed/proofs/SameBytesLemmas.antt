@@ -50,7 +50,7 @@ at_end journal next messages others old new (inr (inr done)) = absurd (omega (ar
 
 module _ (laws : SameBytesLaws) (limit : ℕ) (journal : JournalState) (opening : IsOpening journal limit) where
   -- no entry is refused if the journal that is left is closed
-  unrefused : (input : InputEntries) → (left_by journal input).closed ≡ true →
+  pub unrefused : (input : InputEntries) → (left_by journal input).closed ≡ true →
       (input_published journal input).refused ≡ None
   unrefused input closed =
       none_if (input_published journal input).refused (λ why refused.

@@ -27,9 +27,8 @@ use Rattle.mold_session.specs.Truthful.{MayAnswer, IsTrueDatagram}
 use Rattle.mold_wire.specs.Truth.{IsTruePacket}
 use Rattle.mold_wire.specs.declared.session.Session.{Session}
 
--- the laws that the law of the session depends on
-pub record FeedLaws (P : Type 0) : Type 0 where
-  pub opening : OpeningLaws
+-- the laws about what a publisher and its servers send
+pub record SentLaws (P : Type 0) : Type 0 where
   pub published : (a b : P) (beats ends limit : ℕ) (journal : JournalState) (input : InputEntries)
       (result : Result ℕ CommandFault) (before after : Port P)
       (text_old text_new file_old file_new : Option (List ℕ)) → IsOpening journal limit →
@@ -39,6 +38,11 @@ pub record FeedLaws (P : Type 0) : Type 0 where
   pub served : (service : Service) (choices : List (List Bool)) (start : ResponderState P) →
       MayAnswer service.journal service.limit → AllSent (IsTrueDatagram service.journal) start.port.sent →
       AllSent (IsTrueDatagram service.journal) (run (serving service) choices start).port.sent
+
+-- the laws that the law of the session depends on
+pub record FeedLaws (P : Type 0) : Type 0 where
+  pub opening : OpeningLaws
+  pub sent : SentLaws P
   pub received : (journal : JournalState) (server : P) (burst : ℕ) (choices : List Bool) (start : ListenerState P) →
       IsHonest start.progress.arbitration.view journal.messages journal.closed →
       start.progress.arbitration.view.session ≡ journal.session → ReceivesOnly (IsHarmless journal) start →
@@ -102,7 +106,7 @@ hears_weaker Good Other weaker s hears = record {
   requests = port_weaker Good Other weaker s.requests hears.requests;
 }
 
-module _ {P : Type 0} (laws : FeedLaws P) (limit : ℕ) (journal : JournalState) (input : InputEntries)
+module _ {P : Type 0} (laws : SentLaws P) (limit : ℕ) (journal : JournalState) (input : InputEntries)
     (opening : IsOpening journal limit) where
   published_tells : (bytes : List ℕ) → IsPublished P journal limit input bytes → IsTrueDatagram (left_by journal input) bytes
   published_tells bytes is =
@@ -124,13 +128,15 @@ module _ {P : Type 0} (laws : FeedLaws P) (limit : ℕ) (journal : JournalState)
   sent_tells bytes (inl is) = published_tells bytes is
   sent_tells bytes (inr is) = served_tells bytes is
 
-  fed_harmless : (bytes : List ℕ) → IsFed P journal limit input bytes → IsHarmless (left_by journal input) bytes
+  pub fed_harmless : (bytes : List ℕ) → IsFed P journal limit input bytes → IsHarmless (left_by journal input) bytes
   fed_harmless bytes (inl is) = inl (sent_tells bytes is)
   fed_harmless bytes (inr strange) =
       inr (subst (λ (s : Session). IsForeign s bytes) (sym (left_session journal input)) strange)
 
-  -- ---- what a listener of the session prints
+-- ---- what a listener of the session prints
 
+module _ {P : Type 0} (laws : FeedLaws P) (limit : ℕ) (journal : JournalState) (input : InputEntries)
+    (opening : IsOpening journal limit) where
   module _ (first window : ℕ) (least : 1 ≤ first) (within : first ≤ length (left_by journal input).messages + 1)
       (arbitration : Arbitration) (anew : arbitration.view ≡ fresh journal.session first window) where
     honest : IsHonest arbitration.view (left_by journal input).messages (left_by journal input).closed
@@ -170,7 +176,8 @@ module _ {P : Type 0} (laws : FeedLaws P) (limit : ℕ) (journal : JournalState)
       -- the ports give only what was sent of the session
       all_true : ReceivesOnly (IsSent P journal limit input) start → ReceivesOnly (IsTrueDatagram (left_by journal input)) start
       all_true sent =
-          hears_weaker (IsSent P journal limit input) (IsTrueDatagram (left_by journal input)) sent_tells start sent
+          hears_weaker (IsSent P journal limit input) (IsTrueDatagram (left_by journal input))
+          (sent_tells laws.sent limit journal input opening) start sent
 
       all_harmless : ReceivesOnly (IsTrueDatagram (left_by journal input)) start →
           ReceivesOnly (IsHarmless (left_by journal input)) start
@@ -192,8 +199,8 @@ module _ {P : Type 0} (laws : FeedLaws P) (limit : ℕ) (journal : JournalState)
       pub session_prints_among : ReceivesOnly (IsFed P journal limit input) start →
           PrintsMessagesAmong format reporting (CanReceive start) (left_by journal input) first result old new
       session_prints_among fed =
-          let hears = hears_weaker (IsFed P journal limit input) (IsHarmless (left_by journal input)) fed_harmless start
-          fed in
+          let hears = hears_weaker (IsFed P journal limit input) (IsHarmless (left_by journal input))
+          (fed_harmless laws.sent limit journal input opening) start fed in
           prints_among (left_by journal input) (CanReceive start) (has_received hears) (comes_to hears)
 
       pub session_prints_messages : ReceivesOnly (IsSent P journal limit input) start →

@@ -84,6 +84,18 @@ pub fn served_law<D: Datagrams>()
     sending_law();
 }
 
+/// States that a datagram which is fed is harmless: it was sent by the publisher of the input or by one of its servers,
+/// or does not encode a packet of the session. So it is true of the journal that the publisher leaves, or does not
+/// encode a packet of the journal's session.
+pub fn fed_law<D: Datagrams>()
+    ensures { (limit : ℕ) (journal : JournalState) (input : InputEntries) (bytes : List ℕ) →
+        IsOpening journal limit → IsFed D.Peer journal limit input bytes →
+        IsHarmless (left_journal (input_published journal input)) bytes }
+{
+    published_law::<D>();
+    served_law::<D>();
+}
+
 /// States what an honest listener prints. Its ports give only datagrams that are true of the session, and bytes that
 /// do not encode a packet of the session. The law holds for any burst, any number of turns and any choice of which
 /// sends fail.

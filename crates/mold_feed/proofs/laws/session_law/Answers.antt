@@ -18,8 +18,7 @@ opening_laws g c = record {
 laws : (g : Over) → After-honest_stays_law g → FeedLaws g.row.D-Peer.Denot
 laws g c = record {
   opening = opening_laws g c;
-  published = c.published_law.ensures.sent;
-  served = c.served_law.ensures;
+  sent = record { published = c.published_law.ensures.sent; served = c.served_law.ensures };
   received = c.listened_law.ensures.received;
   plain = c.listened_law.ensures.plain;
   finished = c.listened_law.ensures.finished;

@@ -1,0 +1,2 @@
+pub mod PrintedLemmas
+pub mod EndedLemmas
