@@ -11,6 +11,8 @@ _mold_options() {
     serve) printf '%s ' --journal --limit --burst --bind --turns --live ;;
     listen) printf '%s ' --session --next --window --a --b --server --burst --turns --live --report --blocks \
         --end-at-empty ;;
+    receive) printf '%s ' --session --learn --next --from-now --a --b --source-a --source-b --server --window \
+        --patience --timeout --ceiling --requests --in-flight --give-up --audit --quiet --stats --blocks ;;
     loop) printf '%s ' --session --limit --server-limit --window --burst --drop-a --drop-b --turns --report \
         --blocks --end-at-empty ;;
     upgrade) printf '%s ' --journal --to --close ;;
@@ -19,7 +21,7 @@ _mold_options() {
     printf '%s' --help
 }
 
-_mold_commands='show pack sim check publish serve listen loop upgrade dump help'
+_mold_commands='show pack sim check publish serve listen receive loop upgrade dump help'
 
 # Completes a file name with -f, or the name of a folder with -d.
 _mold_files() {
@@ -53,7 +55,9 @@ _mold() {
         compopt -o nospace 2>/dev/null
         _mold_words '127.0.0.1: 0.0.0.0:' "$word"
         ;;
-    show:--request | upgrade:--close | *:--live | *:--report) _mold_words "$(_mold_options "$command")" "$word" ;;
+    show:--request | upgrade:--close | *:--live | *:--report | *:--learn | *:--from-now)
+        _mold_words "$(_mold_options "$command")" "$word"
+        ;;
     *:--help) ;;
     *:--*) ;;
     check:*) case $word in

@@ -7,7 +7,7 @@ use Rattle.mold_sim.specs.Sim.{SimState, sim_beginning, sim_status, sim_text}
 use Rattle.mold_words.specs.declared.sim_order.SimOrder.{SimOrder}
 use Rattle.mold_words.specs.declared.types.Order.{Order}
 use Rattle.mold_words.specs.declared.types.Order.TheVariants.{Show, Pack, PackJournal, Sim, Check, CheckLines}
-use Rattle.mold_words.specs.declared.types.Order.TheVariants.{Publish, Serve, Listen, Loop, Upgrade, Dump}
+use Rattle.mold_words.specs.declared.types.Order.TheVariants.{Publish, Serve, Listen, Receive, Loop, Upgrade, Dump}
 
 -- The state of the simulation at the start of the order's script.
 abbrev pub sim_start : SimOrder → SimState
@@ -27,6 +27,7 @@ IsStreamed CheckLines = ⊤
 IsStreamed (Publish order) = ⊥
 IsStreamed (Serve order) = ⊥
 IsStreamed (Listen order) = ⊥
+IsStreamed (Receive order) = ⊥
 IsStreamed (Loop order) = ⊥
 IsStreamed (Upgrade order) = ⊥
 IsStreamed (Dump order) = ⊥
@@ -42,6 +43,7 @@ text CheckLines input = check_text input
 text (Publish order) input = []
 text (Serve order) input = []
 text (Listen order) input = []
+text (Receive order) input = []
 text (Loop order) input = []
 text (Upgrade order) input = []
 text (Dump order) input = []
@@ -58,6 +60,7 @@ status CheckLines input = check_status input
 status (Publish order) input = 0
 status (Serve order) input = 0
 status (Listen order) input = 0
+status (Receive order) input = 0
 status (Loop order) input = 0
 status (Upgrade order) input = 0
 status (Dump order) input = 0

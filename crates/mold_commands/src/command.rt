@@ -51,6 +51,7 @@ pub fn run_command<S: Source, K: Sink>(
         | Order::Publish(_)
         | Order::Serve(_)
         | Order::Listen(_)
+        | Order::Receive(_)
         | Order::Loop(_)
         | Order::Upgrade(_)
         | Order::Dump(_) => unreachable!(),

@@ -5,7 +5,16 @@ use Rattle.std.specs.List.{after_first, before_first, position_or_len, slice_ind
 use Rattle.std.specs.Option.{option_and_then}
 use Rattle.clap.specs.Words.{Text}
 use Rattle.mold_words.specs.Values.{number_of}
+use Rattle.mold_words.specs.declared.address.Address.{Address}
 use Rattle.mold_words.specs.declared.addresses.TheConstants.{MAX_PORT}
+
+-- The model of an address: the four numbers of its host, and its port number.
+abbrev pub HostPort : Type 0
+HostPort = List ℕ × ℕ
+
+-- The model of an address as the program holds it.
+abbrev pub address_view : Address → HostPort
+address_view address = (address.host, address.port)
 
 -- The parts of `text` before and after the first `byte`, if it occurs.
 abbrev pub cut_at : ℕ → Text → Option (Text × Text)

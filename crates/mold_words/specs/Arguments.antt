@@ -1,11 +1,14 @@
 -- Defines the models of orders: what command-line arguments ask for.
-use Rattle.std.specs.Prelude.{ℕ, Bool, List, string_bytes}
+use Rattle.std.specs.Prelude.{ℕ, Bool, List, Option, map, option_map, string_bytes}
 use Rattle.clap.specs.Words.{Text}
 use Rattle.mold_input.specs.declared.message_format.MessageFormat.{MessageFormat}
-use Rattle.mold_words.specs.declared.address.Address.{Address}
+use Rattle.mold_words.specs.Addresses.{HostPort, address_view}
+use Rattle.mold_words.specs.LinePorts.{Port, line_port_view}
+use Rattle.mold_words.specs.declared.line_options.LineOptions.{LineOptions}
+use Rattle.mold_words.specs.declared.request_options.RequestOptions.{RequestOptions}
 use Rattle.mold_words.specs.declared.types.Order.{Order}
 use Rattle.mold_words.specs.declared.types.Order.TheVariants.{Show, Pack, PackJournal, Sim, Check, CheckLines}
-use Rattle.mold_words.specs.declared.types.Order.TheVariants.{Publish, Serve, Listen, Loop, Upgrade, Dump}
+use Rattle.mold_words.specs.declared.types.Order.TheVariants.{Publish, Serve, Listen, Receive, Loop, Upgrade, Dump}
 
 -- The model of a `sim` order.
 pub record SimArguments : Type 0 where
@@ -20,14 +23,6 @@ pub record SimArguments : Type 0 where
   pub receivers : ℕ
   -- The maximum number of responses to a request.
   pub burst : ℕ
-
--- The model of an address: the four numbers of its host, and its port number.
-abbrev pub HostPort : Type 0
-HostPort = List ℕ × ℕ
-
--- The model of an address as the program holds it.
-abbrev pub address_view : Address → HostPort
-address_view address = (address.host, address.port)
 
 -- The model of a `publish` order.
 pub record PublishArguments : Type 0 where
@@ -86,6 +81,53 @@ pub record ListenArguments : Type 0 where
   -- The format in which messages are printed.
   pub output : MessageFormat
 
+-- The model of the options of `receive` about lines.
+pub record LineArguments : Type 0 where
+  -- The port that receives line A.
+  pub a : Port
+  -- The port that receives line B, if there is a second line.
+  pub b : Option Port
+  -- The address that sends line A. `None` accepts all senders.
+  pub source_a : Option (List ℕ)
+  -- The same for line B.
+  pub source_b : Option (List ℕ)
+
+-- The model of the options of `receive` about requests.
+pub record RequestArguments : Type 0 where
+  -- How long a message is missing before it is requested, in microseconds. With 0 it adapts.
+  pub patience : ℕ
+  -- How long the first request for a message waits, in milliseconds.
+  pub timeout : ℕ
+  -- The maximum to which the timeout doubles, in milliseconds.
+  pub ceiling : ℕ
+  -- The maximum number of requests in a second.
+  pub requests : ℕ
+  -- The maximum number of requests in flight.
+  pub in_flight : ℕ
+  -- The number of unanswered requests after which a message is given up. With 0 none is.
+  pub give_up : ℕ
+
+-- The model of a `receive` order.
+pub record ReceiveArguments : Type 0 where
+  -- The session. `None` asks for that of the first packet.
+  pub session : Option (List ℕ)
+  -- The sequence number of the first message. `None` asks for that of the first packet of the session.
+  pub next : Option ℕ
+  pub lines : LineArguments
+  -- The addresses that requests are sent to.
+  pub servers : List HostPort
+  -- The window of a receiver, in messages.
+  pub window : ℕ
+  pub requests : RequestArguments
+  -- The number of delivered messages whose digests are kept.
+  pub audit : ℕ
+  -- The time without an accepted datagram after which `receive` ends, in seconds. With 0 it does not end.
+  pub quiet : ℕ
+  -- The time between two lines of statistics, in seconds. With 0 none is printed.
+  pub stats : ℕ
+  -- Whether messages are printed as message blocks.
+  pub blocks : Bool
+
 -- The model of a `loop` order.
 pub record LoopArguments : Type 0 where
   pub session : List ℕ
@@ -132,9 +174,30 @@ pub data Arguments : Type 0 where
   publish_wanted : PublishArguments → Arguments
   serve_wanted : ServeArguments → Arguments
   listen_wanted : ListenArguments → Arguments
+  receive_wanted : ReceiveArguments → Arguments
   loop_wanted : LoopArguments → Arguments
   upgrade_wanted : Text → Text → Bool → Arguments
   dump_wanted : DumpArguments → Arguments
+
+-- The model of the options about lines, as the program reads them.
+abbrev pub line_options_view : LineOptions → LineArguments
+line_options_view options = record {
+  a = line_port_view options.a;
+  b = option_map line_port_view options.b;
+  source_a = options.source_a;
+  source_b = options.source_b;
+}
+
+-- The model of the options about requests, as the program reads them.
+abbrev pub request_options_view : RequestOptions → RequestArguments
+request_options_view options = record {
+  patience = options.patience;
+  timeout = options.timeout;
+  ceiling = options.ceiling;
+  requests = options.requests;
+  in_flight = options.in_flight;
+  give_up = options.give_up;
+}
 
 -- The model of the program's `Order`: its command and the values of its options.
 abbrev pub view : Order → Arguments
@@ -182,6 +245,30 @@ view (Listen order) = listen_wanted (record {
   live = order.live;
   report = order.report;
   output = order.output;
+})
+view (Receive order) = receive_wanted (record {
+  session = order.session;
+  next = order.next;
+  lines = record {
+    a = line_port_view order.a;
+    b = option_map line_port_view order.b;
+    source_a = order.source_a;
+    source_b = order.source_b;
+  };
+  servers = map address_view order.servers.items;
+  window = order.window;
+  requests = record {
+    patience = order.patience;
+    timeout = order.timeout;
+    ceiling = order.ceiling;
+    requests = order.requests;
+    in_flight = order.in_flight;
+    give_up = order.give_up;
+  };
+  audit = order.audit;
+  quiet = order.quiet;
+  stats = order.stats;
+  blocks = order.blocks;
 })
 view (Loop order) = loop_wanted (record {
   session = order.session;

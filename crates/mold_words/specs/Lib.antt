@@ -1,5 +1,6 @@
 pub mod Addresses
 pub mod Faults
+pub mod LinePorts
 pub mod NoOrders
 pub mod Orders
 pub mod Table

@@ -1,11 +1,14 @@
 -- Defines facts about the reasons why accepted arguments give no order.
 use Rattle.std.specs.Prelude.{◌≡◌, ◌⊎◌, Bool, true, false, Option, None}
 use Rattle.mold_words.specs.declared.no_order.NoOrder.{NoOrder}
-use Rattle.mold_words.specs.declared.no_order.NoOrder.TheVariants.{Address, Memory}
+use Rattle.mold_words.specs.declared.no_order.NoOrder.TheVariants.{Address, Group, Host, LinePort, Memory}
 
 -- Whether the reason is an invalid address.
 abbrev pub is_address : NoOrder → Bool
 is_address (Address name) = true
+is_address (LinePort name) = true
+is_address (Group name) = true
+is_address (Host name) = true
 is_address _ = false
 
 -- The options do not give this value, and the reason is not an invalid address.

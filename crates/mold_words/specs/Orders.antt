@@ -1,21 +1,23 @@
 -- Defines the order that command-line arguments give.
 use Rattle.std.specs.Prelude.{◌≡◌, ℕ, Bool, List, [], Option, Some, None, codes, false, true, if◌then◌else◌, is_some}
-use Rattle.std.specs.Prelude.{nat_lt, not, option_map, ◌∷◌}
+use Rattle.std.specs.Prelude.{◌&&◌, ◌||◌, length, nat_lt, not, option_map, ◌∷◌, unwrap_or}
 use Rattle.std.specs.List.{list_any}
 use Rattle.std.specs.Option.{option_and_then, option_map_or}
 use Rattle.std.specs.Str.{bytes_eq}
-use Rattle.clap.specs.Words.{Row, Text, fault_of, first_of, subcommand_of}
+use Rattle.clap.specs.Words.{Row, Text, all_of, fault_of, first_of, subcommand_of}
 use Rattle.mold_input.specs.declared.message_format.MessageFormat.{MessageFormat}
 use Rattle.mold_input.specs.declared.message_format.MessageFormat.TheVariants.{Lines, Blocks, BlocksToEmpty}
-use Rattle.mold_words.specs.Addresses.{address_of}
+use Rattle.mold_words.specs.Addresses.{HostPort, address_of, host_of}
+use Rattle.mold_words.specs.LinePorts.{Port, line_port_of}
 use Rattle.mold_words.specs.Values.{session_of, number_of}
-use Rattle.mold_words.specs.Arguments.{Arguments, HostPort, check_lines_wanted, check_wanted, dump_wanted}
-use Rattle.mold_words.specs.Arguments.{listen_wanted, loop_wanted, pack_journal_wanted, pack_wanted, publish_wanted}
-use Rattle.mold_words.specs.Arguments.{serve_wanted, show_wanted, sim_wanted, upgrade_wanted}
+use Rattle.mold_words.specs.Arguments.{Arguments, LineArguments, RequestArguments, check_lines_wanted, check_wanted}
+use Rattle.mold_words.specs.Arguments.{dump_wanted, listen_wanted, loop_wanted, pack_journal_wanted, pack_wanted}
+use Rattle.mold_words.specs.Arguments.{publish_wanted, receive_wanted, serve_wanted, show_wanted, sim_wanted, upgrade_wanted}
 use Rattle.mold_words.specs.Words.{mold_app}
 use Rattle.mold_words.specs.declared.options.TheConstants.{MAX_TURNS}
-use Rattle.mold_wire.specs.declared.limits.TheConstants.{MAX_BURST, MAX_WINDOW}
+use Rattle.mold_wire.specs.declared.limits.TheConstants.{MAX_BURST, MAX_WIDE_WINDOW, MAX_WINDOW}
 use Rattle.mold_words.specs.declared.options.TheConstants.{DEFAULT_LIMIT, DEFAULT_TURNS, DEFAULT_WINDOW}
+use Rattle.mold_words.specs.declared.receive_options.TheConstants.{MAX_SERVERS}
 use Rattle.mold_wire.specs.declared.limits.TheConstants.{MAX_LIMIT, MAX_NUMBER, MIN_LIMIT}
 
 -- `clap` finds no error in the arguments `words`.
@@ -25,6 +27,10 @@ AreTaken words = fault_of mold_app words ≡ []
 -- Whether the flag of this name is given. Then its value is `true`.
 abbrev pub flag_in : Text → List Row → Bool
 flag_in name rows = option_map_or (λ text. bytes_eq text (codes "true")) (first_of name rows) false
+
+-- All values of the option of this name, in the order in which they are given.
+abbrev pub texts_in : Text → List Row → List Text
+texts_in name rows = unwrap_or (all_of name rows) []
 
 -- The session that the option of this name gives, if its value is valid.
 abbrev pub session_in : Text → List Row → Option (List ℕ)
@@ -91,10 +97,29 @@ address_in name rows = option_and_then address_of (first_of name rows)
 abbrev pub is_no_address : List Row → Text → Bool
 is_no_address rows name = option_map_or (λ text. not (is_some (address_of text))) (first_of name rows) false
 
--- Whether the value of any option that takes an address is invalid.
-unfoldable pub has_no_address : List Row → Bool
-has_no_address rows =
-    list_any (is_no_address rows) (codes "a" ∷ codes "b" ∷ codes "server" ∷ codes "bind" ∷ [])
+-- The option of this name is given, and its value is not a port of a line.
+abbrev pub is_no_port : List Row → Text → Bool
+is_no_port rows name = option_map_or (λ text. not (is_some (line_port_of text))) (first_of name rows) false
+
+-- The option of this name is given, and its value is not an IPv4 address.
+abbrev pub is_no_host : List Row → Text → Bool
+is_no_host rows name = option_map_or (λ text. not (is_some (host_of text))) (first_of name rows) false
+
+-- Whether a value of `--server`, which may be given several times, is not an address.
+abbrev pub has_invalid_server : List Row → Bool
+has_invalid_server rows = list_any (λ text. not (is_some (address_of text))) (texts_in (codes "server") rows)
+
+-- Whether the value of any option of `receive` that takes an address is invalid.
+unfoldable pub receives_no_address : List Row → Bool
+receives_no_address rows =
+    list_any (is_no_port rows) (codes "a" ∷ codes "b" ∷ [])
+    || (list_any (is_no_host rows) (codes "source-a" ∷ codes "source-b" ∷ []) || has_invalid_server rows)
+
+-- Whether the value of any option that takes an address is invalid, for the command of this name.
+unfoldable pub has_no_address : Text → List Row → Bool
+has_no_address name rows =
+    if bytes_eq name (codes "receive") then receives_no_address rows
+    else list_any (is_no_address rows) (codes "a" ∷ codes "b" ∷ codes "server" ∷ codes "bind" ∷ [])
 
 -- What `show` asks for with these options.
 unfoldable pub show_of : List Row → Arguments
@@ -231,6 +256,123 @@ listen_of rows =
     (number_in (codes "next") 1 1 9223372036854775807 rows))
     (session_in (codes "session") rows)
 
+-- The session that `--session` gives, or `None` if `--learn` is given. Exactly one of them must be given.
+abbrev pub session_or_learned : Option Text → Bool → Option (Option (List ℕ))
+session_or_learned None false = None
+session_or_learned None true = Some None
+session_or_learned (Some text) false = option_map (λ session. Some session) (session_of text)
+session_or_learned (Some text) true = None
+
+-- The session of the options, or `None` if it is learned.
+unfoldable pub learned_in : List Row → Option (Option (List ℕ))
+learned_in rows = session_or_learned (first_of (codes "session") rows) (flag_in (codes "learn") rows)
+
+-- The number that `--next` gives, 1 without it, or `None` if `--from-now` is given. At most one of them may be given.
+abbrev pub number_or_now : Option Text → Bool → Option (Option ℕ)
+number_or_now None true = Some None
+number_or_now (Some text) true = None
+number_or_now None false = Some (Some 1)
+number_or_now (Some text) false = option_map (λ number. Some number) (number_of 1 9223372036854775807 text)
+
+-- The sequence number at which the options start, or `None` if it is that of the first packet.
+unfoldable pub start_in : List Row → Option (Option ℕ)
+start_in rows = number_or_now (first_of (codes "next") rows) (flag_in (codes "from-now") rows)
+
+-- The port of a text, if it is one or there is no text.
+abbrev pub port_or_none : Option Text → Option (Option Port)
+port_or_none None = Some None
+port_or_none (Some text) = option_map (λ port. Some port) (line_port_of text)
+
+-- The four numbers of an IPv4 address, if the text is one or there is no text.
+abbrev pub host_or_none : Option Text → Option (Option (List ℕ))
+host_or_none None = Some None
+host_or_none (Some text) = option_map (λ host. Some host) (host_of text)
+
+-- The ports and the senders of the lines, if they are valid. A sender of line B requires line B.
+unfoldable pub lines_in : List Row → Option LineArguments
+lines_in rows =
+    option_and_then
+    (λ a. option_and_then
+    (λ b. option_and_then
+    (λ source_a. option_and_then
+    (λ source_b. if is_some source_b && not (is_some b) then None
+    else Some (record { a = a; b = b; source_a = source_a; source_b = source_b }))
+    (host_or_none (first_of (codes "source-b") rows)))
+    (host_or_none (first_of (codes "source-a") rows)))
+    (port_or_none (first_of (codes "b") rows)))
+    (option_and_then line_port_of (first_of (codes "a") rows))
+
+-- The addresses of these texts, if all are addresses.
+unfoldable pub addresses_of : List Text → Option (List HostPort)
+addresses_of [] = Some []
+addresses_of (text ∷ rest) =
+    option_and_then (λ address. option_map (λ others. address ∷ others) (addresses_of rest)) (address_of text)
+
+-- The addresses of the servers, if there are at most 8 and all are valid.
+unfoldable pub servers_in : List Row → Option (List HostPort)
+servers_in rows =
+    if nat_lt MAX_SERVERS (length (texts_in (codes "server") rows)) then None
+    else addresses_of (texts_in (codes "server") rows)
+
+-- When and how often messages are requested, if the numbers are valid. The ceiling is at least the timeout.
+unfoldable pub requests_in : List Row → Option RequestArguments
+requests_in rows =
+    option_and_then
+    (λ patience. option_and_then
+    (λ timeout. option_and_then
+    (λ ceiling. option_and_then
+    (λ requests. option_and_then
+    (λ in_flight. option_and_then
+    (λ give_up. if nat_lt ceiling timeout then None
+    else Some (record {
+      patience = patience;
+      timeout = timeout;
+      ceiling = ceiling;
+      requests = requests;
+      in_flight = in_flight;
+      give_up = give_up;
+    }))
+    (number_in (codes "give-up") 0 0 1000 rows))
+    (number_in (codes "in-flight") 256 1 4096 rows))
+    (number_in (codes "requests") 1000 1 1000000 rows))
+    (number_in (codes "ceiling") 1000 1 600000 rows))
+    (number_in (codes "timeout") 50 1 60000 rows))
+    (number_in (codes "patience") 0 200 1000000 rows)
+
+-- What `receive` asks for with these options, if their values are valid. Without `--patience` it is 0, and adapts.
+unfoldable pub receive_of : List Row → Option Arguments
+receive_of rows =
+    option_and_then
+    (λ session. option_and_then
+    (λ next. option_and_then
+    (λ lines. option_and_then
+    (λ window. option_and_then
+    (λ requests. option_and_then
+    (λ audit. option_and_then
+    (λ quiet. option_and_then
+    (λ stats. option_and_then
+    (λ servers. Some (receive_wanted (record {
+      session = session;
+      next = next;
+      lines = lines;
+      servers = servers;
+      window = window;
+      requests = requests;
+      audit = audit;
+      quiet = quiet;
+      stats = stats;
+      blocks = flag_in (codes "blocks") rows;
+    })))
+    (servers_in rows))
+    (number_in (codes "stats") 0 0 86400 rows))
+    (number_in (codes "quiet") 0 0 86400 rows))
+    (number_in (codes "audit") 65536 0 1048576 rows))
+    (requests_in rows))
+    (number_in (codes "window") MAX_WIDE_WINDOW 1 MAX_WIDE_WINDOW rows))
+    (lines_in rows))
+    (start_in rows))
+    (learned_in rows)
+
 -- What `loop` asks for with these options, if their values are valid.
 unfoldable pub loop_of : List Row → Option Arguments
 loop_of rows =
@@ -296,6 +438,7 @@ order_at name rows =
     else if bytes_eq name (codes "publish") then publish_of rows
     else if bytes_eq name (codes "serve") then serve_of rows
     else if bytes_eq name (codes "listen") then listen_of rows
+    else if bytes_eq name (codes "receive") then receive_of rows
     else if bytes_eq name (codes "loop") then loop_of rows
     else if bytes_eq name (codes "upgrade") then upgrade_of rows
     else if bytes_eq name (codes "dump") then dump_of rows
@@ -305,12 +448,12 @@ order_at name rows =
 -- packets.
 abbrev pub order_in : Option (Text × List Row) → Option Arguments
 order_in None = Some (show_wanted false)
-order_in (Some found) = if has_no_address found.1 then None else order_at found.0 found.1
+order_in (Some found) = if has_no_address found.0 found.1 then None else order_at found.0 found.1
 
 -- Whether the command that was found has an option with an invalid address.
 abbrev pub lacks_address : Option (Text × List Row) → Bool
 lacks_address None = false
-lacks_address (Some found) = has_no_address found.1
+lacks_address (Some found) = has_no_address found.0 found.1
 
 -- What the arguments `words` ask for: the command that `clap` finds in them, if the values of its options are valid.
 unfoldable pub order_of : List Text → Option Arguments

@@ -1,15 +1,15 @@
 -- Defines the commands and options of `mold`, and the program that they are to `clap`.
-use Rattle.std.specs.Prelude.{Bool, List, [], ◌∷◌, Some, true, codes, fold}
+use Rattle.std.specs.Prelude.{Bool, List, [], ◌∷◌, ◌++◌, Some, true, codes, fold}
 use Rattle.std.specs.List.{list_any}
 use Rattle.std.specs.Str.{bytes_eq}
 use Rattle.clap.specs.Words.{App, Rule, Text, new_app, new_rule, with_rule, with_subcommand}
-use Rattle.clap.specs.declared.builder.ArgAction.TheVariants.{Set, SetTrue}
+use Rattle.clap.specs.declared.builder.ArgAction.TheVariants.{Append, Set, SetTrue}
 use Rattle.mold_words.specs.declared.table.Kind.{Kind}
-use Rattle.mold_words.specs.declared.table.Kind.TheVariants.{Flag, Optional, Required, Word}
+use Rattle.mold_words.specs.declared.table.Kind.TheVariants.{Flag, Optional, Repeated, Required, Word}
 
--- The commands, each with its options.
-abbrev pub commands : List (Text × List (Text × Kind))
-commands =
+-- The first commands, each with its options.
+abbrev pub first_commands : List (Text × List (Text × Kind))
+first_commands =
     (codes "show", (codes "request", Flag) ∷ [])
     ∷ (
       codes "pack",
@@ -40,6 +40,20 @@ commands =
           ∷ (codes "burst", Optional) ∷ (codes "turns", Optional) ∷ (codes "live", Flag)
           ∷ (codes "report", Flag) ∷ (codes "blocks", Flag) ∷ (codes "end-at-empty", Flag) ∷ [],
     )
+    ∷ []
+
+-- The commands that follow the first ones, each with its options.
+abbrev pub last_commands : List (Text × List (Text × Kind))
+last_commands = (
+  codes "receive",
+  (codes "session", Optional) ∷ (codes "learn", Flag) ∷ (codes "next", Optional) ∷ (codes "from-now", Flag)
+      ∷ (codes "a", Required) ∷ (codes "b", Optional) ∷ (codes "source-a", Optional)
+      ∷ (codes "source-b", Optional) ∷ (codes "server", Repeated) ∷ (codes "window", Optional)
+      ∷ (codes "patience", Optional) ∷ (codes "timeout", Optional) ∷ (codes "ceiling", Optional)
+      ∷ (codes "requests", Optional) ∷ (codes "in-flight", Optional) ∷ (codes "give-up", Optional)
+      ∷ (codes "audit", Optional) ∷ (codes "quiet", Optional) ∷ (codes "stats", Optional)
+      ∷ (codes "blocks", Flag) ∷ [],
+)
     ∷ (
       codes "loop",
       (codes "session", Required) ∷ (codes "limit", Optional) ∷ (codes "server-limit", Optional)
@@ -55,16 +69,22 @@ commands =
     )
     ∷ []
 
+-- The commands, each with its options.
+abbrev pub commands : List (Text × List (Text × Kind))
+commands = first_commands ++ last_commands
+
 -- Whether the text is the name of a command.
 abbrev pub is_command : Text → Bool
 is_command name = list_any (λ command. bytes_eq command.0 name) commands
 
--- The `clap` rule of an option with this name. A flag has no value, and any other option has one. A positional
--- argument is given without its name.
+-- The `clap` rule of an option with this name. A flag has no value, and any other option has one. A repeated option may
+-- be given several times. A positional argument is given without its name.
 abbrev pub rule_for : Text → Kind → Rule
 rule_for name Flag = record (new_rule name) { long = Some name; action = Some SetTrue }
 rule_for name Optional =
     record (new_rule name) { long = Some name; action = Some Set; value_names = 1 }
+rule_for name Repeated =
+    record (new_rule name) { long = Some name; action = Some Append; value_names = 1 }
 rule_for name Required =
     record (new_rule name) { long = Some name; action = Some Set; value_names = 1; required = true }
 rule_for name Word = record (new_rule name) { action = Some Set; value_names = 1; required = true }

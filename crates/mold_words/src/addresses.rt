@@ -1,8 +1,7 @@
 //! Parses the texts of options that are addresses.
 
 ghost use Rattle.std.specs.Prelude.{◌≡◌, option_map};
-ghost use Rattle.mold_words.specs.Addresses.{address_of, cut_at, host_of, is_plain, plain_number};
-ghost use Rattle.mold_words.specs.Arguments.{address_view};
+ghost use Rattle.mold_words.specs.Addresses.{address_of, address_view, cut_at, host_of, is_plain, plain_number};
 ghost use Rattle.mold_words.specs.declared.addresses.TheConstants.{MAX_PORT};
 
 use crate::address::Address;
@@ -18,13 +17,15 @@ fn cut_at_point(text: &str) -> Option<(&str, &str)>
     text.split_once('.')
 }
 
-fn cut_at_colon(text: &str) -> Option<(&str, &str)>
+/// Returns the text before the first colon and the text after it.
+pub(crate) fn cut_at_colon(text: &str) -> Option<(&str, &str)>
     ensures { option_map (λ parts. (parts.0.now, parts.1.now)) result ≡ cut_at 58 text.now }
 {
     text.split_once(':')
 }
 
-fn is_plain(text: &str) -> bool
+/// Whether the text has at most one character, or its first character is not 0.
+pub(crate) fn is_plain(text: &str) -> bool
     ensures { result ≡ is_plain text.now }
 {
     text.len() <= 1 || text.as_bytes()[0] != b'0'
@@ -52,8 +53,10 @@ fn port_of(text: &str) -> Option<u16>
     }
 }
 
+/// Parses an IPv4 address such as 127.0.0.1: four numbers from 0 to 255 separated by periods. The numbers are decimal,
+/// without leading zeros.
 #[tactic(auto, unfolding(crate::specs::Addresses::host_of))]
-fn host_of(text: &str) -> Option<[u8; 4]>
+pub(crate) fn host_of(text: &str) -> Option<[u8; 4]>
     ensures { result ≡ host_of text.now }
 {
     let (first, rest) = cut_at_point(text)?;

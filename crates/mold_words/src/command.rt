@@ -2,10 +2,11 @@
 ghost use Rattle.std.specs.Prelude.{◌≡◌, IfOk, false, fold, map};
 ghost use Rattle.clap.specs.Words.{app_of, rule_of};
 ghost use Rattle.clap.specs.declared.builder.Command.TheViews.{out-Command as fields_of};
-ghost use Rattle.mold_words.specs.Words.{bare_app, command_app, mold_app, rule_for, with_command, with_option};
+ghost use Rattle.mold_words.specs.Words.{bare_app, command_app, first_commands, last_commands, mold_app, rule_for};
+ghost use Rattle.mold_words.specs.Words.{with_command, with_option};
 ghost use Rattle.mold_words.specs.Table.{command_of, option_of};
 
-use crate::table::{COMMANDS, CommandRow, Kind, OptionRow, value_name};
+use crate::table::{CommandRow, FIRST_COMMANDS, Kind, LAST_COMMANDS, OptionRow, value_name};
 use clap::{Arg, ArgAction, Command};
 use std::alloc::{AllocError, Global};
 
@@ -28,6 +29,10 @@ fn argument_of<'a>(alloc: Global, option: OptionRow) -> Arg<'a>
         Kind::Optional => argument
             .long(option.name)
             .action(ArgAction::Set)
+            .value_name(value),
+        Kind::Repeated => argument
+            .long(option.name)
+            .action(ArgAction::Append)
             .value_name(value),
         Kind::Required => argument
             .long(option.name)
@@ -92,20 +97,41 @@ fn with_command<'a>(
     program.subcommand(command)
 }
 
-// Returns the program with the command of each row.
-fn command_of_rows<'a>(alloc: Global, rows: &[CommandRow]) -> Result<Command<'a>, AllocError>
-    ensures { IfOk result (λ c. app_of c ≡ fold with_command bare_app (map command_of rows.now)) }
+// Adds the command of each row to the program.
+fn with_commands<'a>(
+    alloc: Global,
+    program: Command<'a>,
+    rows: &[CommandRow],
+) -> Result<Command<'a>, AllocError>
+    ensures { IfOk result (λ c. app_of c
+        ≡ fold with_command (app_of program.entry) (map command_of rows.now)) }
 {
-    let mut program = bare_command(alloc)?;
+    let mut program = program;
     for row in rows {
         program = with_command(alloc, program, *row)?;
     }
     Ok(program)
 }
 
+// Returns the program with its first commands.
+fn with_first_commands<'a>(alloc: Global) -> Result<Command<'a>, AllocError>
+    ensures { IfOk result (λ c. app_of c ≡ fold with_command bare_app first_commands) }
+{
+    let program = bare_command(alloc)?;
+    with_commands(alloc, program, &FIRST_COMMANDS)
+}
+
+// Adds the last commands to the program.
+fn with_last_commands<'a>(alloc: Global, program: Command<'a>) -> Result<Command<'a>, AllocError>
+    ensures { IfOk result (λ c. app_of c ≡ fold with_command (app_of program.entry) last_commands) }
+{
+    with_commands(alloc, program, &LAST_COMMANDS)
+}
+
 /// Returns the program with its commands and options. It fails only if an allocation fails.
 pub(crate) fn mold_command<'a>(alloc: Global) -> Result<Command<'a>, AllocError>
     ensures { IfOk result (λ c. app_of c ≡ mold_app) }
 {
-    command_of_rows(alloc, &COMMANDS)
+    let program = with_first_commands(alloc)?;
+    with_last_commands(alloc, program)
 }

@@ -1,12 +1,13 @@
 //! Laws of the command line: what `clap` accepts, and which orders the arguments give.
-ghost use Rattle.std.specs.Prelude.{◌≡◌, [], ◌∷◌, IfSome, IsTrue, List, None, codes, false, true};
+ghost use Rattle.std.specs.Prelude.{◌≡◌, [], ◌∷◌, IfSome, IsTrue, List, None, Some, codes, false, true};
 ghost use Rattle.clap.specs.Words.{Text, fault_of, subcommand_of};
 ghost use Rattle.clap.specs.declared.error.kind.ErrorKind.TheVariants.{DisplayHelp, DisplayVersion, UnknownArgument};
 ghost use Rattle.mold_input.specs.declared.message_format.MessageFormat.TheVariants.{Lines, Blocks, BlocksToEmpty};
 ghost use Rattle.mold_words.specs.Orders.{AreTaken, Say, order_of};
 ghost use Rattle.mold_words.specs.Arguments.{check_lines_wanted, check_wanted, dump_wanted, listen_wanted, loop_wanted};
-ghost use Rattle.mold_words.specs.Arguments.{pack_journal_wanted, pack_wanted, publish_wanted, serve_wanted};
-ghost use Rattle.mold_words.specs.Arguments.{show_wanted, sim_wanted, upgrade_wanted};
+ghost use Rattle.mold_words.specs.Arguments.{pack_journal_wanted, pack_wanted, publish_wanted, receive_wanted};
+ghost use Rattle.mold_words.specs.Arguments.{serve_wanted, show_wanted, sim_wanted, upgrade_wanted};
+ghost use Rattle.mold_words.specs.LinePorts.{bound_to, opened_as};
 ghost use Rattle.mold_words.specs.Words.{is_command, mold_app};
 
 /// `show` is accepted, and asks to show packets, as `--` alone does. `show --request` is accepted, and asks to show
@@ -254,6 +255,88 @@ pub fn listen_taken_law()
     ensures no_blocks { order_of
         (codes "listen" ∷ codes "--end-at-empty" ∷ codes "--session" ∷ codes "MKT" ∷ codes "--a" ∷ codes "0.0.0.0:0"
         ∷ codes "--b" ∷ codes "0.0.0.0:0" ∷ codes "--server" ∷ codes "0.0.0.0:0" ∷ []) ≡ None }
+{}
+
+/// `receive --session MKT --a ..` is accepted, and asks to print the session `MKT` from message 1 on, received on line A
+/// alone, without servers. The other options have their defaults. A line is an address or a descriptor, and each option
+/// replaces its default. `--learn` asks for the session of the first packet, and `--from-now` to start at its number.
+/// Refused are a command without a session, a multicast group, a source of line B without line B, a ceiling below the
+/// timeout, nine servers, and options that exclude each other.
+pub fn receive_taken_law()
+    ensures usual { Say
+        (codes "receive" ∷ codes "--session" ∷ codes "MKT" ∷ codes "--a" ∷ codes "127.0.0.1:9000" ∷ [])
+        (receive_wanted (record {
+          session = Some (codes "MKT       ");
+          next = Some 1;
+          lines = record { a = bound_to (127 ∷ 0 ∷ 0 ∷ 1 ∷ [], 9000); b = None; source_a = None; source_b = None };
+          servers = [];
+          window = 1048576;
+          requests = record {
+            patience = 0;
+            timeout = 50;
+            ceiling = 1000;
+            requests = 1000;
+            in_flight = 256;
+            give_up = 0;
+          };
+          audit = 65536;
+          quiet = 0;
+          stats = 0;
+          blocks = false;
+        })) }
+    ensures given { Say
+        (codes "receive" ∷ codes "--learn" ∷ codes "--from-now" ∷ codes "--a" ∷ codes "fd:3" ∷ codes "--b"
+        ∷ codes "fd:1023" ∷ codes "--source-a" ∷ codes "10.0.0.7" ∷ codes "--source-b" ∷ codes "10.0.1.7"
+        ∷ codes "--server" ∷ codes "10.0.0.9:26400" ∷ codes "--window" ∷ codes "1" ∷ codes "--server"
+        ∷ codes "10.0.0.8:26400" ∷ codes "--patience" ∷ codes "200" ∷ codes "--timeout" ∷ codes "60000"
+        ∷ codes "--ceiling" ∷ codes "60000" ∷ codes "--requests" ∷ codes "1" ∷ codes "--in-flight" ∷ codes "4096"
+        ∷ codes "--give-up" ∷ codes "1000" ∷ codes "--audit" ∷ codes "0" ∷ codes "--quiet" ∷ codes "86400"
+        ∷ codes "--stats" ∷ codes "60" ∷ codes "--blocks" ∷ [])
+        (receive_wanted (record {
+          session = None;
+          next = None;
+          lines = record {
+            a = opened_as 3;
+            b = Some (opened_as 1023);
+            source_a = Some (10 ∷ 0 ∷ 0 ∷ 7 ∷ []);
+            source_b = Some (10 ∷ 0 ∷ 1 ∷ 7 ∷ []);
+          };
+          servers = (10 ∷ 0 ∷ 0 ∷ 9 ∷ [], 26400) ∷ (10 ∷ 0 ∷ 0 ∷ 8 ∷ [], 26400) ∷ [];
+          window = 1;
+          requests = record {
+            patience = 200;
+            timeout = 60000;
+            ceiling = 60000;
+            requests = 1;
+            in_flight = 4096;
+            give_up = 1000;
+          };
+          audit = 0;
+          quiet = 86400;
+          stats = 60;
+          blocks = true;
+        })) }
+    ensures no_session { order_of (codes "receive" ∷ codes "--a" ∷ codes "127.0.0.1:9000" ∷ []) ≡ None }
+    ensures both_sessions { order_of
+        (codes "receive" ∷ codes "--a" ∷ codes "127.0.0.1:9000" ∷ codes "--session" ∷ codes "MKT" ∷ codes "--learn"
+        ∷ []) ≡ None }
+    ensures both_numbers { order_of
+        (codes "receive" ∷ codes "--a" ∷ codes "127.0.0.1:9000" ∷ codes "--learn" ∷ codes "--next" ∷ codes "1"
+        ∷ codes "--from-now" ∷ []) ≡ None }
+    ensures group { order_of
+        (codes "receive" ∷ codes "--a" ∷ codes "239.192.1.1:26477" ∷ codes "--learn" ∷ []) ≡ None }
+    ensures source { order_of
+        (codes "receive" ∷ codes "--a" ∷ codes "127.0.0.1:9000" ∷ codes "--learn" ∷ codes "--source-b"
+        ∷ codes "10.0.1.7" ∷ []) ≡ None }
+    ensures ceiling { order_of
+        (codes "receive" ∷ codes "--a" ∷ codes "127.0.0.1:9000" ∷ codes "--learn" ∷ codes "--timeout"
+        ∷ codes "1001" ∷ []) ≡ None }
+    ensures servers { order_of
+        (codes "receive" ∷ codes "--a" ∷ codes "fd:3" ∷ codes "--learn" ∷ codes "--server" ∷ codes "10.0.0.9:1"
+        ∷ codes "--server" ∷ codes "10.0.0.9:2" ∷ codes "--server" ∷ codes "10.0.0.9:3" ∷ codes "--server"
+        ∷ codes "10.0.0.9:4" ∷ codes "--server" ∷ codes "10.0.0.9:5" ∷ codes "--server" ∷ codes "10.0.0.9:6"
+        ∷ codes "--server" ∷ codes "10.0.0.9:7" ∷ codes "--server" ∷ codes "10.0.0.9:8" ∷ codes "--server"
+        ∷ codes "10.0.0.9:9" ∷ []) ≡ None }
 {}
 
 /// `loop --session MKT` is accepted, and asks to run the session `MKT` in one process. The limits are 1,400 bytes, the

@@ -28,6 +28,31 @@ pub(crate) enum NoOrder {
     Address {
         name: &'static str,
     },
+    /// The value of this option is neither an address nor a descriptor.
+    LinePort {
+        name: &'static str,
+    },
+    /// The value of this option is a multicast group.
+    Group {
+        name: &'static str,
+    },
+    /// The value of this option is not an IPv4 address.
+    Host {
+        name: &'static str,
+    },
+    /// Neither a session nor `--learn` is given.
+    NoSession,
+    /// Both of these options are given, which exclude each other.
+    Both {
+        first: &'static str,
+        second: &'static str,
+    },
+    /// `--source-b` is given without `--b`.
+    SourceWithoutLine,
+    /// More servers are given than `MAX_SERVERS`.
+    TooManyServers,
+    /// The ceiling is below the timeout.
+    Ceiling,
     /// The server's limit is below the publisher's.
     ServerLimit,
     /// The two file names are equal.
@@ -49,6 +74,12 @@ impl From<AllocError> for NoOrder {
     }
 }
 
+// Returns the text for an invalid value of an option.
+fn invalid_value(alloc: Global, name: &'static str, reason: &str) -> Result<String, AllocError> {
+    let value = value_name(name);
+    format!(in alloc; "error: invalid value for '--{name} <{value}>': {reason}\n")
+}
+
 impl NoOrder {
     ghost use Rattle.mold_words.specs.NoOrders.{is_address};
 
@@ -56,7 +87,13 @@ impl NoOrder {
     pub(crate) fn is_address(self) -> bool
         ensures { result ≡ is_address self }
     {
-        matches!(self, NoOrder::Address { name: _ })
+        matches!(
+            self,
+            NoOrder::Address { name: _ }
+                | NoOrder::LinePort { name: _ }
+                | NoOrder::Group { name: _ }
+                | NoOrder::Host { name: _ }
+        )
     }
 
     /// Returns the text for the user, in whole lines.
@@ -64,16 +101,12 @@ impl NoOrder {
         ensures { self ≡ NoOrder.Memory → is_err result ≡ true }
     {
         match self {
-            NoOrder::Command => String::from_str(alloc, "error: no command of the program\n"),
             NoOrder::Missing { name } => {
                 let value = value_name(name);
                 format!(in alloc; "error: '--{name} <{value}>' has no value\n")
             }
             NoOrder::Session { name } => {
-                let value = value_name(name);
-                format!(in alloc;
-                    "error: invalid value for '--{name} <{value}>': not 1 to 10 characters from space to ~\n"
-                )
+                invalid_value(alloc, name, "not 1 to 10 characters from space to ~")
             }
             NoOrder::Number { name, least, most } => {
                 let value = value_name(name);
@@ -82,23 +115,48 @@ impl NoOrder {
                 )
             }
             NoOrder::Address { name } => {
-                let value = value_name(name);
-                format!(in alloc;
-                    "error: invalid value for '--{name} <{value}>': not an address such as 127.0.0.1:9000\n"
+                invalid_value(alloc, name, "not an address such as 127.0.0.1:9000")
+            }
+            NoOrder::LinePort { name } => {
+                invalid_value(
+                    alloc,
+                    name,
+                    "not an address such as 127.0.0.1:9000, and not fd:3 to fd:1023",
                 )
             }
-            NoOrder::ServerLimit => String::from_str(
-                alloc,
-                "error: '--server-limit' is below '--limit'\n",
-            ),
-            NoOrder::SameFiles => {
-                String::from_str(alloc, "error: '--journal' and '--to' name one file\n")
+            NoOrder::Group { name } => {
+                invalid_value(alloc, name, "a multicast group, which mold-join joins")
             }
-            NoOrder::EndWithoutBlocks => String::from_str(
-                alloc,
-                "error: '--end-at-empty' requires '--blocks'\n",
-            ),
+            NoOrder::Host { name } => {
+                invalid_value(alloc, name, "not an IPv4 address such as 127.0.0.1")
+            }
+            NoOrder::Both { first, second } => {
+                format!(in alloc; "error: '--{first}' and '--{second}' exclude each other\n")
+            }
             NoOrder::Memory => Err(AllocError),
+            NoOrder::Command
+            | NoOrder::NoSession
+            | NoOrder::SourceWithoutLine
+            | NoOrder::TooManyServers
+            | NoOrder::Ceiling
+            | NoOrder::ServerLimit
+            | NoOrder::SameFiles
+            | NoOrder::EndWithoutBlocks => String::from_str(alloc, self.fixed_text()),
+        }
+    }
+
+    // Returns the text of a reason that names its options itself. It is empty for other reasons.
+    fn fixed_text(self) -> &'static str {
+        match self {
+            NoOrder::Command => "error: no command of the program\n",
+            NoOrder::NoSession => "error: '--session' or '--learn' is required\n",
+            NoOrder::SourceWithoutLine => "error: '--source-b' requires '--b'\n",
+            NoOrder::TooManyServers => "error: '--server' is given more than 8 times\n",
+            NoOrder::Ceiling => "error: '--ceiling' is below '--timeout'\n",
+            NoOrder::ServerLimit => "error: '--server-limit' is below '--limit'\n",
+            NoOrder::SameFiles => "error: '--journal' and '--to' name one file\n",
+            NoOrder::EndWithoutBlocks => "error: '--end-at-empty' requires '--blocks'\n",
+            _ => "",
         }
     }
 }

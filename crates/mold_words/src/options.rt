@@ -1,14 +1,13 @@
 //! Reads the values of a command's options from the matches of a parse.
 
-ghost use Rattle.std.specs.Prelude.{◌≡◌, ◌≤◌, IfOk, MatchResult, None, Some, false, option_map, string_bytes, true};
+ghost use Rattle.std.specs.Prelude.{◌≡◌, ◌≤◌, IfOk, MatchResult, None, Some, map, option_map, string_bytes, true};
 ghost use Rattle.std.specs.List.{list_all};
-ghost use Rattle.clap.specs.Words.{first_of, found_of, rows_of};
-ghost use Rattle.mold_words.specs.NoOrders.{LacksOrder, LacksValue, is_address};
-ghost use Rattle.mold_words.specs.Orders.{address_in, burst_in, flag_in, has_no_address, format_in, is_no_address};
-ghost use Rattle.mold_words.specs.Orders.{limit_in};
-ghost use Rattle.mold_words.specs.Orders.{limits_in, live_in, number_in, report_in, session_in, turns_in, window_in};
+ghost use Rattle.clap.specs.Words.{all_of, first_of, found_of, rows_of};
+ghost use Rattle.mold_words.specs.NoOrders.{LacksOrder, LacksValue};
+ghost use Rattle.mold_words.specs.Orders.{address_in, burst_in, flag_in, format_in, limit_in, limits_in, live_in};
+ghost use Rattle.mold_words.specs.Orders.{number_in, report_in, session_in, turns_in, window_in};
 ghost use Rattle.mold_words.specs.Values.{is_character};
-ghost use Rattle.mold_words.specs.Arguments.{address_view};
+ghost use Rattle.mold_words.specs.Addresses.{address_view};
 ghost use Rattle.mold_wire.specs.declared.limits.TheConstants.{MAX_BURST, MAX_WINDOW};
 ghost use Rattle.mold_wire.specs.declared.limits.TheConstants.{MAX_LIMIT, MIN_LIMIT};
 
@@ -104,6 +103,14 @@ pub(crate) fn text_in<'a>(options: &ArgMatches<'a>, name: &str) -> Option<&'a st
         ≡ first_of name.now (rows_of (found_of options.now)) }
 {
     options.get_str(name)
+}
+
+/// Returns all values of the option in the order in which they are given, if it has one.
+pub(crate) fn texts_in<'b, 'a>(options: &'b ArgMatches<'a>, name: &str) -> Option<&'b [&'a str]>
+    ensures { option_map (λ texts. map (λ text. text.now) texts.now) result
+        ≡ all_of name.now (rows_of (found_of options.now)) }
+{
+    options.get_strs(name)
 }
 
 /// Returns the maximum length of a datagram.
@@ -209,29 +216,4 @@ pub(crate) fn address_in(options: &ArgMatches<'_>, name: &'static str) -> Result
         Some(text) => address_of(text).ok_or(NoOrder::Missing { name }),
         None => Err(NoOrder::Missing { name }),
     }
-}
-
-// Refuses a value of the option that is not an address.
-fn check_address(options: &ArgMatches<'_>, name: &'static str) -> Result<(), NoOrder>
-    ensures { MatchResult result
-        (λ _. is_no_address (rows_of (found_of options.now)) name.now ≡ false)
-        (λ none. (is_no_address (rows_of (found_of options.now)) name.now ≡ true) × (is_address none ≡ true)) }
-{
-    match text_in(options, name) {
-        Some(text) if address_of(text).is_none() => Err(NoOrder::Address { name }),
-        _ => Ok(()),
-    }
-}
-
-/// Refuses values that are not addresses. The options that take addresses are known by their names.
-#[tactic(auto, unfolding(crate::specs::Orders::has_no_address))]
-pub(crate) fn check_addresses(options: &ArgMatches<'_>) -> Result<(), NoOrder>
-    ensures { MatchResult result
-        (λ _. has_no_address (rows_of (found_of options.now)) ≡ false)
-        (λ none. (has_no_address (rows_of (found_of options.now)) ≡ true) × (is_address none ≡ true)) }
-{
-    check_address(options, "a")?;
-    check_address(options, "b")?;
-    check_address(options, "server")?;
-    check_address(options, "bind")
 }

@@ -4,26 +4,29 @@ ghost use Rattle.std.specs.Prelude.{◌≡◌, ◌⊎◌, MatchResult, None, Som
 ghost use Rattle.clap.specs.Words.{found_of, rows_of, subcommand_rows_of};
 ghost use Rattle.mold_words.specs.NoOrders.{LacksOrder, is_address};
 ghost use Rattle.mold_words.specs.Orders.{check_of, dump_of, lacks_address, listen_of, loop_of, order_at, order_in};
-ghost use Rattle.mold_words.specs.Orders.{pack_of, publish_of, serve_of, show_of, sim_of, upgrade_of};
+ghost use Rattle.mold_words.specs.Orders.{pack_of, publish_of, receive_of, serve_of, show_of, sim_of, upgrade_of};
 ghost use Rattle.mold_words.specs.Arguments.{view};
 
+use crate::address_checks::check_addresses;
 use crate::dump_order::DumpOrder;
 use crate::listen_order::ListenOrder;
 use crate::loop_order::LoopOrder;
 use crate::no_order::NoOrder;
 use crate::options::{
-    address_in, burst_in, check_addresses, flag_in, format_in, limit_in, limits_in, live_in,
-    number_in, report_in, required_in, session_in, string_in, text_in, turns_in, window_in,
+    address_in, burst_in, flag_in, format_in, limit_in, limits_in, live_in, number_in, report_in,
+    required_in, session_in, string_in, text_in, turns_in, window_in,
 };
 use crate::pack_journal_order::PackJournalOrder;
 use crate::pack_order::PackOrder;
 use crate::publish_order::PublishOrder;
+use crate::receive_options::{learned_in, lines_in, requests_in, servers_in, start_in};
+use crate::receive_order::ReceiveOrder;
 use crate::serve_order::ServeOrder;
 use crate::sim_order::SimOrder;
 use crate::types::Order;
 use crate::upgrade_order::UpgradeOrder;
 use clap::ArgMatches;
-use mold_wire::MAX_NUMBER;
+use mold_wire::{MAX_NUMBER, MAX_WIDE_WINDOW};
 use std::alloc::Global;
 
 /// The greatest sequence number that a listener may start at.
@@ -38,7 +41,7 @@ pub(crate) fn order_from(alloc: Global, matches: &ArgMatches<'_>) -> Result<Orde
 {
     match matches.subcommand() {
         Some((name, options)) => {
-            check_addresses(options)?;
+            check_addresses(name, options)?;
             order_at(alloc, name, options)
         }
         None => Ok(Order::Show { request: false }),
@@ -60,6 +63,7 @@ fn order_at(alloc: Global, name: &str, options: &ArgMatches<'_>) -> Result<Order
         "publish" => publish_order(alloc, options),
         "serve" => serve_order(alloc, options),
         "listen" => listen_order(options),
+        "receive" => receive_order(alloc, options),
         "loop" => loop_order(options),
         "upgrade" => upgrade_order(alloc, options),
         "dump" => dump_order(alloc, options),
@@ -244,6 +248,44 @@ fn listen_order(options: &ArgMatches<'_>) -> Result<Order, NoOrder>
         live: live_in(options),
         report: report_in(options),
         output: format,
+    }))
+}
+
+#[tactic(auto, unfolding(crate::specs::Orders::receive_of))]
+fn receive_order(alloc: Global, options: &ArgMatches<'_>) -> Result<Order, NoOrder>
+    ensures { MatchResult result
+        (λ order. receive_of (rows_of (found_of options.now)) ≡ Some (view order))
+        (LacksOrder (receive_of (rows_of (found_of options.now)))) }
+{
+    let session = learned_in(options)?;
+    let next = start_in(options)?;
+    let lines = lines_in(options)?;
+    let widest = u64::from(MAX_WIDE_WINDOW);
+    let window = number_in(options, "window", widest, 1, widest)?;
+    let requests = requests_in(options)?;
+    let audit = number_in(options, "audit", 65_536, 0, 1_048_576)?;
+    let quiet = number_in(options, "quiet", 0, 0, 86_400)?;
+    let stats = number_in(options, "stats", 0, 0, 86_400)?;
+    let servers = servers_in(alloc, options)?;
+    Ok(Order::Receive(ReceiveOrder {
+        session,
+        next,
+        a: lines.a,
+        b: lines.b,
+        source_a: lines.source_a,
+        source_b: lines.source_b,
+        servers,
+        window: window as u32,
+        patience: requests.patience,
+        timeout: requests.timeout,
+        ceiling: requests.ceiling,
+        requests: requests.requests,
+        in_flight: requests.in_flight,
+        give_up: requests.give_up,
+        audit: audit as u32,
+        quiet: quiet as u32,
+        stats: stats as u32,
+        blocks: flag_in(options, "blocks"),
     }))
 }
 

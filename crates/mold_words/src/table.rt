@@ -7,6 +7,8 @@ pub enum Kind {
     Flag,
     /// An option with a value, which may be left out.
     Optional,
+    /// An option with a value, which may be given several times, or left out.
+    Repeated,
     /// An option with a value, which must be given.
     Required,
     /// A positional argument, which must be given.
@@ -48,6 +50,10 @@ pub(crate) fn value_name(option: &str) -> &'static str {
         "journal" | "to" => "FILE",
         "folder" => "FOLDER",
         "next" | "from" => "NUMBER",
+        "source-a" | "source-b" => "IP",
+        "patience" => "US",
+        "timeout" | "ceiling" => "MS",
+        "quiet" | "stats" => "SECONDS",
         _ => "COUNT",
     }
 }
@@ -147,8 +153,10 @@ const END_AT_EMPTY_BOTH: OptionRow = OptionRow {
         output with an empty block if the session is finished",
 };
 
-/// The commands, in the order in which help lists them.
-pub static COMMANDS: [CommandRow; 10] = [
+// For the prover, the commands are in two lists: the value of one list of all has too many bytes.
+
+/// The first commands, in the order in which help lists them.
+pub static FIRST_COMMANDS: [CommandRow; 7] = [
     CommandRow {
         name: "show",
         about: "Print packets given as lines of hexadecimal digits on standard input",
@@ -307,6 +315,126 @@ pub static COMMANDS: [CommandRow; 10] = [
         ],
         example: "Example:\n  mold listen --session SESSION001 --a 127.0.0.1:9001 --b 127.0.0.1:9002 \\\
             \n    --server 127.0.0.1:9003 --turns 1000000 > received",
+    },
+];
+
+/// The commands that follow the first ones in help.
+pub static LAST_COMMANDS: [CommandRow; 4] = [
+    CommandRow {
+        name: "receive",
+        about: "Receive a session on one or two lines, repair its gaps, and print the messages",
+        options: &[
+            OptionRow {
+                name: "session",
+                kind: Kind::Optional,
+                help: "The session's name, 1 to 10 characters from space to ~",
+            },
+            OptionRow {
+                name: "learn",
+                kind: Kind::Flag,
+                help: "Receive the session of the first data packet or heartbeat,\n\
+                    in place of --session",
+            },
+            OptionRow {
+                name: "next",
+                kind: Kind::Optional,
+                help: "The sequence number to start at, 1 to 9223372036854775807 [default: 1]",
+            },
+            OptionRow {
+                name: "from-now",
+                kind: Kind::Flag,
+                help: "Start at the sequence number of the first data packet or heartbeat of\n\
+                    the session, in place of --next",
+            },
+            OptionRow {
+                name: "a",
+                kind: Kind::Required,
+                help: "The address to receive line A on, such as 127.0.0.1:9000, or fd:N for\n\
+                    an open UDP socket with descriptor N, 3 to 1023; mold-join opens\n\
+                    sockets that receive multicast groups",
+            },
+            OptionRow {
+                name: "b",
+                kind: Kind::Optional,
+                help: "The same for line B, if there is one",
+            },
+            OptionRow {
+                name: "source-a",
+                kind: Kind::Optional,
+                help: "Ignore datagrams on line A from all senders except this IPv4 address",
+            },
+            OptionRow {
+                name: "source-b",
+                kind: Kind::Optional,
+                help: "The same for line B",
+            },
+            OptionRow {
+                name: "server",
+                kind: Kind::Repeated,
+                help: "An address that requests are sent to. May be given up to 8 times",
+            },
+            OptionRow {
+                name: "window",
+                kind: Kind::Optional,
+                help: "How many messages ahead can be stored, 1 to 1048576 [default: 1048576]",
+            },
+            OptionRow {
+                name: "patience",
+                kind: Kind::Optional,
+                help: "How long a message is missing before it is requested, in microseconds,\n\
+                    200 to 1000000 [default: adaptive]",
+            },
+            OptionRow {
+                name: "timeout",
+                kind: Kind::Optional,
+                help: "How long a request waits for its response before the next one, in\n\
+                    milliseconds, 1 to 60000 [default: 50]",
+            },
+            OptionRow {
+                name: "ceiling",
+                kind: Kind::Optional,
+                help: "The maximum to which the timeout doubles, in milliseconds, 1 to 600000\n\
+                    [default: 1000]. It is at least the timeout",
+            },
+            OptionRow {
+                name: "requests",
+                kind: Kind::Optional,
+                help: "The maximum number of requests in a second, 1 to 1000000\n\
+                    [default: 1000]",
+            },
+            OptionRow {
+                name: "in-flight",
+                kind: Kind::Optional,
+                help: "The maximum number of requests in flight, 1 to 4096 [default: 256]",
+            },
+            OptionRow {
+                name: "give-up",
+                kind: Kind::Optional,
+                help: "The number of unanswered requests after which the first missing\n\
+                    message is given up, 0 to 1000 [default: 0]. 0 never gives up",
+            },
+            OptionRow {
+                name: "audit",
+                kind: Kind::Optional,
+                help: "The number of delivered messages that later copies are compared with,\n\
+                    0 to 1048576 [default: 65536]",
+            },
+            OptionRow {
+                name: "quiet",
+                kind: Kind::Optional,
+                help: "End after this time without an accepted datagram, 0 to 86400\n\
+                    [default: 0]. 0 never ends",
+            },
+            OptionRow {
+                name: "stats",
+                kind: Kind::Optional,
+                help: "The time between two lines of statistics on standard error, 0 to 86400\n\
+                    [default: 0]. 0 prints none",
+            },
+            BLOCKS_OUT,
+        ],
+        example: "Example:\n  mold receive --session SESSION001 --a 127.0.0.1:9001 --b 127.0.0.1:9002 \\\
+            \n    --server 127.0.0.1:9003 > received",
     },
     CommandRow {
         name: "loop",

@@ -6,6 +6,7 @@ use crate::loop_order::LoopOrder;
 use crate::pack_journal_order::PackJournalOrder;
 use crate::pack_order::PackOrder;
 use crate::publish_order::PublishOrder;
+use crate::receive_order::ReceiveOrder;
 use crate::serve_order::ServeOrder;
 use crate::sim_order::SimOrder;
 use crate::upgrade_order::UpgradeOrder;
@@ -37,6 +38,9 @@ pub enum Order {
     Serve(ServeOrder),
     /// Prints the messages of a session that is received on two lines, and requests the missing ones.
     Listen(ListenOrder),
+    /// Prints the messages of a session that is received on one or two lines, and repairs gaps in the time that its
+    /// options give.
+    Receive(ReceiveOrder),
     /// Publishes a session, whose messages are read from standard input, and receives it in the same process.
     Loop(LoopOrder),
     /// Writes the journal of one file to another one, in the newest version of the format.

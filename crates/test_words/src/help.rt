@@ -14,6 +14,7 @@ Commands:
   publish  Publish messages from standard input on two lines
   serve    Serve requests for messages of a journal file
   listen   Receive a session on two lines, request what is missing, and print the messages
+  receive  Receive a session on one or two lines, repair its gaps, and print the messages
   loop     Publish, serve and listen in one process over ports of 127.0.0.1
   upgrade  Write a journal file anew, in version 2 of the format
   dump     Print the messages of a journal file
@@ -88,6 +89,52 @@ Example:
   mold check captures
 ";
 
+const RECEIVE_HELP: &str =
+    "Receive a session on one or two lines, repair its gaps, and print the messages
+
+Usage: mold receive [OPTIONS] --a <ADDRESS>
+
+Options:
+      --session <NAME>     The session's name, 1 to 10 characters from space to ~
+      --learn              Receive the session of the first data packet or heartbeat,
+                           in place of --session
+      --next <NUMBER>      The sequence number to start at, 1 to 9223372036854775807 [default: 1]
+      --from-now           Start at the sequence number of the first data packet or heartbeat of
+                           the session, in place of --next
+      --a <ADDRESS>        The address to receive line A on, such as 127.0.0.1:9000, or fd:N for
+                           an open UDP socket with descriptor N, 3 to 1023; mold-join opens
+                           sockets that receive multicast groups
+      --b <ADDRESS>        The same for line B, if there is one
+      --source-a <IP>      Ignore datagrams on line A from all senders except this IPv4 address
+      --source-b <IP>      The same for line B
+      --server <ADDRESS>   An address that requests are sent to. May be given up to 8 times
+      --window <MESSAGES>  How many messages ahead can be stored, 1 to 1048576 [default: 1048576]
+      --patience <US>      How long a message is missing before it is requested, in microseconds,
+                           200 to 1000000 [default: adaptive]
+      --timeout <MS>       How long a request waits for its response before the next one, in
+                           milliseconds, 1 to 60000 [default: 50]
+      --ceiling <MS>       The maximum to which the timeout doubles, in milliseconds, 1 to 600000
+                           [default: 1000]. It is at least the timeout
+      --requests <COUNT>   The maximum number of requests in a second, 1 to 1000000
+                           [default: 1000]
+      --in-flight <COUNT>  The maximum number of requests in flight, 1 to 4096 [default: 256]
+      --give-up <COUNT>    The number of unanswered requests after which the first missing
+                           message is given up, 0 to 1000 [default: 0]. 0 never gives up
+      --audit <COUNT>      The number of delivered messages that later copies are compared with,
+                           0 to 1048576 [default: 65536]
+      --quiet <SECONDS>    End after this time without an accepted datagram, 0 to 86400
+                           [default: 0]. 0 never ends
+      --stats <SECONDS>    The time between two lines of statistics on standard error, 0 to 86400
+                           [default: 0]. 0 prints none
+      --blocks             Print messages as message blocks (BinaryFILE), and all other text on
+                           standard error
+  -h, --help               Print help
+
+Example:
+  mold receive --session SESSION001 --a 127.0.0.1:9001 --b 127.0.0.1:9002 \\
+    --server 127.0.0.1:9003 > received
+";
+
 const UPGRADE_HELP: &str = "Write a journal file anew, in version 2 of the format
 
 Usage: mold upgrade [OPTIONS] --journal <FILE> --to <FILE>
@@ -129,6 +176,7 @@ const HELP: &[FaultLine] = &[
     ("pack --help", "help", PACK_HELP),
     ("sim --help", "help", SIM_HELP),
     ("check --help", "help", CHECK_HELP),
+    ("receive --help", "help", RECEIVE_HELP),
     ("upgrade --help", "help", UPGRADE_HELP),
     ("dump --help", "help", DUMP_HELP),
 ];

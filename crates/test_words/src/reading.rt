@@ -3,8 +3,8 @@
 
 use mold_input::MessageFormat;
 use mold_words::{
-    Address, ListenOrder, LoopOrder, Order, PublishOrder, ServeOrder, SimOrder, UsageFault,
-    read_words,
+    Address, LinePort, ListenOrder, LoopOrder, Order, PublishOrder, ReceiveOrder, ServeOrder,
+    SimOrder, UsageFault, read_words,
 };
 use std::alloc::{AllocError, Global};
 use std::process::Abort;
@@ -151,6 +151,63 @@ fn expect_listen(rt: &impl Abort, order: &ListenOrder, wanted: &Values<'_>, line
     same_values(rt, &found, wanted, line);
 }
 
+// The number of an IPv4 address: its bytes, the most significant one first. It is 0 if there is no address.
+fn host_number(host: Option<[u8; 4]>) -> u64 {
+    match host {
+        Some(host) => u64::from(u32::from_be_bytes(host)),
+        None => 0,
+    }
+}
+
+// The number of a port: a descriptor, or the bytes of the address followed by those of the port number. It is 0 if
+// there is no port.
+fn port_number(port: Option<LinePort>) -> u64 {
+    match port {
+        Some(LinePort::Address(address)) => {
+            let host = host_number(Some(address.host));
+            host.wrapping_mul(65536)
+                .wrapping_add(u64::from(address.port))
+        }
+        Some(LinePort::Descriptor(number)) => u64::from(number),
+        None => 0,
+    }
+}
+
+// The ports and the senders are numbers, and the addresses are those of the servers. A learned session is empty, and
+// the number of the first packet is 0.
+fn expect_receive(rt: &impl Abort, order: &ReceiveOrder, wanted: &Values<'_>, line: &str) {
+    let session: &[u8] = match &order.session {
+        Some(session) => session,
+        None => b"",
+    };
+    let numbers = [
+        order.next.unwrap_or(0),
+        port_number(Some(order.a)),
+        port_number(order.b),
+        host_number(order.source_a),
+        host_number(order.source_b),
+        u64::from(order.window),
+        u64::from(order.patience),
+        u64::from(order.timeout),
+        u64::from(order.ceiling),
+        u64::from(order.requests),
+        u64::from(order.in_flight),
+        u64::from(order.give_up),
+        u64::from(order.audit),
+        u64::from(order.quiet),
+        u64::from(order.stats),
+        u64::from(order.blocks),
+    ];
+    let found = Values {
+        command: "receive",
+        session,
+        numbers: &numbers,
+        addresses: order.servers.as_slice(),
+        texts: &[],
+    };
+    same_values(rt, &found, wanted, line);
+}
+
 fn expect_loop(rt: &impl Abort, order: &LoopOrder, wanted: &Values<'_>, line: &str) {
     let numbers = [
         order.limits.limit as u64,
@@ -224,6 +281,7 @@ fn expect_order(rt: &impl Abort, order: &Order, wanted: &Values<'_>, line: &str)
         Order::Publish(order) => expect_publish(rt, order, wanted, line),
         Order::Serve(order) => expect_serve(rt, order, wanted, line),
         Order::Listen(order) => expect_listen(rt, order, wanted, line),
+        Order::Receive(order) => expect_receive(rt, order, wanted, line),
         Order::Loop(order) => expect_loop(rt, order, wanted, line),
         Order::Upgrade(order) => {
             let texts = [order.journal.as_str(), order.to.as_str()];

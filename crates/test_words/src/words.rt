@@ -276,6 +276,145 @@ fn arguments_of_listen(rt: HostRuntime) {
     expect_orders(&rt, LISTEN);
 }
 
+// The first message, the ports and the senders of lines A and B, the window, the numbers of the requests, the audit,
+// the seconds of --quiet and --stats, and --blocks. The addresses are those of the servers.
+const RECEIVE: &[OrderLine] = &[
+    (
+        "receive --session MKT --a 127.0.0.1:9000",
+        Values {
+            command: "receive",
+            session: b"MKT       ",
+            numbers: &[
+                1,
+                0x7F00_0001_2328,
+                0,
+                0,
+                0,
+                1_048_576,
+                0,
+                50,
+                1000,
+                1000,
+                256,
+                0,
+                65536,
+                0,
+                0,
+                0,
+            ],
+            addresses: &[],
+            texts: &[],
+        },
+    ),
+    (
+        "receive --learn --from-now --a fd:3 --b 10.0.0.7:65535 --source-a 10.1.0.1 --source-b 10.1.0.2 \
+            --server 10.0.0.9:1 --window 1 --server 10.0.0.9:2 --patience 200 --timeout 60000 \
+            --ceiling 600000 --requests 1000000 --in-flight 4096 --give-up 1000 --audit 1048576 \
+            --quiet 86400 --stats 86400 --blocks",
+        Values {
+            command: "receive",
+            session: b"",
+            numbers: &[
+                0,
+                3,
+                0x0A00_0007_FFFF,
+                0x0A01_0001,
+                0x0A01_0002,
+                1,
+                200,
+                60000,
+                600_000,
+                1_000_000,
+                4096,
+                1000,
+                1_048_576,
+                86400,
+                86400,
+                1,
+            ],
+            addresses: &[
+                Address {
+                    host: [10, 0, 0, 9],
+                    port: 1,
+                },
+                Address {
+                    host: [10, 0, 0, 9],
+                    port: 2,
+                },
+            ],
+            texts: &[],
+        },
+    ),
+    (
+        "receive --learn --next 9223372036854775807 --a fd:1023 --b fd:4 --patience 1000000 --timeout 1 \
+            --ceiling 1 --requests 1 --in-flight 1 --audit 0 --server 10.0.0.9:1 --server 10.0.0.9:2 \
+            --server 10.0.0.9:3 --server 10.0.0.9:4 --server 10.0.0.9:5 --server 10.0.0.9:6 \
+            --server 10.0.0.9:7 --server 10.0.0.9:8",
+        Values {
+            command: "receive",
+            session: b"",
+            numbers: &[
+                9_223_372_036_854_775_807,
+                1023,
+                4,
+                0,
+                0,
+                1_048_576,
+                1_000_000,
+                1,
+                1,
+                1,
+                1,
+                0,
+                0,
+                0,
+                0,
+                0,
+            ],
+            addresses: &[
+                Address {
+                    host: [10, 0, 0, 9],
+                    port: 1,
+                },
+                Address {
+                    host: [10, 0, 0, 9],
+                    port: 2,
+                },
+                Address {
+                    host: [10, 0, 0, 9],
+                    port: 3,
+                },
+                Address {
+                    host: [10, 0, 0, 9],
+                    port: 4,
+                },
+                Address {
+                    host: [10, 0, 0, 9],
+                    port: 5,
+                },
+                Address {
+                    host: [10, 0, 0, 9],
+                    port: 6,
+                },
+                Address {
+                    host: [10, 0, 0, 9],
+                    port: 7,
+                },
+                Address {
+                    host: [10, 0, 0, 9],
+                    port: 8,
+                },
+            ],
+            texts: &[],
+        },
+    ),
+];
+
+#[test]
+fn arguments_of_receive(rt: HostRuntime) {
+    expect_orders(&rt, RECEIVE);
+}
+
 // Both limits, the window, the burst, the drops of line A and line B, the turns, `--report`, and the format.
 const LOOP: &[OrderLine] = &[(
     "loop --session MKT --limit 64 --server-limit 65 --window 4 --burst 2 --drop-a \

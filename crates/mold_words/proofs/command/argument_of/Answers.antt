@@ -1,6 +1,6 @@
 use Rattle.std.proofs.Common.{ap, Some, true}
 use Rattle.clap.specs.Words.{Rule}
-use Rattle.clap.specs.declared.builder.ArgAction.TheVariants.{Set, SetTrue}
+use Rattle.clap.specs.declared.builder.ArgAction.TheVariants.{Append, Set, SetTrue}
 use Rattle.mold_words.proofs.command.argument_of.Goals as goal
 
 pub returns-in-Flag-clause-rule : goal.returns-in-Flag-clause-rule
@@ -18,6 +18,18 @@ returns-in-Optional-clause-rule c =
       c.help-argument.ensures,
     )
     (ap (λ (rule : Rule). record rule { long = Some c.args.option.name.now; action = Some Set; value_names = 1 })
+    c.new.ensures.rule)
+
+pub returns-in-Repeated-clause-rule : goal.returns-in-Repeated-clause-rule
+returns-in-Repeated-clause-rule c =
+    rw (
+      c.in-Repeated.is,
+      c.value_name-in-Repeated.ensures,
+      c.action-in-Repeated.ensures,
+      c.long-in-Repeated.ensures,
+      c.help-argument.ensures,
+    )
+    (ap (λ (rule : Rule). record rule { long = Some c.args.option.name.now; action = Some Append; value_names = 1 })
     c.new.ensures.rule)
 
 pub returns-in-Required-clause-rule : goal.returns-in-Required-clause-rule

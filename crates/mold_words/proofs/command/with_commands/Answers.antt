@@ -1,10 +1,10 @@
 use Rattle.std.proofs.Common.{◌∙◌, sym, ap, arith, [], get_or}
-use Rattle.clap.specs.Words.{App}
-use Rattle.mold_words.specs.Words.{bare_app, with_command}
+use Rattle.clap.specs.Words.{App, app_of}
+use Rattle.mold_words.specs.Words.{with_command}
 use Rattle.mold_words.specs.Table.{command_of}
 use Rattle.mold_words.specs.declared.table.CommandRow.{CommandRow}
 use Rattle.mold_words.proofs.FoldLemmas.{fold-map_more}
-use Rattle.mold_words.proofs.command.command_of_rows.Goals as goal
+use Rattle.mold_words.proofs.command.with_commands.Goals as goal
 
 -- the element that an index after the end of the list reads as
 no_row : CommandRow
@@ -20,5 +20,5 @@ unfolding no_row
 loop-row-preserved c =
     let i = c.loop-row.row-index in
     let added : App → App = λ app. with_command app (command_of (get_or c.args.rows.now i no_row)) in
-    c.in_ok-program-2.ensures ∙ ap added c.loop-row.invariant
-    ∙ sym (fold-map_more with_command bare_app command_of c.args.rows.now i no_row (omega arith))
+    c.in_ok-program.ensures ∙ ap added c.loop-row.invariant
+    ∙ sym (fold-map_more with_command (app_of c.args.program) command_of c.args.rows.now i no_row (omega arith))

@@ -1,8 +1,0 @@
-use Rattle.std.proofs.Common.{◌≡◌, fold, map, take}
-use Rattle.clap.specs.Words.{app_of}
-use Rattle.mold_words.specs.Words.{bare_app, with_command}
-use Rattle.mold_words.specs.Table.{command_of}
-use Rattle.mold_words.proofs.command.command_of_rows.Given as goal
-
-abbrev pub invariant-loop-row : goal.invariant-loop-row
-invariant-loop-row l = app_of l.program ≡ fold with_command bare_app (map command_of (take l.row-index l.fn.rows))
