@@ -1,4 +1,5 @@
 pub mod Addresses
 pub mod Ending
 pub mod File
+pub mod Receiving
 pub mod Wiring

@@ -9,6 +9,7 @@ mod listening;
 mod opening;
 mod program_fault;
 mod publishing;
+mod receiving;
 mod serving;
 
 pub use addresses::{peer_address, socket_address};
@@ -18,4 +19,5 @@ pub use listening::make_arbiter;
 pub use opening::open_port;
 pub use program_fault::ProgramFault;
 pub use publishing::make_publisher;
+pub use receiving::{make_repairer, repair_options};
 pub use serving::{load_journal, make_server, print_file_refusal};
