@@ -68,7 +68,7 @@ WITHOUT_PROGRAM = (
     Part("tests/repair-network gate 200", (), DRIVER),
 )
 # Lanes run in parallel; the parts of a lane run one after the other. The parts of the first lane use fixed ports and mostly
-# wait. In the second lane each process has a separate loopback address.
+# wait. In the second lane, and in tests/repair, each process has a separate loopback address.
 LANES = (
     (
         over_program("tests/program-checks", "try", "mold", "examples/*", "tests/checks.sh", "tests/table*",
@@ -90,6 +90,8 @@ LANES = (
         over_program("tests/manual", "docs/*.1", "mold-join", "completions/*"),
         over_program("tests/install", "install.sh", "mold", "mold-join", "docs/*.1", "completions/*", "LICENSE*",
                      "library/*", "tests/checks.sh"),
+        # Longer conditions of the network are not part of the gate.
+        over_program("tests/repair"),
     ),
 )
 
