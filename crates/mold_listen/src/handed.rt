@@ -58,8 +58,8 @@ fn length_bytes(message: &[u8]) -> [u8; 2]
     [(len / 256 % 256) as u8, (len % 256) as u8]
 }
 
-// Appends the block of a message.
-fn push_block(out: &mut Vec<u8>, message: &[u8]) -> Result<(), AllocError>
+/// Appends the block of a message. An error means out of memory; the bytes after the former text are then meaningless.
+pub(crate) fn push_block(out: &mut Vec<u8>, message: &[u8]) -> Result<(), AllocError>
     ensures text { OnOk result (out.new.items ≡ out.old.items ++ block message.now) }
     ensures kept { OnErr result (take (length out.old.items) out.new.items ≡ out.old.items) }
 {

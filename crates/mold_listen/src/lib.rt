@@ -14,5 +14,5 @@ pub use ending::push_end;
 pub use listen_options::ListenOptions;
 pub use listen_ports::ListenPorts;
 pub use listening::{listen, listen_loop, push_last};
-pub use printer::{Printer, print_handed};
+pub use printer::{Printer, print_handed, print_message};
 pub use receiving::receive_on;

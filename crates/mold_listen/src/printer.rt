@@ -3,13 +3,13 @@
 ghost use Rattle.std.specs.Prelude.{◌≡◌, length, take, OnErr, OnOk};
 ghost use Rattle.mold_input.specs.declared.message_format.MessageFormat.TheVariants.{BlocksToEmpty};
 ghost use Rattle.mold_listen.specs.Listening.{progress, taken, with_handed};
-ghost use Rattle.mold_listen.specs.Text.{handed_text, printable, stop_after};
+ghost use Rattle.mold_listen.specs.Text.{handed_text, message_text, printable, stop_after};
 ghost use Rattle.mold_turns.specs.Outgoing.{KeepsSide, nothing_in, with_more, with_note, with_stop};
 ghost use Rattle.mold_turns.specs.Runs.{Begins};
 ghost use Rattle.mold_receiver.specs.Origin.{line_of};
 ghost use Rattle.mold_text.specs.Text.{refusal_words, refused_line};
 
-use crate::handed::{push_blocks, push_lines, push_to_empty};
+use crate::handed::{push_block, push_blocks, push_lines, push_to_empty};
 use mold_input::MessageFormat;
 use mold_receiver::{Arbiter, Batch, Origin, Refusal};
 use mold_text::{Word, push_refusal};
@@ -44,6 +44,23 @@ pub fn print_handed(outgoing: &mut Outgoing, batch: &Batch) -> Result<(), AllocE
         MessageFormat::Lines => push_lines(&mut outgoing.text, batch),
         MessageFormat::Blocks => push_blocks(&mut outgoing.text, batch),
         MessageFormat::BlocksToEmpty => print_to_empty(outgoing, batch),
+    }
+}
+
+/// Appends the line or the block of a message, in the format of `outgoing`. An error means out of memory; the bytes
+/// after the former text are then meaningless.
+pub fn print_message(outgoing: &mut Outgoing, number: u64, message: &[u8]) -> Result<(), AllocError>
+    ensures text { OnOk result
+        (outgoing.new ≡ with_more (message_text outgoing.old.format number message.now) outgoing.old) }
+    ensures kept { OnErr result (take (length outgoing.old.text) outgoing.new.text ≡ outgoing.old.text) }
+    ensures keeps { KeepsSide outgoing.old outgoing.new }
+{
+    match outgoing.format() {
+        MessageFormat::Lines => outgoing.push_line(&[Word::Number(number), Word::Message(message)]),
+        MessageFormat::Blocks | MessageFormat::BlocksToEmpty => push_block(
+            &mut outgoing.text,
+            message,
+        ),
     }
 }
 

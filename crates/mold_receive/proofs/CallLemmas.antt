@@ -3,6 +3,7 @@ use Rattle.std.proofs.Common.{◌≡◌, ℕ, suc, length, ◌+◌, ◌++◌, []
 use Rattle.std.proofs.KnownBytes.{Appends-nil, Appends-trans}
 use Rattle.std.specs.Io.KnownBytes.{Appends}
 use Rattle.mold_devices.specs.Devices.{AppendsPrefix}
+use Rattle.mold_devices.specs.Writing.{Moves}
 use Rattle.std.specs.Prelude.{Result, Ok, Err, IfOk, OnErr, OnOk, Option, None, Some, false, if◌then◌else◌, slice_get, take}
 use Rattle.mold_input.specs.declared.message_format.MessageFormat.{MessageFormat}
 use Rattle.mold_input.specs.declared.message_format.MessageFormat.TheVariants.{Lines, Blocks, BlocksToEmpty}
@@ -198,21 +199,15 @@ pub received_yet : {P : Type 0} (lines : ℕ) (servers : List P) (format : Messa
 received_yet lines servers format modeled state =
     received_none lines servers format modeled state state refl (λ is. refl) (λ is. refl) refl
 
--- the format of a state is still none that ends at an empty message
-pub still_plain : (old new : MessageFormat) → new ≡ old → (old ≡ BlocksToEmpty → ⊥) → new ≡ BlocksToEmpty → ⊥
-still_plain old new same plain ends = plain (sym same ∙ ends)
-
 -- the text after messages were given up, and what was stored after them was printed
-pub lost_printed : (old mid new : OutgoingState) (lost : Option Gap) (number : ℕ) (messages : List Message) →
-    mid.text ≡ old.text ++ lost_text old.format lost → mid.format ≡ old.format → new ≡ with_handed number messages mid →
-    (old.format ≡ BlocksToEmpty → ⊥) →
-    new.text ≡ old.text ++ (lost_text old.format lost ++ handed_text old.format number messages)
-lost_printed old mid new lost number messages line same printed plain =
-    ap (λ (o : OutgoingState). o.text) printed
-    ∙ handed_after mid number messages (still_plain old.format mid.format same plain)
-    ∙ ap (λ (f : MessageFormat). mid.text ++ handed_text f number messages) same
-    ∙ ap (λ (t : List ℕ). t ++ handed_text old.format number messages) line
-    ∙ append_assoc old.text (lost_text old.format lost) (handed_text old.format number messages)
+pub lost_printed : (format other : MessageFormat) (before mid : List ℕ) (lost : Option Gap) (number : ℕ)
+    (messages : List Message) → mid ≡ before ++ lost_text format lost → other ≡ format →
+    mid ++ handed_text other number messages
+    ≡ before ++ (lost_text format lost ++ handed_text format number messages)
+lost_printed format other before mid lost number messages line same =
+    ap (λ (f : MessageFormat). mid ++ handed_text f number messages) same
+    ∙ ap (λ (t : List ℕ). t ++ handed_text format number messages) line
+    ∙ append_assoc before (lost_text format lost) (handed_text format number messages)
 
 -- a poll prints nothing
 pub poll_printed : (format : MessageFormat) (text : List ℕ) →
@@ -326,6 +321,19 @@ pub failed_write : {P : Type 0} (lines : ℕ) (servers : List P) (format : Messa
     HasFailed lines servers format modeled old held_old held_new
 failed_write lines servers format modeled old new held_old held_new text has same front =
     record { end = new; received = has; front = subst (λ (t : List ℕ). AppendsPrefix held_old held_new t) (sym same) front }
+
+-- a part of a call's text was written
+pub written_one : {P : Type 0} (lines : ℕ) (servers : List P) (format : MessageFormat) (modeled : Bool)
+    (old : ReceiverState P) (repairer : Repairer) (ports : PortSetState P) (text left : List ℕ)
+    (held_old held_new : Option (List ℕ)) →
+    HasReceived lines servers format modeled old
+    (record { repairer = repairer; ports = ports; text = text }) → Moves held_old held_new text left →
+    HasWritten lines servers format modeled old (record { repairer = repairer; ports = ports; text = left })
+    held_old held_new
+written_one {P = P} lines servers format modeled old repairer ports text left held_old held_new has moved =
+    written_some lines servers format modeled old
+    (record { repairer = repairer; ports = ports; text = text }) held_old held_new moved.front left has moved.parts
+    moved.appended
 
 -- calls with the format of an earlier state
 pub received_as : {P : Type 0} (lines : ℕ) (servers : List P) (format other : MessageFormat) (modeled : Bool)

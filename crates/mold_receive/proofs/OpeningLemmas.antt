@@ -24,18 +24,6 @@ none_then : (session : Option Session) (some more : List Given) → NoneOpens se
 none_then session [] more first last = last
 none_then session (datagram ∷ some) more first last = (first.0, none_then session some more first.1 last)
 
--- the ports gave nothing
-pub awaited_none : {P : Type 0} (lines : ℕ) (session : Option Session) (modeled : Bool) (old new : PortSetState P) →
-    (modeled ≡ true → new.given ≡ old.given) → (modeled ≡ true → new.sent ≡ old.sent) →
-    HasAwaited lines session modeled old new None
-awaited_none lines session modeled old new given sent = record {
-  passed = [];
-  foreign = tt;
-  given = λ is. given is ∙ sym (append-nil old.given);
-  sent = sent;
-  is = tt;
-}
-
 -- the ports gave one datagram
 pub awaited_one : {P : Type 0} (lines : ℕ) (session : Option Session) (modeled : Bool) (old new : PortSetState P) (origin : RepairOrigin)
     (bytes : List ℕ) (came : Came) → HasLooked session origin bytes came →

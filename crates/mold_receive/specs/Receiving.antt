@@ -1,9 +1,10 @@
 -- The calls that a receiver over ports makes of its repairer, and what they print and send.
 use Rattle.std.specs.Prelude.{◌≡◌, ℕ, ◌+◌, ◌-◌, ◌&&◌, ◌==◌, Bool, true, false, if◌then◌else◌}
 use Rattle.std.specs.Prelude.{codes, decimal}
-use Rattle.std.specs.Prelude.{List, [], ◌∷◌, ◌++◌, slice_get, Option, None, Some}
+use Rattle.std.specs.Prelude.{List, [], ◌∷◌, ◌++◌, slice_get, Option, None, Some, Result, OnErr, OnOk}
 use Rattle.std.specs.Io.KnownBytes.{Appends}
 use Rattle.mold_devices.specs.Devices.{AppendsPrefix}
+use Rattle.mold_devices.specs.Writing.{Moves}
 use Rattle.mold_input.specs.declared.message_format.MessageFormat.{MessageFormat}
 use Rattle.mold_input.specs.declared.message_format.MessageFormat.TheVariants.{Lines, Blocks}
 use Rattle.mold_listen.specs.Listening.{ends_at}
@@ -106,6 +107,15 @@ pub record HasCalled (format : MessageFormat) (step : RepairStep) (ask : Option 
   pub stepped : call.step ≡ step
   pub asked : call.outcome.ask ≡ ask
   pub printed : after ≡ before ++ call_text format call
+
+-- One call was made of the repairer, as in `HasCalled`. Its text joined the text `before`, which was not written yet.
+-- After a success a prefix of both was written, and `after` is the rest. After a fault some prefix was written.
+pub record HasPrinted {T E : Type 0} (format : MessageFormat) (step : RepairStep) (ask : Option Ask) (old new : Repairer)
+    (before after : List ℕ) (held_old held_new : Option (List ℕ)) (result : Result T E) : Type 0 where
+  pub text : List ℕ
+  pub called : HasCalled format step ask old new before text
+  pub moved : OnOk result (Moves held_old held_new text after)
+  pub front : OnErr result (AppendsPrefix held_old held_new text)
 
 -- A receiver over ports: its repairer, its ports, and all text that it has printed.
 pub record ReceiverState (P : Type 0) : Type 0 where

@@ -1,22 +1,22 @@
 //! A receiver over ports: what it does in a turn.
 
 ghost use Rattle.std.specs.Prelude.{◌≡◌, ◌+◌, ◌<◌, ◌≤◌, ◌^◌, ◌++◌, [], ℕ, IfOk, List, None, length, take, OnErr, OnOk};
-ghost use Rattle.mold_input.specs.declared.message_format.MessageFormat.TheVariants.{BlocksToEmpty};
-ghost use Rattle.mold_receive.specs.Receiving.{HasBroken, HasCalled, HasEnded, HasFailed, HasReceived};
-ghost use Rattle.mold_receive.specs.Receiving.{HasRun, HasWritten, datagram_of_first, last_line};
-ghost use Rattle.mold_receive.specs.Receiving.{last_status, lost_text, port_of};
-ghost use Rattle.mold_receive.specs.Receiving.{state_of};
-ghost use Rattle.mold_repair.specs.declared.origin.RepairOrigin.TheVariants.{Line as OnLine};
-ghost use Rattle.mold_repair.specs.declared.step.RepairStep.TheVariants.{Take};
-ghost use Rattle.mold_turns.specs.Outgoing.{note_text};
-ghost use Rattle.mold_turns.specs.Runs.{Begins};
 ghost use Rattle.std.specs.Io.KnownBytes.{Appends};
 ghost use Rattle.mold_devices.specs.Devices.{AppendsPrefix};
+ghost use Rattle.mold_input.specs.declared.message_format.MessageFormat.TheVariants.{BlocksToEmpty};
+ghost use Rattle.mold_receive.specs.Receiving.{HasBroken, HasEnded, HasFailed, HasPrinted, HasReceived, HasRun};
+ghost use Rattle.mold_receive.specs.Receiving.{HasWritten, datagram_of_first, last_line, last_status, lost_text};
+ghost use Rattle.mold_receive.specs.Receiving.{port_of, state_of};
+ghost use Rattle.mold_repair.specs.Run.{HasLostSome, HasTaken, delivers};
+ghost use Rattle.mold_repair.specs.declared.origin.RepairOrigin.TheVariants.{Line as OnLine};
+ghost use Rattle.mold_repair.specs.declared.step.RepairStep.TheVariants.{Take};
+ghost use Rattle.mold_turns.specs.Outgoing.{IsBounded, note_text};
 
 use crate::calls;
 use crate::first_packet::FirstPacket;
 use crate::last_line::{last_status, push_last};
 use crate::lines::{name_of, push_refused_from};
+use crate::printing::print_batch;
 use crate::receive_options::{NEVER, ReceiveOptions};
 use crate::reporting::Reporting;
 use crate::statistics::Statistics;
@@ -61,6 +61,7 @@ impl<D: PortSet + Drop> FeedReceiver<D> {
         datagram: &[u8],
     ) -> Result<(), AllocError>
         ensures repairer { self.new.repairer ≡ self.old.repairer }
+        ensures batch { self.new.batch ≡ self.old.batch }
         ensures ports { self.new.ports ≡ self.old.ports }
         ensures text { self.new.outgoing.text ≡ self.old.outgoing.text }
         ensures format { self.new.outgoing.format ≡ self.old.outgoing.format }
@@ -75,14 +76,14 @@ impl<D: PortSet + Drop> FeedReceiver<D> {
         push_refused_from(&mut self.outgoing.side, origin, why, datagram)
     }
 
-    // Takes a datagram of this origin. Prints what it delivers, or why it is refused.
-    fn take(&mut self, origin: RepairOrigin, datagram: &[u8]) -> Result<(), AllocError>
-        requires plain { self.old.outgoing.format ≡ BlocksToEmpty → ⊥ }
-        ensures called { OnOk result (HasCalled self.old.outgoing.format
-            (Take (D.state self.old.ports).now origin datagram.entry) None self.old.repairer self.new.repairer
-            self.old.outgoing.text self.new.outgoing.text) }
+    // Takes a datagram of this origin. The batch then has what it delivers. If it is refused, a line with the reason is
+    // printed, unless such a line was printed a short time ago.
+    fn deliver(&mut self, origin: RepairOrigin, datagram: &[u8]) -> Result<(), AllocError>
+        ensures taken { HasTaken self.old.repairer self.new.repairer (D.state self.old.ports).now origin datagram.now
+            self.new.batch }
+        ensures options { self.new.repairer.options ≡ self.old.repairer.options }
         ensures ports { self.new.ports ≡ self.old.ports }
-        ensures prints { Begins self.old.outgoing.text self.new.outgoing.text }
+        ensures text { self.new.outgoing.text ≡ self.old.outgoing.text }
         ensures format { self.new.outgoing.format ≡ self.old.outgoing.format }
     {
         self.batch.clear();
@@ -90,14 +91,35 @@ impl<D: PortSet + Drop> FeedReceiver<D> {
         match calls::take(&mut self.repairer, now, origin, datagram, &mut self.batch) {
             Ok(()) => {
                 self.reporting.accept(now);
-                print_handed(&mut self.outgoing, &self.batch)
+                Ok(())
             }
             Err(Refusal::Memory) => Err(AllocError),
             Err(why) => self.refuse(origin, why, datagram),
         }
     }
 
-    // Takes the first packet, if there is one. The ports gave it before.
+    // Takes a datagram of this origin. Prints what it delivers, or why it is refused. Writes the text when it is large.
+    fn take<K: Sink>(
+        &mut self,
+        origin: RepairOrigin,
+        datagram: &[u8],
+        sink: &mut K,
+    ) -> Result<(), CommandFault>
+        ensures called { HasPrinted self.old.outgoing.format
+            (Take (D.state self.old.ports).now origin datagram.entry) None self.old.repairer self.new.repairer
+            self.old.outgoing.text self.new.outgoing.text (K.held sink.old) (K.held sink.new) result }
+        ensures ports { self.new.ports ≡ self.old.ports }
+        ensures bounded { OnOk result (IsBounded (K.live sink.old) self.new.outgoing.text) }
+        ensures format { self.new.outgoing.format ≡ self.old.outgoing.format }
+    {
+        let Ok(()) = self.deliver(origin, datagram) else {
+            let len = self.outgoing.unwritten();
+            return Err(self.outgoing.end_with(len, CommandFault::Memory, sink));
+        };
+        print_batch(&mut self.outgoing, &self.batch, sink)
+    }
+
+    // Takes the first packet, if there is one. The ports gave it before. Prints what it delivers.
     pub(crate) fn take_first(&mut self, first: &Option<FirstPacket>) -> Result<(), AllocError>
         requires plain { self.old.outgoing.format ≡ BlocksToEmpty → ⊥ }
         ensures ran { OnOk result ((lines : ℕ) (servers : List D.Peer) → HasRun lines servers
@@ -105,30 +127,33 @@ impl<D: PortSet + Drop> FeedReceiver<D> {
             (state_of D.state self.old) (state_of D.state self.new)) }
         ensures format { self.new.outgoing.format ≡ self.old.outgoing.format }
     {
-        match first {
-            Some(first) => self.take(first.origin, first.datagram.as_slice()),
-            None => Ok(()),
-        }
+        let Some(first) = first else {
+            return Ok(());
+        };
+        self.deliver(first.origin, first.datagram.as_slice())?;
+        print_handed(&mut self.outgoing, &self.batch)
     }
 
     // Takes the datagram that is at the port, if there is one. Returns whether there was one.
-    fn receive(
+    fn receive_one<K: Sink>(
         &mut self,
         options: &ReceiveOptions<D::Peer>,
-        origin: RepairOrigin,
         port: usize,
         buffer: &mut [u8],
-    ) -> Result<bool, AllocError>
-        requires plain { self.old.outgoing.format ≡ BlocksToEmpty → ⊥ }
-        requires port { port ≡ port_of options.now.lines origin }
-        ensures received { OnOk result (HasReceived options.now.lines options.now.servers.items self.old.outgoing.format
-            D.modeled (state_of D.state self.old) (state_of D.state self.new)) }
-        ensures prints { Begins self.old.outgoing.text self.new.outgoing.text }
+        sink: &mut K,
+    ) -> Result<bool, CommandFault>
+        requires port { port < options.now.lines + 2 ^ 32 }
+        ensures written { OnOk result (HasWritten options.now.lines options.now.servers.items
+            self.old.outgoing.format D.modeled (state_of D.state self.old) (state_of D.state self.new)
+            (K.held sink.old) (K.held sink.new)) }
+        ensures failed { OnErr result (HasFailed options.now.lines options.now.servers.items
+            self.old.outgoing.format D.modeled (state_of D.state self.old) (K.held sink.old) (K.held sink.new)) }
         ensures format { self.new.outgoing.format ≡ self.old.outgoing.format }
     {
+        let origin = origin_of(options.lines, port);
         match self.ports.receive(port, buffer) {
             Ok(Some(count)) => {
-                self.take(origin, &buffer[..count])?;
+                self.take(origin, &buffer[..count], sink)?;
                 Ok(true)
             }
             Ok(None) => Ok(false),
@@ -138,22 +163,23 @@ impl<D: PortSet + Drop> FeedReceiver<D> {
     }
 
     // Takes what is at the port, at most `AT_ONCE` datagrams.
-    fn receive_some(
+    fn receive_some<K: Sink>(
         &mut self,
         options: &ReceiveOptions<D::Peer>,
-        origin: RepairOrigin,
         port: usize,
         buffer: &mut [u8],
-    ) -> Result<(), AllocError>
-        requires plain { self.old.outgoing.format ≡ BlocksToEmpty → ⊥ }
-        requires port { port ≡ port_of options.now.lines origin }
-        ensures received { OnOk result (HasReceived options.now.lines options.now.servers.items
-            self.old.outgoing.format D.modeled (state_of D.state self.old) (state_of D.state self.new)) }
-        ensures prints { Begins self.old.outgoing.text self.new.outgoing.text }
+        sink: &mut K,
+    ) -> Result<(), CommandFault>
+        requires port { port < options.now.lines + 2 ^ 32 }
+        ensures written { OnOk result (HasWritten options.now.lines options.now.servers.items
+            self.old.outgoing.format D.modeled (state_of D.state self.old) (state_of D.state self.new)
+            (K.held sink.old) (K.held sink.new)) }
+        ensures failed { OnErr result (HasFailed options.now.lines options.now.servers.items
+            self.old.outgoing.format D.modeled (state_of D.state self.old) (K.held sink.old) (K.held sink.new)) }
         ensures format { self.new.outgoing.format ≡ self.old.outgoing.format }
     {
         for _ in 0..AT_ONCE {
-            if !self.receive(options, origin, port, buffer)? {
+            if !self.receive_one(options, port, buffer, sink)? {
                 return Ok(());
             }
         }
@@ -161,50 +187,74 @@ impl<D: PortSet + Drop> FeedReceiver<D> {
     }
 
     // Takes what is at all ports, at most `AT_ONCE` datagrams from each.
-    fn receive_all(
+    fn receive_all<K: Sink>(
         &mut self,
         options: &ReceiveOptions<D::Peer>,
         buffer: &mut [u8],
-    ) -> Result<(), AllocError>
-        requires plain { self.old.outgoing.format ≡ BlocksToEmpty → ⊥ }
-        ensures received { OnOk result (HasReceived options.now.lines options.now.servers.items
-            self.old.outgoing.format D.modeled (state_of D.state self.old) (state_of D.state self.new)) }
-        ensures prints { Begins self.old.outgoing.text self.new.outgoing.text }
+        sink: &mut K,
+    ) -> Result<(), CommandFault>
+        ensures written { OnOk result (HasWritten options.now.lines options.now.servers.items
+            self.old.outgoing.format D.modeled (state_of D.state self.old) (state_of D.state self.new)
+            (K.held sink.old) (K.held sink.new)) }
+        ensures failed { OnErr result (HasFailed options.now.lines options.now.servers.items
+            self.old.outgoing.format D.modeled (state_of D.state self.old) (K.held sink.old) (K.held sink.new)) }
         ensures format { self.new.outgoing.format ≡ self.old.outgoing.format }
     {
         for port in 0..options.lines + options.servers.len() {
-            let origin = origin_of(options.lines, port);
-            self.receive_some(options, origin, port, buffer)?;
+            self.receive_some(options, port, buffer, sink)?;
         }
         Ok(())
     }
 
-    // Gives up the first missing messages, if that is due, and prints what was stored after them. Returns whether it
-    // was due.
-    fn lose_one(&mut self) -> Result<bool, AllocError>
-        requires plain { self.old.outgoing.format ≡ BlocksToEmpty → ⊥ }
-        ensures received { OnOk result ((lines : ℕ) (servers : List D.Peer) → HasReceived lines servers
-            self.old.outgoing.format D.modeled (state_of D.state self.old) (state_of D.state self.new)) }
-        ensures prints { Begins self.old.outgoing.text self.new.outgoing.text }
+    // Gives up the first missing messages, if that is due, and prints the line about them. The batch then has what was
+    // stored after them.
+    fn lose(&mut self) -> Result<Option<Gap>, AllocError>
+        ensures lost { IfOk result (λ lost. HasLostSome self.old.repairer self.new.repairer
+            (D.state self.old.ports).now self.new.batch (delivers self.old.repairer self.new.repairer None lost)) }
+        ensures line { IfOk result (λ lost. self.new.outgoing.text
+            ≡ self.old.outgoing.text ++ lost_text self.old.outgoing.format lost) }
+        ensures kept { OnErr result
+            (take (length self.old.outgoing.text) self.new.outgoing.text ≡ self.old.outgoing.text) }
+        ensures options { self.new.repairer.options ≡ self.old.repairer.options }
+        ensures ports { self.new.ports ≡ self.old.ports }
         ensures format { self.new.outgoing.format ≡ self.old.outgoing.format }
     {
         self.batch.clear();
         let lost = calls::lost(&mut self.repairer, self.ports.now(), &mut self.batch)?;
         push_lost(&mut self.outgoing, lost)?;
-        print_handed(&mut self.outgoing, &self.batch)?;
+        Ok(lost)
+    }
+
+    // Gives up the first missing messages, if that is due, and prints what was stored after them. Writes the text when
+    // it is large. Returns whether it was due.
+    fn lose_one<K: Sink>(&mut self, sink: &mut K) -> Result<bool, CommandFault>
+        ensures written { OnOk result ((lines : ℕ) (servers : List D.Peer) → HasWritten lines servers
+            self.old.outgoing.format D.modeled (state_of D.state self.old) (state_of D.state self.new)
+            (K.held sink.old) (K.held sink.new)) }
+        ensures failed { OnErr result ((lines : ℕ) (servers : List D.Peer) → HasFailed lines servers
+            self.old.outgoing.format D.modeled (state_of D.state self.old) (K.held sink.old) (K.held sink.new)) }
+        ensures bounded { OnOk result (IsBounded (K.live sink.old) self.new.outgoing.text) }
+        ensures format { self.new.outgoing.format ≡ self.old.outgoing.format }
+    {
+        let before = self.outgoing.unwritten();
+        let Ok(lost) = self.lose() else {
+            return Err(self.outgoing.end_with(before, CommandFault::Memory, sink));
+        };
+        print_batch(&mut self.outgoing, &self.batch, sink)?;
         Ok(lost.is_some())
     }
 
     // Gives up what is due, at most `MOST_LOST` ranges.
-    fn lose_all(&mut self) -> Result<(), AllocError>
-        requires plain { self.old.outgoing.format ≡ BlocksToEmpty → ⊥ }
-        ensures received { OnOk result ((lines : ℕ) (servers : List D.Peer) → HasReceived lines servers
-            self.old.outgoing.format D.modeled (state_of D.state self.old) (state_of D.state self.new)) }
-        ensures prints { Begins self.old.outgoing.text self.new.outgoing.text }
+    fn lose_all<K: Sink>(&mut self, sink: &mut K) -> Result<(), CommandFault>
+        ensures written { OnOk result ((lines : ℕ) (servers : List D.Peer) → HasWritten lines servers
+            self.old.outgoing.format D.modeled (state_of D.state self.old) (state_of D.state self.new)
+            (K.held sink.old) (K.held sink.new)) }
+        ensures failed { OnErr result ((lines : ℕ) (servers : List D.Peer) → HasFailed lines servers
+            self.old.outgoing.format D.modeled (state_of D.state self.old) (K.held sink.old) (K.held sink.new)) }
         ensures format { self.new.outgoing.format ≡ self.old.outgoing.format }
     {
         for _ in 0..MOST_LOST {
-            if !self.lose_one()? {
+            if !self.lose_one(sink)? {
                 return Ok(());
             }
         }
@@ -327,34 +377,15 @@ impl<D: PortSet + Drop> FeedReceiver<D> {
         Ok(())
     }
 
-    // Makes one turn: takes what came, gives up what is due, sends the requests that may be sent, and reports what is
-    // due.
-    pub(crate) fn turn(
-        &mut self,
-        options: &ReceiveOptions<D::Peer>,
-        buffer: &mut [u8],
-    ) -> Result<(), AllocError>
-        requires plain { self.old.outgoing.format ≡ BlocksToEmpty → ⊥ }
-        ensures received { OnOk result (HasReceived options.now.lines options.now.servers.items
-            self.old.outgoing.format D.modeled (state_of D.state self.old) (state_of D.state self.new)) }
-        ensures prints { Begins self.old.outgoing.text self.new.outgoing.text }
-        ensures format { self.new.outgoing.format ≡ self.old.outgoing.format }
-    {
-        self.receive_all(options, buffer)?;
-        self.lose_all()?;
-        self.request_all(options);
-        self.report(options)
-    }
-
-    // Makes a pause and then a turn. Writes the text for standard error, and the text if it is large.
-    fn write_turn<K: Sink, E: Sink>(
+    // Makes a pause and then a turn: takes what came, gives up what is due, sends the requests that may be sent, and
+    // reports what is due.
+    fn turn<K: Sink, E: Sink>(
         &mut self,
         options: &ReceiveOptions<D::Peer>,
         buffer: &mut [u8],
         sink: &mut K,
         errors: &mut E,
     ) -> Result<(), CommandFault>
-        requires plain { self.old.outgoing.format ≡ BlocksToEmpty → ⊥ }
         ensures written { OnOk result (HasWritten options.now.lines options.now.servers.items
             self.old.outgoing.format D.modeled (state_of D.state self.old) (state_of D.state self.new)
             (K.held sink.old) (K.held sink.new)) }
@@ -363,12 +394,14 @@ impl<D: PortSet + Drop> FeedReceiver<D> {
         ensures format { self.new.outgoing.format ≡ self.old.outgoing.format }
     {
         self.pause(options, sink)?;
-        let before = self.outgoing.unwritten();
-        let Ok(()) = self.turn(options, buffer) else {
-            return Err(self.outgoing.end_with(before, CommandFault::Memory, sink));
+        self.receive_all(options, buffer, sink)?;
+        self.lose_all(sink)?;
+        self.request_all(options);
+        let Ok(()) = self.report(options) else {
+            let len = self.outgoing.unwritten();
+            return Err(self.outgoing.end_with(len, CommandFault::Memory, sink));
         };
-        self.outgoing.send_side(errors)?;
-        self.outgoing.send_large(sink)
+        self.outgoing.send_side(errors)
     }
 
     // Returns whether no datagram was accepted for too long.
@@ -385,7 +418,6 @@ impl<D: PortSet + Drop> FeedReceiver<D> {
         sink: &mut K,
         errors: &mut E,
     ) -> Result<(), CommandFault>
-        requires plain { self.old.outgoing.format ≡ BlocksToEmpty → ⊥ }
         ensures written { OnOk result (HasWritten options.now.lines options.now.servers.items
             self.old.outgoing.format D.modeled (state_of D.state self.old) (state_of D.state self.new)
             (K.held sink.old) (K.held sink.new)) }
@@ -394,7 +426,7 @@ impl<D: PortSet + Drop> FeedReceiver<D> {
         ensures format { self.new.outgoing.format ≡ self.old.outgoing.format }
     {
         for _ in 0..options.turns {
-            self.write_turn(options, buffer, sink, errors)?;
+            self.turn(options, buffer, sink, errors)?;
             if self.repairer.arbiter().receiver().finished() || self.is_quiet(options) {
                 return Ok(());
             }
@@ -451,7 +483,6 @@ impl<D: PortSet + Drop> FeedReceiver<D> {
         sink: &mut K,
         errors: &mut E,
     ) -> Result<u8, CommandFault>
-        requires plain { self.old.outgoing.format ≡ BlocksToEmpty → ⊥ }
         ensures ended { IfOk result (HasEnded options.now.lines options.now.servers.items
             self.old.outgoing.format D.modeled [] (state_of D.state self.old) self.new.repairer
             (D.state self.new.ports) (K.held sink.old) (K.held sink.new)) }

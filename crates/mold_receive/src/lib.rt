@@ -8,6 +8,7 @@ mod first_packet;
 mod last_line;
 mod lines;
 mod opening;
+mod printing;
 mod receive_options;
 mod receiving;
 mod refusal_limit;

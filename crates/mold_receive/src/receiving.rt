@@ -42,10 +42,10 @@ pub struct Received<D> {
 /// `lost FIRST LAST` for each range of messages that is given up.
 ///
 /// In each turn the loop takes what is at the ports, at most 64 datagrams from each before the next one is looked at.
-/// Then it gives up what is due, and sends the requests that may be sent. When no datagram is at a port, it writes all
-/// text and waits for a datagram, or until the repairer has something to do. So less than 65,536 bytes of text are kept
-/// back, and none while it waits. It ends after the first turn that leaves the session finished, or after
-/// the `turns` of the options.
+/// Then it gives up what is due, and sends the requests that may be sent. The text is written after each message with
+/// which it has at least 65,536 bytes. When no datagram is at a port, the loop writes all text and waits for a datagram,
+/// or until the repairer has something to do. So at most 65,535 bytes of text are kept back, and none while it waits. It
+/// ends after the first turn that leaves the session finished, or after the `turns` of the options.
 ///
 /// Then it prints a last line and returns the status: 0 if the session is finished and nothing was given up, otherwise
 /// 1. Among blocks, lines are written to `errors`, and `sink` gets the blocks and nothing else.

@@ -18,13 +18,6 @@ pub returns-in_err-take_first-clause-failed : goal.returns-in_err-take_first-cla
 returns-in_err-take_first-clause-failed g c =
     on_err_of c.from_residual-in_err-take_first.result (broken_yet _ _ _ _ _ _ _)
 
-pub run-requires : goal.run-requires
-run-requires g c = record {
-  plain = plain_format _ c.args.options.now.blocks
-      (c.take_first.ensures.format
-      ∙ (ap (λ (o : OutgoingState). o.format) c.with_format.ensures ∙ c.format.ensures));
-}
-
 pub returns-clause-ended : goal.returns-clause-ended
 returns-clause-ended g c =
     let lines = c.args.options.now.lines in

@@ -1,30 +1,25 @@
 use Rattle.std.proofs.Common.{refl, ◌∙◌}
-use Rattle.mold_turns.proofs.RunLemmas.{begins_trans, begins_whole}
-use Rattle.mold_receive.proofs.CallLemmas.{received_more, received_yet, still_plain}
+use Rattle.mold_receive.proofs.CallLemmas.{failed_more, on_err_of, received_yet, written_more, written_none}
 use Rattle.mold_receive.proofs.feed_receiver.FeedReceiver.lose_all.Goals as goal
 
 pub loop-init : goal.loop-init
-loop-init g c = record { received = λ lines servers. received_yet _ _ _ _ _; prints = begins_whole _; format = refl }
-
-pub lose_one-requires : goal.lose_one-requires
-lose_one-requires g c = record { plain = still_plain _ _ c.loop.invariant.format c.requires.plain }
+loop-init g c =
+    record { written = λ lines servers. written_none _ _ _ _ _ _ _ (received_yet _ _ _ _ _); format = refl }
 
 pub loop-preserved : goal.loop-preserved
 loop-preserved g c = record {
-  received = λ lines servers.
-      received_more _ _ _ _ _ _ _ _ (c.loop.invariant.received lines servers) c.loop.invariant.format
-      (c.in_ok-lose_one.ensures.received lines servers);
-  prints = begins_trans c.loop.invariant.prints c.lose_one.ensures.prints;
+  written = λ lines servers. written_more _ _ _ _ _ _ _ _ _ _ _ (c.loop.invariant.written lines servers) c.loop.invariant.format
+      (c.in_ok-lose_one.ensures.written lines servers);
   format = c.lose_one.ensures.format ∙ c.loop.invariant.format;
 }
 
-pub returns-in_err-lose_one-clause-prints : goal.returns-in_err-lose_one-clause-prints
-returns-in_err-lose_one-clause-prints g c = begins_trans c.loop.invariant.prints c.lose_one.ensures.prints
+pub returns-in_err-lose_one-clause-failed : goal.returns-in_err-lose_one-clause-failed
+returns-in_err-lose_one-clause-failed g c =
+    on_err_of c.from_residual.result
+    (λ lines servers. failed_more _ _ _ _ _ _ _ _ _ _ (c.loop.invariant.written lines servers) c.loop.invariant.format
+    (c.in_err-lose_one.ensures.failed lines servers))
 
-pub returns-then-not-branch-clause-received : goal.returns-then-not-branch-clause-received
-returns-then-not-branch-clause-received g c = λ lines servers.
-    received_more _ _ _ _ _ _ _ _ (c.loop.invariant.received lines servers) c.loop.invariant.format
-    (c.in_ok-lose_one.ensures.received lines servers)
-
-pub returns-then-not-branch-clause-prints : goal.returns-then-not-branch-clause-prints
-returns-then-not-branch-clause-prints g c = begins_trans c.loop.invariant.prints c.lose_one.ensures.prints
+pub returns-then-not-branch-clause-written : goal.returns-then-not-branch-clause-written
+returns-then-not-branch-clause-written g c = λ lines servers.
+    written_more _ _ _ _ _ _ _ _ _ _ _ (c.loop.invariant.written lines servers) c.loop.invariant.format
+    (c.in_ok-lose_one.ensures.written lines servers)

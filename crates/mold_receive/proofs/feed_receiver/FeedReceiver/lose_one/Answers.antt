@@ -1,33 +1,51 @@
-use Rattle.std.proofs.Common.{ℕ, append-nil, sym, subst, inl}
-use Rattle.std.specs.Prelude.{None, false}
-use Rattle.mold_repair.specs.Run.{HasLostSome, delivers}
+use Rattle.std.proofs.Common.{ℕ, List, ap, append-nil, inl, refl, subst, sym, ◌++◌, ◌∙◌}
+use Rattle.std.specs.Prelude.{None, false, take}
+use Rattle.mold_devices.specs.Devices.{AppendsPrefix}
+use Rattle.mold_devices.proofs.WritingLemmas.{ends_front}
+use Rattle.mold_listen.specs.Text.{handed_text}
+use Rattle.mold_repair.specs.Run.{delivers}
 use Rattle.mold_repair.specs.declared.step.RepairStep.TheVariants.{Lost}
-use Rattle.mold_turns.proofs.PrintingLemmas.{begins_kept}
-use Rattle.mold_turns.proofs.RunLemmas.{begins_trans}
-use Rattle.mold_receive.proofs.CallLemmas.{called, lost_printed, received_one}
+use Rattle.mold_receive.proofs.CallLemmas.{called, failed_write, lost_printed, on_err_of, received_one, received_yet}
+use Rattle.mold_receive.proofs.CallLemmas.{written_one}
 use Rattle.mold_receive.proofs.feed_receiver.FeedReceiver.lose_one.Goals as goal
 
-pub returns-in_err-push_lost-clause-prints : goal.returns-in_err-push_lost-clause-prints
-returns-in_err-push_lost-clause-prints g c = begins_kept _ _ c.in_err-push_lost.ensures.kept
+pub returns-in_default-clause-failed : goal.returns-in_default-clause-failed
+returns-in_default-clause-failed g c = λ lines servers.
+    failed_write lines servers _ _ _ _ _ _ c.args.self.now.outgoing.text (received_yet lines servers _ _ _) refl
+    (subst (λ (t : List ℕ). AppendsPrefix (g.K.Sink.held c.args.sink.now) (g.K.Sink.held c.end_with.new.sink) t)
+    (ap (λ (n : ℕ). take n c.lose.new.self.outgoing.text) c.unwritten-before.ensures ∙ c.in_default.ensures.kept)
+    (ends_front c.end_with.ensures.ends))
 
-pub returns-in_err-print_handed-clause-prints : goal.returns-in_err-print_handed-clause-prints
-returns-in_err-print_handed-clause-prints g c =
-    begins_trans (record { rest = _; parts = c.in_ok-push_lost.ensures.line })
-    (begins_kept _ _ c.in_err-print_handed.ensures.kept)
+pub returns-in_err-print_batch-clause-failed : goal.returns-in_err-print_batch-clause-failed
+returns-in_err-print_batch-clause-failed g c =
+    on_err_of c.from_residual.result (λ lines servers.
+    let old = c.args.self.now in
+    let new = c.lose.new.self in
+    let text : List ℕ = new.outgoing.text ++ handed_text new.outgoing.format new.batch.first new.batch.messages in
+    failed_write lines servers _ _ _
+    (record { repairer = new.repairer; ports = g.D.PortSet.state new.ports; text = text }) _ _ text
+    (received_one lines servers old.outgoing.format _ _ None false _ _
+    (called old.outgoing.format (Lost (g.D.PortSet.state old.ports).now) old.repairer new.repairer new.batch
+    (delivers old.repairer new.repairer None c.in-Ok.lost) old.outgoing.text text (inl c.in-Ok.ensures.lost)
+    c.lose.ensures.options
+    (lost_printed old.outgoing.format new.outgoing.format old.outgoing.text new.outgoing.text c.in-Ok.lost
+    new.batch.first new.batch.messages c.in-Ok.ensures.line c.lose.ensures.format))
+    (λ is. ap (λ p. (g.D.PortSet.state p).given) c.lose.ensures.ports ∙ sym (append-nil _))
+    (λ is. ap (λ p. (g.D.PortSet.state p).sent) c.lose.ensures.ports ∙ sym (append-nil _)))
+    refl c.in_err-print_batch.ensures.front)
 
-pub returns-clause-received : goal.returns-clause-received
-returns-clause-received g c = λ lines servers.
-    let old = c.args.self.now.repairer in
-    let new = c.lost.new.repairer in
-    let outgoing = c.args.self.now.outgoing in
-    let batch = c.lost.new.batch in
-    let lost = c.in_ok-lost.lost in
-    received_one lines servers outgoing.format _ _ None false _ _
-    (called outgoing.format (Lost (g.D.PortSet.state c.args.self.now.ports).now) old new batch
-    (delivers old new None lost) outgoing.text c.print_handed.new.outgoing.text
-    (inl (subst (λ (t : ℕ). HasLostSome old new t batch (delivers old new None lost)) c.now.ensures.value
-    c.in_ok-lost.ensures.lost))
-    c.lost.ensures.options
-    (lost_printed outgoing c.push_lost.new.outgoing c.print_handed.new.outgoing lost batch.first batch.messages
-    c.in_ok-push_lost.ensures.line c.push_lost.ensures.format c.in_ok-print_handed.ensures.text c.requires.plain))
-    (λ is. sym (append-nil _)) (λ is. sym (append-nil _))
+pub returns-clause-written : goal.returns-clause-written
+returns-clause-written g c = λ lines servers.
+    let old = c.args.self.now in
+    let new = c.lose.new.self in
+    let text : List ℕ = new.outgoing.text ++ handed_text new.outgoing.format new.batch.first new.batch.messages in
+    written_one lines servers _ _ _ _ _ text _ _ _
+    (received_one lines servers old.outgoing.format _ _ None false _ _
+    (called old.outgoing.format (Lost (g.D.PortSet.state old.ports).now) old.repairer new.repairer new.batch
+    (delivers old.repairer new.repairer None c.in-Ok.lost) old.outgoing.text text (inl c.in-Ok.ensures.lost)
+    c.lose.ensures.options
+    (lost_printed old.outgoing.format new.outgoing.format old.outgoing.text new.outgoing.text c.in-Ok.lost
+    new.batch.first new.batch.messages c.in-Ok.ensures.line c.lose.ensures.format))
+    (λ is. ap (λ p. (g.D.PortSet.state p).given) c.lose.ensures.ports ∙ sym (append-nil _))
+    (λ is. ap (λ p. (g.D.PortSet.state p).sent) c.lose.ensures.ports ∙ sym (append-nil _)))
+    c.in_ok-print_batch.ensures.moved

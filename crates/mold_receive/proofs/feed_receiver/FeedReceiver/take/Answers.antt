@@ -1,59 +1,49 @@
-use Rattle.std.proofs.Common.{ℕ, ap, subst, refl, sym, ◌∙◌}
-use Rattle.std.specs.Prelude.{None}
-use Rattle.std.proofs.lemmas.Result.{on_ok_weaker}
-use Rattle.mold_receive.specs.Receiving.{HasCalled}
-use Rattle.mold_receiver.specs.Batch.{Handed}
-use Rattle.mold_repair.specs.Run.{HasTaken, delivers, nothing}
-use Rattle.mold_repair.specs.declared.repairer.Repairer.{Repairer}
+use Rattle.std.proofs.Common.{ℕ, List, append-nil, subst, refl, sym, ◌++◌, ◌∙◌}
+use Rattle.std.specs.Prelude.{None, OnErr, OnOk}
+use Rattle.mold_devices.specs.Devices.{AppendsPrefix}
+use Rattle.mold_devices.specs.Writing.{Moves}
+use Rattle.mold_devices.proofs.WritingLemmas.{ends_front}
+use Rattle.mold_listen.specs.Text.{handed_text}
+use Rattle.mold_repair.specs.Run.{delivers}
 use Rattle.mold_repair.specs.declared.step.RepairStep.TheVariants.{Take}
-use Rattle.mold_turns.proofs.PrintingLemmas.{begins_pushed}
-use Rattle.mold_turns.specs.Outgoing.{OutgoingState}
-use Rattle.mold_receive.proofs.CallLemmas.{begins_same, called, handed_after, on_ok_all, poll_printed}
+use Rattle.mold_turns.proofs.PrintingLemmas.{former_text}
+use Rattle.mold_turns.proofs.RunLemmas.{begins_whole}
+use Rattle.mold_receive.proofs.CallLemmas.{called, lost_printed}
+use Rattle.mold_receive.proofs.PrintingLemmas.{front_before}
 use Rattle.mold_receive.proofs.feed_receiver.FeedReceiver.take.Goals as goal
 
-pub returns-in-Ok-clause-called : goal.returns-in-Ok-clause-called
-returns-in-Ok-clause-called g c =
-    let old = c.args.self.now.repairer in
-    let new = c.take.new.repairer in
-    let outgoing = c.args.self.now.outgoing in
-    let batch = c.take.new.batch in
-    on_ok_weaker c.print_handed.result
-    (λ is.
-    called outgoing.format (Take (g.D.PortSet.state c.args.self.now.ports).now c.args.origin c.args.datagram) old new
-    batch (delivers old new None None) outgoing.text c.print_handed.new.outgoing.text (
-      subst (λ (t : ℕ). HasTaken old new t c.args.origin c.args.datagram.now batch) c.now-now.ensures.value
-          c.take.ensures.taken,
-      refl,
-    )
-    c.take.ensures.options
-    (ap (λ (o : OutgoingState). o.text) is ∙ handed_after outgoing batch.first batch.messages c.requires.plain))
-    c.print_handed.ensures.text
-
-pub returns-in-Ok-clause-prints : goal.returns-in-Ok-clause-prints
-returns-in-Ok-clause-prints g c =
-    begins_pushed c.print_handed.result _ _ _
-    (on_ok_weaker c.print_handed.result (λ is. ap (λ (o : OutgoingState). o.text) is) c.print_handed.ensures.text)
-    c.print_handed.ensures.kept
-
-pub returns-in-Err : goal.returns-in-Err
-returns-in-Err g c =
-    let old = c.args.self.now.repairer in
-    let new = c.take.new.repairer in
-    let outgoing = c.args.self.now.outgoing in
+pub returns-in_default-clause-called : goal.returns-in_default-clause-called
+returns-in_default-clause-called g c =
+    let old = c.args.self.now in
+    let new = c.deliver.new.self in
+    let handed : List ℕ = handed_text old.outgoing.format new.batch.first new.batch.messages in
     record {
-      called = on_ok_all c.refuse.result
-          (subst (λ (r : Repairer). HasCalled outgoing.format (Take (g.D.PortSet.state c.args.self.now.ports).now c.args.origin
-          c.args.datagram) None old r outgoing.text c.refuse.new.self.outgoing.text) (sym c.refuse.ensures.repairer)
-          (called outgoing.format (Take (g.D.PortSet.state c.args.self.now.ports).now c.args.origin c.args.datagram)
-          old new nothing (delivers old new None None) outgoing.text c.refuse.new.self.outgoing.text (
-            subst (λ (h : Handed). HasTaken old new (g.D.PortSet.state c.args.self.now.ports).now c.args.origin
-                c.args.datagram.now h) c.in-Err.ensures.refused
-                (subst (λ (t : ℕ). HasTaken old new t c.args.origin c.args.datagram.now c.take.new.batch)
-                c.now-now.ensures.value c.take.ensures.taken),
-            refl,
-          )
-          c.take.ensures.options (c.refuse.ensures.text ∙ poll_printed outgoing.format outgoing.text)));
-      ports = c.refuse.ensures.ports;
-      prints = begins_same _ _ c.refuse.ensures.text;
-      format = c.refuse.ensures.format;
+      text = old.outgoing.text ++ handed;
+      called = called old.outgoing.format (Take (g.D.PortSet.state old.ports).now c.args.origin c.args.datagram)
+          old.repairer new.repairer new.batch (delivers old.repairer new.repairer None None) old.outgoing.text
+          (old.outgoing.text ++ handed) (c.deliver.ensures.taken, refl) c.deliver.ensures.options refl;
+      moved = tt;
+      front = front_before _ _ old.outgoing.text handed
+          (subst (λ (t : List ℕ). AppendsPrefix (g.K.Sink.held c.args.sink.now) (g.K.Sink.held c.end_with.new.sink) t)
+          (former_text new.outgoing.text _ _ (begins_whole _) c.unwritten-len.ensures ∙ c.deliver.ensures.text)
+          (ends_front c.end_with.ensures.ends));
+    }
+
+pub returns-clause-called : goal.returns-clause-called
+returns-clause-called g c =
+    let old = c.args.self.now in
+    let new = c.deliver.new.self in
+    let handed : List ℕ = handed_text old.outgoing.format new.batch.first new.batch.messages in
+    let same = lost_printed old.outgoing.format new.outgoing.format old.outgoing.text new.outgoing.text None
+    new.batch.first new.batch.messages (c.deliver.ensures.text ∙ sym (append-nil old.outgoing.text))
+    c.deliver.ensures.format in
+    record {
+      text = old.outgoing.text ++ handed;
+      called = called old.outgoing.format (Take (g.D.PortSet.state old.ports).now c.args.origin c.args.datagram)
+          old.repairer new.repairer new.batch (delivers old.repairer new.repairer None None) old.outgoing.text
+          (old.outgoing.text ++ handed) (c.deliver.ensures.taken, refl) c.deliver.ensures.options refl;
+      moved = subst (λ (t : List ℕ). OnOk c.print_batch.result (Moves (g.K.Sink.held c.args.sink.now)
+          (g.K.Sink.held c.print_batch.new.sink) t c.print_batch.new.outgoing.text)) same c.print_batch.ensures.moved;
+      front = subst (λ (t : List ℕ). OnErr c.print_batch.result (AppendsPrefix (g.K.Sink.held c.args.sink.now)
+          (g.K.Sink.held c.print_batch.new.sink) t)) same c.print_batch.ensures.front;
     }

@@ -1,27 +1,24 @@
 use Rattle.std.proofs.Common.{refl, ◌∙◌}
-use Rattle.mold_receive.proofs.CallLemmas.{failed_more, on_err_of, received_yet, still_plain, written_more, written_none}
+use Rattle.mold_receive.proofs.CallLemmas.{failed_more, on_err_of, received_yet, written_more, written_none}
 use Rattle.mold_receive.proofs.feed_receiver.FeedReceiver.take_turns.Goals as goal
 
 pub loop-init : goal.loop-init
 loop-init g c = record { written = written_none _ _ _ _ _ _ _ (received_yet _ _ _ _ _); format = refl }
 
-pub write_turn-requires : goal.write_turn-requires
-write_turn-requires g c = record { plain = still_plain _ _ c.loop.invariant.format c.requires.plain }
-
 pub loop-preserved : goal.loop-preserved
 loop-preserved g c = record {
   written = written_more _ _ _ _ _ _ _ _ _ _ _ c.loop.invariant.written c.loop.invariant.format
-      c.in_ok-write_turn.ensures.written;
-  format = c.write_turn.ensures.format ∙ c.loop.invariant.format;
+      c.in_ok-turn.ensures.written;
+  format = c.turn.ensures.format ∙ c.loop.invariant.format;
 }
 
 pub returns-then-finished-clause-written : goal.returns-then-finished-clause-written
 returns-then-finished-clause-written g c =
     written_more _ _ _ _ _ _ _ _ _ _ _ c.loop.invariant.written c.loop.invariant.format
-    c.in_ok-write_turn.ensures.written
+    c.in_ok-turn.ensures.written
 
-pub returns-in_err-write_turn-clause-failed : goal.returns-in_err-write_turn-clause-failed
-returns-in_err-write_turn-clause-failed g c =
+pub returns-in_err-turn-clause-failed : goal.returns-in_err-turn-clause-failed
+returns-in_err-turn-clause-failed g c =
     on_err_of c.from_residual.result
     (failed_more _ _ _ _ _ _ _ _ _ _ c.loop.invariant.written c.loop.invariant.format
-    c.in_err-write_turn.ensures.failed)
+    c.in_err-turn.ensures.failed)
