@@ -34,8 +34,8 @@ pub record IsFirstFree (fs : List Flight) (now ripe : ℕ) (gaps : List Gap) (fi
   pub least : AllInFlight fs now gap.first first
   pub before : (i : ℕ) (g : Gap) → i < index → slice_get gaps i ≡ Some g → AllInFlight fs now g.first (min g.end ripe)
 
--- The request for a free number: it asks for no number in flight, and for at most `most` numbers. It could not be
--- longer: it goes to `limit`, to a number in flight, or has `most` numbers.
+-- The request for a free number: it has no number in flight, and at most `most` numbers. It could not be longer: it
+-- goes to `limit`, to a number in flight, or has `most` numbers.
 pub record AsksFrom (fs : List Flight) (now most number limit : ℕ) (ask : Ask) : Type 0 where
   pub first : ask.first ≡ number
   pub some : ask.first < ask.end

@@ -2,7 +2,7 @@
 use Rattle.std.specs.Prelude.{ℕ, ◌+◌, ◌&&◌, List, [], ◌∷◌, nat_le, nat_lt, if◌then◌else◌, Option, None, Some}
 use Rattle.mold_pacing.specs.declared.ask.Ask.{Ask}
 
--- How many requests of the run asked for the number.
+-- How many requests of the run were for the number.
 abbrev pub count_asks_for : ℕ → List (Option Ask) → ℕ
 count_asks_for number [] = 0
 count_asks_for number (None ∷ asks) = count_asks_for number asks

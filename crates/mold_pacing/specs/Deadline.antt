@@ -5,7 +5,8 @@ use Rattle.mold_pacing.specs.Table.{has_room}
 use Rattle.mold_pacing.specs.declared.pacer.Pacer.{Pacer}
 
 -- At this time a request that begins with this number can be sent, if nothing happens before: the bucket allows it, the
--- number is not in flight, and the table has room.
+-- number is not in flight, and the table has room. The bucket limits how many requests are sent in a span of time. The
+-- table has the requests in flight, at most `places`.
 pub record CanAsk (p : Pacer) (time number : ℕ) : Type 0 where
   pub opened : p.state.opens ≤ time + p.options.tolerance
   pub free : in_flight time number p.flights.items ≡ false

@@ -15,7 +15,7 @@ greatest_of (delay ∷ delays) = max delay (greatest_of delays)
 abbrev pub delay_on : ℕ → ℕ → ℕ → ℕ
 delay_on line delay of = if nat_eq of line then delay else 0
 
--- The greatest of the delays of this line, or 0 if it has none. `lines` has the line of each delay, which brought the
+-- The greatest of the delays of this line, or 0 if it has none. `lines` has, for each delay, the line that brought the
 -- datagram second.
 abbrev pub greatest_on : ℕ → List ℕ → List ℕ → ℕ
 greatest_on line [] lines = 0
@@ -36,42 +36,42 @@ slot_of first = first % SLOTS / PARTS + first % SLOTS % PARTS * PART
 abbrev pub key_of : Arrival → ℕ
 key_of a = a.first / SLOTS * SLOTS + a.count
 
--- What is kept of an arrival.
+-- The record of an arrival: what is kept of it.
 abbrev pub mark_of : Arrival → Mark
 mark_of a = record { key = key_of a; stamp = a.time % TIMES * LINES + a.line % LINES }
 
--- The mark of the arrival keeps all of it.
+-- The record of the arrival keeps all of it.
 pub record IsMarked (a : Arrival) : Type 0 where
   pub count : a.count < SLOTS
   pub time : a.time < TIMES
   pub line : a.line < LINES
 
--- The time of a mark.
+-- The time of a record.
 abbrev pub time_of : Mark → ℕ
 time_of mark = mark.stamp / LINES
 
--- The line of a mark.
+-- The line of a record.
 abbrev pub line_of : Mark → ℕ
 line_of mark = mark.stamp % LINES
 
--- What is kept of the arrivals before the first one.
+-- The record of a slot before the first arrival.
 abbrev pub no_arrival : Mark
 no_arrival = record { key = 0; stamp = BOTH }
 
--- What is kept before the first arrival.
+-- The records before the first arrival.
 abbrev pub no_arrivals : List Mark
 no_arrivals = replicate SLOTS no_arrival
 
--- Whether this is the same datagram: it has the same numbers. The mark is in the slot of the arrival.
+-- Whether this is the same datagram: it has the same numbers. The record is in the slot of the arrival.
 abbrev pub is_same : Mark → Arrival → Bool
 is_same before a = nat_eq before.key (key_of a)
 
--- Whether the datagram came before, and the other line alone brought it. The line `BOTH` means both lines.
+-- Whether the datagram arrived before, and the other line alone brought it. The line `BOTH` means both lines.
 abbrev pub is_second : Mark → Arrival → Bool
 is_second before a =
     is_same before a && (not (nat_eq (line_of before) a.line) && not (nat_eq (line_of before) BOTH))
 
--- What is kept of a datagram that comes, in place of what was kept before.
+-- The record after a datagram arrived, in place of the earlier one.
 abbrev pub kept : Mark → Arrival → Mark
 kept before a =
     if is_second before a then record before { stamp = time_of before * LINES + BOTH }

@@ -3,7 +3,7 @@ use Rattle.std.specs.Prelude.{◌≡◌, ℕ, ◌<◌, ◌≤◌, ◌&&◌, Bool
 use Rattle.std.specs.List.{list_any}
 use Rattle.mold_pacing.specs.declared.flight.Flight.{Flight}
 
--- Whether the request asks for this number.
+-- Whether the request is for this number.
 abbrev pub asks_for : ℕ → Flight → Bool
 asks_for number f = nat_le f.first number && nat_lt number f.end
 
@@ -11,11 +11,11 @@ asks_for number f = nat_le f.first number && nat_lt number f.end
 abbrev pub is_over : ℕ → Flight → Bool
 is_over now f = nat_le f.until now
 
--- Whether the request is in flight and asks for this number.
+-- Whether the request is in flight, and for this number.
 abbrev pub covers : ℕ → ℕ → Flight → Bool
 covers now number f = nat_lt now f.until && asks_for number f
 
--- Whether the request is over and asked for this number.
+-- Whether the request is over, and was for this number.
 abbrev pub is_stale : ℕ → ℕ → Flight → Bool
 is_stale now number f = is_over now f && asks_for number f
 

@@ -16,7 +16,7 @@ use Rattle.mold_pacing.specs.declared.step.Step.TheVariants.{Advance, Adapt, Pol
 abbrev pub has : ℕ → Gap → Bool
 has number g = nat_le g.first number && nat_lt number g.end
 
--- Whether the number comes in this step.
+-- Whether the number arrives in this step.
 abbrev pub comes : ℕ → Step → Bool
 comes number (Advance time known) = false
 comes number (Adapt patience) = false
@@ -34,7 +34,7 @@ IsNeverMissing number (Poll gaps ∷ steps) =
 IsNeverMissing number (Respond server came ∷ steps) = IsNeverMissing number steps
 IsNeverMissing number (Arrive came ∷ steps) = IsNeverMissing number steps
 
--- A number that came is in no later gap.
+-- A number that arrived is in no later gap.
 abbrev pub AreMissingOnce : List Step → Type 0
 AreMissingOnce [] = Unit {0}
 AreMissingOnce (step ∷ steps) =
@@ -70,7 +70,7 @@ total_run_out old new (step ∷ steps) [] ran = 0
 total_run_out old new (step ∷ steps) (ask ∷ asks) ran =
     count_run_out old step + total_run_out ran.0 new steps asks ran.2
 
--- The number comes in the run while a request for it is in flight.
+-- The number arrives in the run while a request for it is in flight.
 abbrev pub ComesInFlight : ℕ → (old new : Pacer) (steps : List Step) (asks : List (Option Ask)) →
     IsRun old new steps asks → Type 0
 ComesInFlight number old new [] [] ran = ⊥
@@ -85,8 +85,8 @@ abbrev pub AreDistinct : List ℕ → Type 0
 AreDistinct [] = Unit {0}
 AreDistinct (number ∷ numbers) = (list_any (nat_eq number) numbers ≡ false) × AreDistinct numbers
 
--- The requests of the run that neither ran out nor are still in flight are no more than these numbers, which are
--- distinct. Each of them came while a request for it was in flight.
+-- The count of requests that neither ran out nor are still in flight is at most the count of these numbers, which are
+-- distinct. Each of them arrived while a request for it was in flight.
 pub record IsFrugal (old new : Pacer) (steps : List Step) (asks : List (Option Ask)) (ran : IsRun old new steps asks) :
     Type 0 where
   pub numbers : List ℕ

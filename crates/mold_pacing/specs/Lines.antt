@@ -5,7 +5,7 @@ use Rattle.mold_pacing.specs.declared.arrival.Arrival.{Arrival}
 use Rattle.mold_pacing.specs.declared.delays.Delays.{Delays}
 use Rattle.mold_pacing.specs.declared.mark.Mark.{Mark}
 
--- The delays after an arrival. `before` is what was kept of the last arrival with such a number. If the arrival is the
+-- The delays after an arrival. `before` is the record of the last arrival with the same slot. If the arrival is the
 -- second one of a datagram, the time between both is the newest delay.
 pub record IsTaken (old new : Delays) (a : Arrival) : Type 0 where
   pub before : Mark

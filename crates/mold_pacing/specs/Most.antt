@@ -10,12 +10,12 @@ use Rattle.mold_pacing.specs.declared.state.TheConstants.{GROWTH}
 abbrev pub ends_request : ℕ → ℕ → ℕ → Flight → Bool
 ends_request now first end f = is_response_to now first end f && nat_le f.end end
 
--- Whether the request was answered in part: its responses didn't reach its end.
+-- Whether the request had responses, but they didn't reach its end.
 abbrev pub is_partial : Flight → Bool
 is_partial f = nat_lt f.first f.reached && nat_lt f.reached f.end
 
--- The state after the last request for a number was looked at. If it was answered in part, requests ask for no more
--- messages than the responses brought.
+-- The state after the last request for a number was looked at. If its responses didn't reach its end, requests are for
+-- no more messages than the responses brought.
 abbrev pub learned : PacerOptions → Option Flight → PacerState → PacerState
 learned options None s = s
 learned options (Some f) s =

@@ -19,7 +19,7 @@ last_request p number = find (is_stale p.state.now number) p.flights.items
 abbrev pub request_for : Pacer → ℕ → Option Flight
 request_for p number = find (covers p.state.now number) p.flights.items
 
--- The request in flight that a response with the numbers from `first` to `end - 1` ends, if there is one.
+-- The request in flight that a response with the numbers from `first` to `end - 1` frees, if there is one.
 abbrev pub ended_request : Pacer → ℕ → ℕ → Option Flight
 ended_request p first end = find (ends_request p.state.now first end) p.flights.items
 

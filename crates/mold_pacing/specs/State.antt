@@ -4,7 +4,7 @@ use Rattle.mold_pacing.specs.declared.flight.Flight.{Flight}
 use Rattle.mold_pacing.specs.declared.options.PacerOptions.{PacerOptions}
 use Rattle.mold_pacing.specs.declared.state.PacerState.{PacerState}
 
--- The state before any time was reported. No number below `known` is ripe.
+-- The state before any time was reported. No number is ripe.
 abbrev pub fresh : PacerOptions → ℕ → PacerState
 fresh options known = record {
   now = 0;
@@ -31,7 +31,7 @@ advanced time known s =
 abbrev pub adapted : ℕ → PacerState → PacerState
 adapted patience s = record s { patience = patience }
 
--- The state after a request was sent for `count` messages: the next one may be sent an interval later. If it asked for
+-- The state after a request was sent for `count` messages: the next one may be sent an interval later. If it was for
 -- more than `most`, the count of full requests starts again at 0.
 abbrev pub asked : ℕ → ℕ → PacerState → PacerState
 asked interval count s = record s {
@@ -39,8 +39,8 @@ asked interval count s = record s {
   full = if nat_lt s.most count then 0 else s.full;
 }
 
--- The state after a server responded, and perhaps ended a request: new requests go to this server. If the request asked
--- for `most` messages or more, it counts as full, and requests ask for as many from now on.
+-- The state after a server responded, and perhaps freed a request: new requests go to this server. If the request was
+-- for at least `most` messages, it counts as full, and `most` becomes its count, up to the option.
 abbrev pub responded : PacerOptions → ℕ → Option Flight → PacerState → PacerState
 responded options server None s = record s { server = server }
 responded options server (Some f) s = record s {
@@ -49,8 +49,9 @@ responded options server (Some f) s = record s {
   server = server;
 }
 
--- The marks are as old as they should be. `known_at` is what was known at each time, and `begin` what was known at the
--- beginning. A number below `ripe` was known a patience before the time `marked`, or at the beginning.
+-- `known_at` is what was known at each time, and `begin` what was known at the beginning. The numbers below `mark` were
+-- known at the time `marked`, or at the beginning. Those below `ripe` were known a patience before that time, or at the
+-- beginning.
 pub record IsRipened (known_at : ℕ → ℕ) (begin patience : ℕ) (s : PacerState) : Type 0 where
   pub past : s.marked ≤ s.now
   pub mark : (s.mark ≡ known_at s.marked) ⊎ (s.mark ≡ begin)

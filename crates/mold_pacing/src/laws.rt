@@ -20,9 +20,9 @@ ghost use Rattle.mold_pacing.specs.declared.pacer.Pacer.{Pacer};
 ghost use Rattle.mold_pacing.specs.declared.state.PacerState.{PacerState};
 ghost use Rattle.mold_pacing.specs.declared.step.Step.{Step};
 
-/// In each run, and so in each part of a run, the requests times the interval are at most the time that passed, the
-/// tolerance and one interval. With a tolerance of `interval` times `bucket - 1`, a span of time has at most `bucket`
-/// requests and one more for each interval.
+/// In each run, and so in each part of a run, the count of requests times `interval` is at most the sum of the time
+/// that passed, the tolerance and one `interval`. With a tolerance of `interval` times `bucket - 1`, a span of time has
+/// at most `bucket` requests and one more for each interval.
 pub fn limit_law()
     ensures { (old new : Pacer) (steps : List Step) (asks : List (Option Ask)) → IsRun old new steps asks →
         count_asks asks * old.options.interval
@@ -46,8 +46,9 @@ pub fn ready_law()
         slice_get gaps 0 ≡ Some gap → gap.first < old.state.ripe → CanAsk old old.state.now gap.first → ⊥ }
 {}
 
-/// Only numbers that were known a patience ago, or at the beginning, are ripe. This holds of the state of a new pacer,
-/// and `Pacer::advance` keeps it, for any patience that is not above the pacer's. No other call changes the marks.
+/// A number is ripe only if it was known for at least the patience, or at the start. This holds for the state of a new
+/// pacer, and `Pacer::advance` keeps it, for any patience that is not above the pacer's. No other call changes `mark`
+/// and `ripe`.
 pub fn patience_law()
     ensures begins { (known_at : ℕ → ℕ) (begin patience : ℕ) (options : PacerOptions) →
         IsRipened known_at begin patience (fresh options begin) }
@@ -56,16 +57,16 @@ pub fn patience_law()
         IsRipened known_at begin patience (advanced time known s) }
 {}
 
-/// Requests are frugal, from a pacer without requests on. The requests that did not run out, and are not in flight at
-/// the end, are at most the distinct numbers that came while a request for them was in flight. A request runs out when
-/// its timeout passes, or the settle time after a response. The caller may not report a number as missing after it
-/// came.
+/// In a run that begins without requests, few requests are wasted. Those that neither ran out nor are in flight at the
+/// end are at most as many as the distinct numbers that arrived while a request for them was in flight. A request runs
+/// out when its timeout passes, or the settle time after a response. The caller may not report a number as missing
+/// after it arrived.
 pub fn frugal_law()
     ensures { (old new : Pacer) (steps : List Step) (asks : List (Option Ask)) (ran : IsRun old new steps asks) →
         old.flights.items ≡ [] → AreMissingOnce steps → IsFrugal old new steps asks ran }
 {}
 
-/// `Pacer::attempts` counts no more than the requests that asked for the number, from a pacer without requests on. So a
+/// In a run that begins without requests, `Pacer::attempts` counts no more than the requests for the number. So a
 /// caller that gives a number up after N attempts has requested it at least N times.
 pub fn attempts_law()
     ensures { (old new : Pacer) (steps : List Step) (asks : List (Option Ask)) (number : ℕ) →
@@ -73,8 +74,8 @@ pub fn attempts_law()
         attempts_of (last_request new number) ≤ count_asks_for number asks }
 {}
 
-/// A mark keeps all of an arrival whose time is below 2^62 and whose line is below 4. In one slot, no two datagrams have
-/// the same mark.
+/// The record of an arrival keeps all of it, if its time is below 2^62 and its line is below 4. In one slot, no two
+/// datagrams have the same record.
 pub fn mark_law()
     ensures same { (a b : Arrival) → IsMarked a → IsMarked b → slot_of a.first ≡ slot_of b.first →
         is_same (mark_of a) b ≡ true → (a.first ≡ b.first) × (a.count ≡ b.count) }

@@ -1,5 +1,7 @@
 //! The policy by which a receiver requests missing messages: when a request may be sent, for which numbers, and to
-//! which server. It has no clock and no receiver.
+//! which server. It has no clock and no receiver. A request is *in flight* until it is over: a step frees it, or it
+//! runs out. A response with its last number frees it, and so does the arrival of all its numbers. It runs out when its
+//! timeout has passed, or the time `settle` after another response.
 #![tactic(auto)]
 
 mod arrival;

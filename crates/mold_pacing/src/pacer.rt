@@ -103,7 +103,8 @@ impl Pacer {
         self.state = self.state.respond(self.options, server, ended);
     }
 
-    /// Reports that all numbers of the range came, from wherever. Requests for nothing else are no longer in flight.
+    /// Reports that all numbers of the range arrived, from a line or a server. A request whose numbers are all in the
+    /// range is no longer in flight.
     pub fn arrive(&mut self, came: Gap)
         ensures options { self.new.options ≡ self.old.options }
         ensures state { self.new.state ≡ self.old.state }
@@ -190,7 +191,7 @@ impl Pacer {
     }
 
     /// Returns the least time, from now on, at which a request that begins with this number can be sent, if nothing
-    /// happens before. The number is one that is missing and ripe.
+    /// happens before. Call it for a missing number that is ripe.
     pub fn deadline(&self, number: u64) -> u64
         ensures now { self.now.state.now ≤ result }
         ensures ready { CanAsk self.now result number }
@@ -210,8 +211,9 @@ impl Pacer {
             && self.room_from() <= self.state.now
     }
 
-    /// Returns the first numbers at or above the cursor's number that are not in flight, up to the next request. A walk
-    /// from each hole's end and index to the next hole visits each request once.
+    /// Returns the first numbers at or above the cursor's number that are not in flight, up to the next request. To
+    /// find the next ones, call it again with the end and the index of the result: all such calls together look at each
+    /// request once.
     #[inline(always)]
     pub fn hole(&self, from: Cursor) -> Hole
         requires passed { ArePassed self.now.flights.items self.now.state.now from.index from.number }
@@ -246,8 +248,8 @@ impl Pacer {
         self.state
     }
 
-    /// Returns the time from which on `advance` makes the numbers below the mark ripe. A caller that waits until a
-    /// missing number is ripe reports the time then.
+    /// Returns the time at which the next `advance` makes the numbers below `mark` ripe. A caller that waits for a
+    /// missing number to become ripe calls `advance` at that time.
     pub fn ripens(&self) -> u64
         ensures time { result ≡ min (self.now.state.marked + self.now.state.patience) 18446744073709551615 }
         ensures ripe { (time known : ℕ) → result ≤ time → time < 2 ^ 62 →
@@ -296,7 +298,7 @@ impl Pacer {
         over_from(&self.flights)
     }
 
-    /// Applies a step: one of the calls above. Returns the request that a poll returned.
+    /// Applies a step: `advance`, `adapt`, `respond`, `arrive` or `poll`. Returns the request that a poll returned.
     pub fn apply(&mut self, step: Step<'_>) -> Option<Ask>
         requires { can_step step ≡ true }
         ensures { Takes self.old self.new step.entry result }

@@ -56,7 +56,7 @@ fn is_end(flight: Flight, now: u64, came: Gap) -> bool
     is_response(flight, now, came) && flight.end <= came.end
 }
 
-/// Returns the first request that a response with the numbers of the range ends.
+/// Returns the first request that a response with the numbers of the range frees.
 pub(crate) fn ended_request(flights: &[Flight], now: u64, came: Gap) -> Option<Flight>
     ensures { result ≡ find (ends_request now came.first came.end) flights.now }
 {
@@ -76,7 +76,7 @@ pub(crate) fn take_response(flights: &mut [Flight], settle: u64, now: u64, came:
     }
 }
 
-/// Ends each request whose whole range is within this one, which came.
+/// Frees each request whose whole range is within this one, which arrived.
 pub(crate) fn take_arrival(flights: &mut [Flight], now: u64, came: Gap)
     ensures { flights.new ≡ map (after_arrival now came.first came.end) flights.old }
 {

@@ -34,7 +34,7 @@ pub struct PacerState {
 }
 
 impl PacerState {
-    /// Returns the state before any time was reported. No number below `known` is ripe.
+    /// Returns the state before any time was reported. No number is ripe.
     pub(crate) fn new(options: PacerOptions, known: u64) -> PacerState
         ensures { result ≡ fresh options known }
     {

@@ -13,6 +13,6 @@ pub enum Step<'a> {
     Poll { gaps: &'a [Gap] },
     /// `Pacer::respond`: the server that responded, and the numbers of the response.
     Respond { server: u32, came: Gap },
-    /// `Pacer::arrive`: the numbers that came.
+    /// `Pacer::arrive`: the numbers that arrived.
     Arrive { came: Gap },
 }

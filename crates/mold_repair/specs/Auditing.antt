@@ -1,4 +1,4 @@
--- The audit of what a repairer delivers.
+-- The audit: the digests of the messages that a repairer delivered last.
 use Rattle.std.specs.Prelude.{◌≡◌, ℕ, List, MatchOption, Ok, Option}
 use Rattle.mold_audit.specs.Kept.{AgreesWith, HasNoted, IsContradiction}
 use Rattle.mold_audit.specs.declared.audit.Audit.{Audit}
@@ -18,7 +18,7 @@ pub record IsCompared (a : Audit) (bytes : List ℕ) (found : Option ℕ) : Type
       (IsContradiction a packet.sequence (messages_of packet.body))
 
 -- A datagram that was accepted was compared with the audit. Then these messages, which it delivered from the number
--- `first` on, were noted.
+-- `first` on, were added to the audit.
 pub record HasAudited (old new : Audit) (before after : RepairCounts) (bytes : List ℕ) (first : ℕ)
     (delivered : List Message) : Type 0 where
   -- The number of the contradiction, if there is one.
@@ -27,6 +27,6 @@ pub record HasAudited (old new : Audit) (before after : RepairCounts) (bytes : L
   pub counts : after ≡ counted_contradiction found before
   pub noted : HasNoted old new first delivered
 
--- After messages were given up, if any were, those that were stored after them were noted.
+-- If messages were given up, the stored messages that were then delivered were added to the audit.
 abbrev pub HasAuditedLoss : Audit → Audit → List Message → Option Gap → Type 0
 HasAuditedLoss old new delivered lost = MatchOption lost (new ≡ old) (λ gap. HasNoted old new gap.end delivered)

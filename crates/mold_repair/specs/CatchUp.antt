@@ -17,7 +17,7 @@ use Rattle.mold_wire.specs.Packet.{top_of}
 abbrev pub missing_below : View → ℕ → ℕ
 missing_below v limit = lacking (lacks v.store) v.next (limit - v.next)
 
--- How many steps delivered messages, the first of them with a number below `limit`.
+-- How many steps delivered a message with a number below `limit`.
 abbrev pub count_deliveries : ℕ → List Outcome → ℕ
 count_deliveries limit [] = 0
 count_deliveries limit (o ∷ os) =
@@ -30,7 +30,7 @@ pub record BringsFirst (v : View) (published : List Message) (closed : Bool) (by
   pub begins : truth.packet.sequence ≤ v.next
   pub some : v.next < top_of truth.packet
 
--- The step takes such a datagram.
+-- The step takes a true datagram that has the first missing message.
 abbrev pub TakesFirst : View → List Message → Bool → RepairStep → Type 0
 TakesFirst v published closed (Take time origin datagram) = BringsFirst v published closed datagram.now
 TakesFirst v published closed (Poll time) = ⊥

@@ -19,12 +19,12 @@ use Rattle.mold_repair.specs.Missing.{IsMissing}
 abbrev pub attempts_at : Pacer → ℕ → ℕ → ℕ
 attempts_at p time number = attempts_of (find (is_stale time number) p.flights.items)
 
--- Whether the first missing message is to be given up at this time: it was requested as often as allowed.
+-- Whether the first missing message is to be given up at this time: `give_up` requests for it in a row had no response.
 abbrev pub is_due : ℕ → View → Pacer → ℕ → Bool
 is_due give_up v p time = nat_lt 0 give_up && (nat_lt v.next v.known && nat_le give_up (attempts_at p time v.next))
 
--- The missing messages that are given up: those from `next` on that one request asked for. Each of them was requested
--- as often as allowed.
+-- The missing messages that are given up: those from `next` on that one request asked for, after `give_up` requests for
+-- each of them in a row without a response.
 pub record IsGivenUp (give_up : ℕ) (v : View) (p : Pacer) (gap : Gap) : Type 0 where
   pub allowed : 0 < give_up
   pub first : gap.first ≡ v.next

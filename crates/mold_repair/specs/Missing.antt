@@ -10,7 +10,7 @@ pub record IsMissing (v : View) (number : ℕ) : Type 0 where
   pub below : number < v.known
   pub lacked : finite.get v.store number ≡ None
 
--- The message is missing, in the window and ripe, which are the numbers below `limit`. So it may be requested.
+-- The message is missing, in the window and ripe. So it may be requested. The numbers below `limit` are ripe.
 pub record IsWanted (v : View) (limit number : ℕ) : Type 0 where
   pub missing : IsMissing v number
   pub window : number < v.next + v.window

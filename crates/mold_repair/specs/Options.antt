@@ -28,7 +28,8 @@ are_options o = are_times o && are_counts o
 abbrev pub first_patience : RepairOptions → ℕ
 first_patience o = if o.patience == 0 then FIRST_PATIENCE else o.patience
 
--- How much earlier than an interval after the last one a request may be sent.
+-- How many nanoseconds a request may be sent before its regular time, which is an interval after that of the last
+-- request. It allows `bucket` requests at once.
 abbrev pub tolerance : RepairOptions → ℕ
 tolerance o = min (o.interval * (o.bucket - 1)) MAX_TIME
 

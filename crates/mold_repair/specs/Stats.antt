@@ -12,7 +12,7 @@ use Rattle.mold_repair.specs.declared.origin.RepairOrigin.{RepairOrigin}
 use Rattle.mold_repair.specs.declared.origin.RepairOrigin.TheVariants.{Line, Server}
 use Rattle.mold_repair.specs.declared.stats.RepairCounts.{RepairCounts}
 
--- Before anything was counted.
+-- The counts at the start.
 abbrev pub no_counts : RepairCounts
 no_counts = record {
   requests = 0;
@@ -25,7 +25,7 @@ no_counts = record {
   contradiction = None;
 }
 
--- After a request was returned.
+-- The counts after a request was returned.
 abbrev pub counted_request : RepairCounts → RepairCounts
 counted_request c = record c { requests = u64_saturate (c.requests + 1) }
 
@@ -33,14 +33,14 @@ counted_request c = record c { requests = u64_saturate (c.requests + 1) }
 abbrev pub is_useless : Taken → Bool
 is_useless taken = (taken.handed == 0) && (taken.kept == 0)
 
--- After a server's datagram was accepted.
+-- The counts after a server's datagram was accepted.
 abbrev pub counted_answer : Taken → RepairCounts → RepairCounts
 counted_answer taken c =
     if is_useless taken
     then record c { answers = u64_saturate (c.answers + 1); useless = u64_saturate (c.useless + 1) }
     else record c { answers = u64_saturate (c.answers + 1) }
 
--- After a datagram was accepted on this line. Only those that brought nothing new count.
+-- The counts after a datagram was accepted on this line. It is counted if no message of it was delivered or stored.
 abbrev pub counted_line : TheLine → Taken → RepairCounts → RepairCounts
 counted_line A taken c = if is_useless taken then record c { again_a = u64_saturate (c.again_a + 1) } else c
 counted_line B taken c = if is_useless taken then record c { again_b = u64_saturate (c.again_b + 1) } else c
@@ -50,7 +50,8 @@ abbrev pub counted_taken : RepairOrigin → Taken → RepairCounts → RepairCou
 counted_taken (Line line) taken c = counted_line line taken c
 counted_taken (Server server) taken c = counted_answer taken c
 
--- After a datagram was compared with what was delivered. The number is that of the contradiction, if there is one.
+-- The counts after a datagram was compared with the delivered messages. The number is that of the contradiction, if
+-- there is one.
 abbrev pub counted_contradiction : Option ℕ → RepairCounts → RepairCounts
 counted_contradiction None c = c
 counted_contradiction (Some number) c =
@@ -67,16 +68,16 @@ line_stats report again late = record {
   late = late;
 }
 
--- After these messages were given up.
+-- The counts after these messages were given up.
 abbrev pub counted_loss : Gap → RepairCounts → RepairCounts
 counted_loss gap c = record c { lost = u64_saturate (c.lost + (gap.end - gap.first)) }
 
--- After a poll returned this.
+-- The counts after a poll, which returned a request or none.
 abbrev pub counted_poll : Option Ask → RepairCounts → RepairCounts
 counted_poll None c = c
 counted_poll (Some ask) c = counted_request c
 
--- After these messages were given up, if any were.
+-- The counts after these messages were given up, if any were.
 abbrev pub counted_lost : Option Gap → RepairCounts → RepairCounts
 counted_lost None c = c
 counted_lost (Some gap) c = counted_loss gap c

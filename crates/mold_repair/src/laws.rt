@@ -59,8 +59,8 @@ pub fn lost_count_law()
 
 /// What is delivered is what was published. Each datagram of the run is true of the session, or does not encode a
 /// packet of it, and the receiver is honest at the start: it knows nothing false. Then each step delivers the published
-/// messages with its numbers, and the receiver stays honest. From one loss to the next, all that is delivered is one
-/// consecutive piece of the published messages: only the first step of such a part may have given up messages.
+/// messages with its numbers, and the receiver stays honest. If only the first step of a run gives up messages, the run
+/// delivers consecutive published messages.
 pub fn safe_law()
     ensures pieces { (old new : Repairer) (steps : List RepairStep) (outcomes : List Outcome)
         (ran : IsRepaired old new steps outcomes) (published : List Message) (closed : Bool) →
@@ -84,7 +84,8 @@ pub fn safe_law()
     taken_law();
 }
 
-/// Catching up takes no more deliveries than messages are missing. `limit` is any number, as `known` at the start.
+/// To catch up, at most as many steps have to deliver as messages are missing. `limit` is any number, such as `known`
+/// at the start.
 ///
 /// - A true datagram that has the first missing message is accepted, and delivers it, unless an allocation fails.
 ///   `stuck_law` states when this message is requested.
@@ -115,7 +116,7 @@ pub fn catch_up_law()
     well_formed_law();
 }
 
-/// Each run of a repairer is a run of its pacer, so the laws of `mold_pacing` hold of it. No number is requested twice
+/// Each run of a repairer is a run of its pacer, so the laws of `mold_pacing` hold for it. No number is requested twice
 /// within the timeout, unless a step freed the request for it.
 pub fn pacing_law()
     ensures { (old new : Repairer) (steps : List RepairStep) (outcomes : List Outcome) →
@@ -125,9 +126,9 @@ pub fn pacing_law()
     taken_law();
 }
 
-/// Few requests are wasted, from a repairer without requests on. Those that did not run out, and are not in flight at
-/// the end, are at most the distinct numbers that came while a request for them was in flight. A request runs out when
-/// its timeout passes, or the settle time after a response.
+/// In a run that begins without requests, few requests are wasted. Those that neither ran out nor are in flight at the
+/// end are at most as many as the distinct numbers that arrived while a request for them was in flight. A request runs
+/// out when its timeout passes, or the settle time after a response.
 pub fn frugal_law()
     ensures { (old new : Repairer) (steps : List RepairStep) (outcomes : List Outcome) →
         IsRepaired old new steps outcomes → IsWellFormed old.arbiter.view → old.pacer.flights.items ≡ [] →
@@ -139,8 +140,8 @@ pub fn frugal_law()
     well_formed_law();
 }
 
-/// No request stays in flight in vain: in a run that begins without requests, each request in flight asks for a message
-/// that is still missing. So a request is freed as soon as all its messages came, whichever datagrams brought them.
+/// No request stays in flight after all its messages arrived, whichever datagrams brought them: in a run that begins
+/// without requests, each request in flight asks for a message that is still missing.
 pub fn needed_law()
     ensures { (old new : Repairer) (steps : List RepairStep) (outcomes : List Outcome) →
         IsRepaired old new steps outcomes → IsWellFormed old.arbiter.view → old.pacer.flights.items ≡ [] →
@@ -152,8 +153,9 @@ pub fn needed_law()
     well_formed_law();
 }
 
-/// In each run, and so in each part of a run, the requests times the interval are at most the time that passed, the
-/// tolerance and one interval. So a span of time has at most `bucket` requests and one more for each interval.
+/// In each run, and so in each part of a run, the count of requests times `interval` is at most the sum of the time
+/// that passed, the tolerance and one `interval`. So a span of time has at most `bucket` requests and one more for each
+/// interval.
 pub fn flood_law()
     ensures { (old new : Repairer) (steps : List RepairStep) (outcomes : List Outcome) →
         IsRepaired old new steps outcomes →
@@ -164,8 +166,9 @@ pub fn flood_law()
     pacing_law();
 }
 
-/// Requests never get stuck. A time span after any moment, each number can be requested. The span is the greater of the
-/// ceiling and the interval. A poll then requests the first missing message, if it is ripe and not to be given up.
+/// Requests never get stuck. If nothing else happens for the greater of the ceiling and the interval, a request for any
+/// number can be sent. A poll at that time or later requests the first missing message, if it is ripe and not to be
+/// given up.
 pub fn stuck_law()
     ensures ready { (p : Pacer) (number : ℕ) →
         CanAsk p (p.state.now + max p.options.ceiling p.options.interval) number }
@@ -176,8 +179,8 @@ pub fn stuck_law()
         RequestsFirst v result }
 {}
 
-/// What is given up was requested as often as allowed: in a run that begins without requests, each of its numbers was
-/// in `give_up` requests of the pacer.
+/// In a run that begins without requests, each message that is given up was in at least `give_up` requests of the
+/// pacer.
 pub fn given_up_law()
     ensures { (start old new : Repairer) (steps : List RepairStep) (outcomes : List Outcome) →
         (is : IsPaced start old steps outcomes) → (time : ℕ) (handed : Handed) (outcome : Outcome) →

@@ -10,9 +10,9 @@ use mold_receiver::LineReport;
 pub struct LineStats {
     /// The datagrams that were accepted on the line.
     pub datagrams: u64,
-    /// Those of which a message was delivered or stored: the line brought them before the other one.
+    /// Those of which a message was delivered or stored. Neither the other line nor a response had brought it before.
     pub first: u64,
-    /// The others: they brought no message, or only messages that had come.
+    /// The others: no message of them was delivered or stored.
     pub again: u64,
     /// The datagrams that were refused, without those for which an allocation failed.
     pub refused: u64,

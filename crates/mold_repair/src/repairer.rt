@@ -174,9 +174,10 @@ impl Repairer {
         self.pacer.adapt(self.delays.patience());
     }
 
-    /// Takes a datagram that came at the time `now`, exactly as `Arbiter::take_from` does. If it is accepted, its
-    /// numbers are no longer requested. The response of a server frees the request for it. The batch must be empty or
-    /// end just before the receiver's `next`.
+    /// Takes a datagram that came at the time `now`, exactly as `Arbiter::take_from` does. If it is accepted, the
+    /// messages that were delivered or stored are no longer requested. A response that has the last message of a
+    /// request frees this request; any other response leaves it in flight for at most `settle` more. The batch must be
+    /// empty or end just before the receiver's `next`.
     // For the optimizer: `#[inline(always)]` here and at `learn` and `adapt` saves calls that return structs through
     // memory, as in `mold_receiver`.
     #[inline(always)]
@@ -244,7 +245,7 @@ impl Repairer {
         }
     }
 
-    // Returns the first missing messages, if they were requested as often as allowed.
+    // Returns the first missing messages, if they are to be given up.
     fn given_up(&self) -> Option<Gap>
         ensures some { IfSome result
             (IsGivenUp self.now.options.give_up self.now.arbiter.view self.now.pacer) }
@@ -268,8 +269,8 @@ impl Repairer {
         })
     }
 
-    /// Gives up the first missing messages at the time `now`, if one request asked for them and each was requested as
-    /// often as `give_up` allows, without a response. Returns their numbers. The stored messages after them are
+    /// Gives up the first missing messages at the time `now`, if `give_up` requests for them in a row had no response.
+    /// Only messages of one request are given up together. Returns their numbers. The stored messages after them are
     /// appended to `batch`, which must be empty. Call it until it returns none. If an allocation fails, only the time
     /// passed.
     pub fn lost(&mut self, now: u64, batch: &mut Batch) -> Result<Option<Gap>, AllocError>
