@@ -39,7 +39,8 @@ abbrev pub step_at : Option ℕ → List PortSetStep → Option PortSetStep
 step_at None steps = None
 step_at (Some index) steps = slice_get steps index
 
--- The step that a call takes at the time `now`: the first of these steps that is for this call, and due.
+-- The step that a call takes at the time `now`: the first step of the script that is for this call, and whose time is
+-- not after `now`.
 abbrev pub next_step : PortSetCall → ℕ → List PortSetStep → Option PortSetStep
 next_step call now steps = step_at (position (is_due call now) steps) steps
 
@@ -68,11 +69,11 @@ abbrev pub earlier : ℕ → PortSetStep → ℕ
 earlier time step = earlier_for (call_of step) (time_of step) time
 
 -- The time after a wait until `until` that began at the time `now`: the earlier of `until` and the least time of a step
--- for a wait or a receive. It is never less than `now`, and otherwise at most 2^62 - 1.
+-- for a wait or a receive. It is at least `now`, and at most the greater of `now` and 2^62 - 1.
 abbrev pub waited : ℕ → ℕ → List PortSetStep → ℕ
 waited now until steps = max (min (fold earlier until steps) (2 ^ 62 - 1)) now
 
--- The datagram that a receive on this port gives if it takes this step, into a buffer of `n` bytes.
+-- The datagram that a receive on this port, into a buffer of `n` bytes, gives if it takes this step.
 abbrev pub given_at : ℕ → ℕ → Option PortSetStep → List Given
 given_at port n (Some (Come at to bytes)) = record { port = port; bytes = take n bytes.items } ∷ []
 given_at port n (Some (Fail at call)) = []

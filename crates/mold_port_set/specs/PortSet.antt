@@ -14,7 +14,7 @@ pub record Sent (P : Type 0) : Type 0 where
   pub to : P
   pub bytes : List ℕ
 
--- A set of ports.
+-- The state of a set of ports: the received and sent datagrams, the time, and the count of failures.
 pub record PortSetState (P : Type 0) : Type 0 where
   -- the datagrams that receives gave, in order
   pub given : List Given
@@ -31,7 +31,7 @@ given_by port (Ok (Some count)) buffer = record { port = port; bytes = take coun
 given_by port (Ok None) buffer = []
 given_by port (Err fault) buffer = []
 
--- The datagram that a send left, if it succeeded.
+-- The datagram that a send sent, if it succeeded.
 abbrev pub sent_by : {P : Type 0} → Bool → ℕ → P → List ℕ → List (Sent P)
 sent_by true port to bytes = []
 sent_by false port to bytes = record { port = port; to = to; bytes = bytes } ∷ []

@@ -135,8 +135,8 @@ impl PortSet for MemoryPortSet {
     }
 
     /// Moves the clock to the earlier of `until` and the least time of a remaining step for a wait or a receive. The
-    /// clock never falls, and stops below 2^62. Returns whether a step for a receive is then due. It fails if it takes
-    /// a step.
+    /// clock never falls, and stops below 2^62. Returns whether a step for a receive is then due. It fails if a step
+    /// `Fail` for a wait is then due, and takes that step.
     fn wait(&mut self, until: u64) -> Result<bool, DeviceFault>
         // Clauses of every set of ports.
         ensures given { self.new.ports.given ≡ self.old.ports.given }

@@ -22,8 +22,8 @@ pub trait PortSet {
         ensures value { result ≡ (state self.now).now }
         ensures limit { result < 2 ^ 62 };
 
-    /// Waits until a datagram is at a port, or until the time `until`. Returns whether a datagram may be at a port. A
-    /// fault is counted.
+    /// Waits until a datagram is at a port, at most until the time `until`. It may end before. Returns whether a
+    /// datagram may be at a port. A failure is counted.
     fn wait(&mut self, until: u64) -> Result<bool, DeviceFault>
         ensures given { modeled ≡ true → (state self.new).given ≡ (state self.old).given }
         ensures sent { modeled ≡ true → (state self.new).sent ≡ (state self.old).sent }
@@ -31,7 +31,7 @@ pub trait PortSet {
         ensures failures { Counts (state self.old).failures (state self.new).failures result };
 
     /// Receives a datagram that is at the port into a prefix of `buffer`, truncated to the buffer's length. Returns its
-    /// length, or `None` if there is none. After a fault, which is counted, the contents of `buffer` are unspecified.
+    /// length, or `None` if there is none. After a failure, which is counted, the contents of `buffer` are unspecified.
     fn receive(&mut self, port: usize, buffer: &mut [u8]) -> Result<Option<usize>, DeviceFault>
         ensures count { IfOk result (λ answer. IfSome answer (λ count. count ≤ length buffer.new)) }
         ensures same { length buffer.new ≡ length buffer.old }
@@ -41,7 +41,7 @@ pub trait PortSet {
         ensures clock { (state self.old).now ≤ (state self.new).now }
         ensures failures { Counts (state self.old).failures (state self.new).failures result };
 
-    /// Sends a datagram from the port. A fault is counted.
+    /// Sends a datagram from the port. A failure is counted.
     fn send(&mut self, port: usize, to: Self::Peer, bytes: &[u8]) -> Result<(), DeviceFault>
         ensures given { modeled ≡ true → (state self.new).given ≡ (state self.old).given }
         ensures sent { modeled ≡ true →
@@ -54,7 +54,7 @@ pub trait PortSet {
     fn drops(&mut self) -> Option<u64>
         ensures { state self.new ≡ state self.old };
 
-    /// Returns the number of datagrams that the port passed over because another sender sent them.
+    /// Returns the number of datagrams that the port ignored because another sender sent them.
     fn passed_over(&self, port: usize) -> u64;
 
     /// Returns the number of waits, receives and sends that failed. It stops at `u64::MAX`.

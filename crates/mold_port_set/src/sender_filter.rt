@@ -6,10 +6,10 @@ use crate::descriptor::Descriptor;
 use mold_devices::DeviceFault;
 use std::net::{Ipv4Addr, SocketAddrV4};
 
-/// The most datagrams of other senders that one receive passes over.
+/// The most datagrams of other senders that one receive ignores.
 const MOST_PASSED_OVER: u32 = 64;
 
-/// The sender whose datagrams a port gives, and the number of datagrams that it passed over.
+/// The sender whose datagrams a port gives, and the number of datagrams that it ignored.
 #[derive(Clone, Copy)]
 pub(crate) struct SenderFilter {
     /// The sender, or `None` for any sender.
@@ -19,7 +19,7 @@ pub(crate) struct SenderFilter {
 }
 
 impl SenderFilter {
-    /// Returns a filter that passed over nothing yet.
+    /// Returns a filter that ignored nothing yet.
     pub(crate) fn new(source: Option<Ipv4Addr>) -> SenderFilter {
         SenderFilter {
             source,
@@ -27,14 +27,14 @@ impl SenderFilter {
         }
     }
 
-    /// Returns the number of datagrams that were passed over. It stops at `u64::MAX`.
+    /// Returns the number of datagrams that were ignored. It stops at `u64::MAX`.
     pub(crate) fn passed_over(self) -> u64 {
         self.passed_over
     }
 
-    /// Takes the next datagram of the sender, and returns its length. Datagrams of other senders before it are passed
-    /// over. Returns `None` if no datagram remains, or if 64 were passed over. A fault means that the system reports an
-    /// error of the socket.
+    /// Takes the next datagram of the sender, and returns its length. Datagrams of other senders before it are ignored.
+    /// Returns `None` if no datagram remains, or if 64 were ignored. A fault means that the system reports an error of
+    /// the socket.
     pub(crate) fn receive(
         &mut self,
         descriptor: Descriptor,

@@ -91,7 +91,7 @@ impl UdpPortSet {
 
     /// Adds a port at an address of this machine; for port number 0, the system chooses one. If `source` is not `None`,
     /// the port gives only datagrams from this IP address. It fails if the address is not the machine's or is taken, if
-    /// no socket is available, or if the set is full.
+    /// no socket is available, or if the set has [`PORTS`] ports already.
     pub fn bind<R: Net>(
         &mut self,
         rt: &R,
@@ -110,11 +110,12 @@ impl UdpPortSet {
         Ok(())
     }
 
-    /// Adds a port over an open UDP socket that the process was started with, and takes the socket over. If `source`
-    /// is not `None`, the port gives only datagrams from this IP address. It fails if the descriptor is not from 3 to
-    /// 1023, is not a UDP socket over IPv4 that is bound to a port, or is a socket of this set, or if the set is full.
-    /// In these cases the descriptor stays open. The socket must not belong to another value of this process, so call
-    /// this before other sockets are opened.
+    /// Adds a port over an open UDP socket that the process was started with, and takes the socket over. If `source` is
+    /// not `None`, the port gives only datagrams from this IP address. It fails if the descriptor is not from 3 to
+    /// 1023, or is not a UDP socket over IPv4 that is bound to a port. It also fails if the socket is one of this set,
+    /// or if the set has [`PORTS`] ports already. In these cases the descriptor stays open. Don't adopt a socket that
+    /// the process opened itself: call this before other sockets are opened, so that the descriptor can't be one of
+    /// theirs.
     ///
     /// The socket's modes stay as they are, so another process that has the socket too can use it as before.
     pub fn adopt<R: Net>(
@@ -227,9 +228,9 @@ impl PortSet for UdpPortSet {
     }
 
     /// Waits until a datagram is at any port, or until the time `until`, in nanoseconds since the set was made. The
-    /// wait is rounded up to a millisecond. If `until` is `u64::MAX`, there is no deadline, and the wait ends after one
-    /// second. If `until` is over, this only looks. Returns whether a datagram is at a port, of any sender. It fails if
-    /// the system refuses or interrupts the wait.
+    /// wait is rounded up to a whole millisecond. If `until` is `u64::MAX`, there is no deadline, and the wait ends
+    /// after one second. If `until` has passed, it does not wait. Returns whether a datagram is at a port, of any
+    /// sender. It fails if the system refuses or interrupts the wait.
     fn wait(&mut self, until: u64) -> Result<bool, DeviceFault>
         // Clauses of every set of ports.
         ensures clock { self.old.time ≤ self.new.time }
@@ -248,9 +249,9 @@ impl PortSet for UdpPortSet {
     }
 
     /// Receives a datagram into a prefix of `buffer`, truncated to the buffer's length, and returns its length. It
-    /// never waits. Datagrams of other senders than the port's `source` are passed over and counted. Returns `None` if
-    /// no datagram remains at the port, or if 64 datagrams were passed over. It fails if the set has no such port, or
-    /// if the system reports an error of the socket. If it returns no length, the contents of `buffer` are unspecified.
+    /// never waits. Datagrams of other senders than the port's `source` are ignored and counted. Returns `None` if no
+    /// datagram remains at the port, or if 64 datagrams were ignored. It fails if the set has no such port, or if the
+    /// system reports an error of the socket. If it returns no length, the contents of `buffer` are unspecified.
     ///
     /// A port that a wait found empty, or for which this returned `None`, is not looked at again before the next wait.
     fn receive(&mut self, port: usize, buffer: &mut [u8]) -> Result<Option<usize>, DeviceFault>
@@ -318,8 +319,8 @@ impl PortSet for UdpPortSet {
         Some(total)
     }
 
-    /// Returns the number of datagrams of other senders that were passed over at the port. It stops at `u64::MAX`. If
-    /// the set has no such port, it is 0.
+    /// Returns the number of datagrams of other senders that were ignored at the port. It stops at `u64::MAX`. If the
+    /// set has no such port, it is 0.
     fn passed_over(&self, port: usize) -> u64 {
         match self.filters[..self.count].get(port) {
             Some(filter) => filter.passed_over(),
