@@ -82,7 +82,8 @@ all_sent lines servers (call ∷ calls) =
 abbrev pub lost_line : Gap → List ℕ
 lost_line gap = line_of (codes "lost" ∷ decimal gap.first ∷ decimal (gap.end - 1) ∷ [])
 
--- The text on standard output for messages that were given up, if there are any. Among blocks there is none.
+-- The text on standard output for messages that were given up, if there are any. If messages are printed as blocks, it
+-- is empty.
 abbrev pub lost_text : MessageFormat → Option Gap → List ℕ
 lost_text format None = []
 lost_text format (Some gap) = note_text format (lost_line gap)
@@ -215,8 +216,8 @@ pub record HasRun {P : Type 0} (lines : ℕ) (servers : List P) (format : Messag
   pub sent : modeled ≡ true → new.ports.sent ≡ old.ports.sent ++ all_sent lines servers calls
   pub printed : new.text ≡ old.text ++ all_text format calls
 
--- A receiver has ended: all its text is written, and then its last line. Among blocks the last line is not on standard
--- output.
+-- A receiver has ended: all its text is written, and then its last line. If messages are printed as blocks, the last
+-- line and the lines `lost` are not on standard output.
 pub record HasEnded {P : Type 0} (lines : ℕ) (servers : List P) (format : MessageFormat) (modeled : Bool)
     (first : List Given) (old : ReceiverState P) (new : Repairer) (after : PortSetState P)
     (held_old held_new : Option (List ℕ)) (status : ℕ) : Type 0 where
@@ -226,8 +227,8 @@ pub record HasEnded {P : Type 0} (lines : ℕ) (servers : List P) (format : Mess
   pub appended : Appends held_old held_new (text ++ note_text format (last_line new after.failures))
   pub status_is : status ≡ last_status new
 
--- What a receiver over ports leaves if its loop ends with a fault: a prefix of the text of some calls, and of the last
--- line that follows them, was written.
+-- The loop of a receiver over ports ended with a fault. It has written a prefix of a text: that of some calls, and then
+-- the last line.
 pub record HasBroken {P : Type 0} (lines : ℕ) (servers : List P) (format : MessageFormat) (modeled : Bool)
     (first : List Given) (old : ReceiverState P) (held_old held_new : Option (List ℕ)) : Type 0 where
   -- the prefix of `first` that was taken

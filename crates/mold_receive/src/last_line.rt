@@ -111,8 +111,8 @@ fn push_unopened(outgoing: &mut Outgoing, next: u64, failures: u64) -> Result<()
     outgoing.push_note(&words)
 }
 
-/// Prints the last line of a receiver that started at `next`, and for which no session came. Among blocks it is written
-/// to `errors`, otherwise to `sink`. Returns the status, which is 1.
+/// Prints the last line of a receiver that started at `next`, and for which no session came. If messages are printed as
+/// blocks, it is written to `errors`, otherwise to `sink`. Returns the status, which is 1.
 pub fn end_unopened<P: Copy, K: Sink, E: Sink>(
     alloc: Global,
     numbers: Unopened,

@@ -235,11 +235,11 @@ impl<D: PortSet + Drop> Opening<D> {
 
 /// Waits for the first data packet or heartbeat of a session, and returns it. `session` is the session, if it is known;
 /// otherwise the first packet's session is printed on `errors`, as `session SESSION`. End packets before the first
-/// packet are passed over. Other datagrams are refused as a receiver refuses them, and some of them reported on
-/// `errors`, as `receive_loop` does. No request is sent.
+/// packet are ignored. Other datagrams are refused as a receiver refuses them, and some of them reported on `errors`,
+/// as `receive_loop` does. No request is sent.
 ///
-/// It returns no packet if none came for as long as `ReceiveOptions::with_quiet` states, or in the turns of the options.
-/// A failed wait or receive is counted, and the wait continues.
+/// It returns no packet if none arrived in the time of `ReceiveOptions::with_quiet`, or in the turns of the options. A
+/// failed wait or receive is counted, and the wait continues.
 pub fn await_session<D: PortSet + Drop, E: Sink>(
     alloc: Global,
     ports: D,

@@ -40,8 +40,9 @@ pub struct ReceiveOptions<P> {
 impl<P: Copy> ReceiveOptions<P> {
     /// Returns the options of a receiver of 1 or 2 lines and at most 8 servers, or `None` for other numbers. The ports
     /// of the lines come first in the set of ports, and those of the servers follow. `blocks` states whether messages
-    /// are printed as blocks, and not as lines. After this many `turns` the receiver ends, even if the session is not
-    /// finished. It prints no statistics, and does not end because nothing comes.
+    /// are printed as blocks, and not as lines. After this number of `turns` the receiver ends, even if the session is
+    /// not finished. Until `with_stats` and `with_quiet` change this, it prints no statistics, and waits without a
+    /// limit.
     pub fn new(lines: usize, servers: Vec<P>, blocks: bool, turns: u64) -> Option<ReceiveOptions<P>>
         ensures lines { IfSome result (λ options. options.lines ≡ lines) }
         ensures servers { IfSome result (λ options. options.servers ≡ servers) }
@@ -64,8 +65,8 @@ impl<P: Copy> ReceiveOptions<P> {
         })
     }
 
-    /// Returns the same options for a receiver that ends when no datagram was accepted for so long, in seconds. If it
-    /// is 0, the receiver never ends for this reason.
+    /// Returns the same options for a receiver that ends after this number of seconds without an accepted datagram.
+    /// With 0 it never ends for this reason.
     pub fn with_quiet(self, seconds: u32) -> ReceiveOptions<P>
         ensures { result ≡ record self { quiet = span_of seconds } }
     {
@@ -74,8 +75,8 @@ impl<P: Copy> ReceiveOptions<P> {
         options
     }
 
-    /// Returns the same options for a receiver that prints statistics every time this span has passed, in seconds, and
-    /// before its last line. If it is 0, no statistics are printed.
+    /// Returns the same options for a receiver that prints statistics each time this number of seconds has passed, and
+    /// before its last line. With 0 it prints none.
     pub fn with_stats(self, seconds: u32) -> ReceiveOptions<P>
         ensures { result ≡ record self { stats = span_of seconds } }
     {

@@ -61,7 +61,8 @@ closing_status finished [] = if finished then 0 else 1
 closing_status finished (gap ∷ gaps) = 1
 
 -- The text that a receiver which started at message `first` prints of a journal: the journal's messages from there to
--- `next - 1`, without the ranges that were given up, and its last line. Among blocks there are only the messages.
+-- `next - 1`, without the ranges that were given up, and its last line. If messages are printed as blocks, there are
+-- only the messages.
 pub record Prints (format : MessageFormat) (journal : JournalState) (first : ℕ) (text : List ℕ) : Type 0 where
   -- the number of the next message
   pub next : ℕ

@@ -33,16 +33,16 @@ use mold_repair::laws::{lost_count_law, safe_law};
 /// sent by the publisher or by a server, or does not encode a packet of the session. A sent datagram may come any
 /// number of times, in any order, or never.
 ///
-/// - `printed`: the receiver has ended. It printed the published messages from its first one on, in order, and left out
-///   exactly the ranges that it gave up. The line `lost FIRST LAST` is in place of each range. With status 0 it gave up
-///   nothing, and has finished.
+/// - `printed`: the receiver has ended. It printed the published messages from its first one up to some number, in
+///   order, and left out exactly the ranges that it gave up. If it prints lines, the line `lost FIRST LAST` is in place
+///   of each range. With status 0 it gave up nothing, and has finished.
 /// - `all`: the receiver has ended with status 0. It printed all published messages from its first one on, and the
 ///   session is closed, so no entry was refused.
 /// - `lines`: as `all`, for an input of lines and a receiver that prints lines. It printed all published lines from its
 ///   first one on, each after its number and with its digits in lower case.
 /// - `same_bytes`: the input is blocks, and the receiver prints blocks from message 1 on. With status 0 it has written
 ///   exactly the bytes of the input.
-/// - `broken`: the receiver has ended with a fault. It has written a prefix of such a text.
+/// - `broken`: the receiver has ended with a fault. It has written a prefix of a text as in `printed`.
 pub fn receive_law<D: Datagrams>()
     ensures printed { (lines : ℕ) (servers : List D.Peer) (format : MessageFormat) (given : List Given)
         (limit first window : ℕ)
