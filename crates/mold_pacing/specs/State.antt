@@ -18,8 +18,8 @@ fresh options known = record {
   server = 0;
 }
 
--- The state at a later time. A time below the last one counts as the last one. Once a patience has passed since the
--- mark was set, the numbers below the mark are ripe, and the mark is what is known now.
+-- The state at a later time. A time below the last one counts as the last one. Once `patience` has passed since `mark`
+-- was set, the numbers below `mark` are ripe, and `mark` becomes what is known now.
 abbrev pub advanced : ℕ → ℕ → PacerState → PacerState
 advanced time known s =
     let now = max s.now time in

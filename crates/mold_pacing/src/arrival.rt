@@ -12,7 +12,7 @@ pub struct Arrival {
     pub first: u64,
     /// The count of its messages.
     pub count: u16,
-    /// The time at which it came, in nanoseconds. It is below 2^62.
+    /// The time at which it arrived, in nanoseconds. It is below 2^62.
     pub time: u64,
     /// The index of the line: 0, 1 or 2.
     pub line: u32,

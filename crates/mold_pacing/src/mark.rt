@@ -45,7 +45,7 @@ pub(crate) fn slot_of(first: u64) -> usize
 }
 
 impl Mark {
-    /// Returns the time at which the datagram came first.
+    /// Returns the time at which the datagram arrived first.
     #[inline(always)]
     pub(crate) fn time(self) -> u64
         ensures { result ≡ time_of self }

@@ -36,7 +36,7 @@ fn with_response(flight: Flight, settle: u64, now: u64, came: Gap) -> Flight
     }
 }
 
-// Returns the request after the numbers of the range came.
+// Returns the request after the numbers of the range arrived.
 fn with_arrival(flight: Flight, now: u64, came: Gap) -> Flight
     ensures { result ≡ after_arrival now came.first came.end flight }
 {

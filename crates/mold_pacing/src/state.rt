@@ -51,7 +51,7 @@ impl PacerState {
         }
     }
 
-    /// Changes the state to that at a later time. Once a patience has passed since `mark` was set, the numbers below it
+    /// Changes the state to that at a later time. Once `patience` has passed since `mark` was set, the numbers below it
     /// are ripe.
     // For the optimizer: it changes fields in place. Most datagrams change the time only, and write nothing else.
     #[inline(always)]

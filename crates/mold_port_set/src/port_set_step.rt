@@ -9,7 +9,7 @@ use crate::port_set_call::PortSetCall;
 /// set was made. If `at` is 2^62 or more, it is never taken, because the clock stops below.
 #[derive(Debug, Drop)]
 pub enum PortSetStep {
-    /// A datagram comes to a port. A receive on the port gives it.
+    /// A datagram arrives at a port. A receive on the port gives it.
     Come {
         at: u64,
         port: usize,

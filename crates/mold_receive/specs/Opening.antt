@@ -68,7 +68,7 @@ first_in Other = None
 first_in (First first) = Some first
 
 -- A wait for a session ended. The ports gave some datagrams that do not open the session, and then the first packet, if
--- one came. Nothing was sent. What ports give is stated only if it is known, which it is for ports in memory.
+-- one arrived. Nothing was sent. What ports give is stated only if it is known, which it is for ports in memory.
 pub record HasAwaited {P : Type 0} (lines : ℕ) (session : Option Session) (modeled : Bool) (old new : PortSetState P)
     (first : Option FirstPacket) : Type 0 where
   pub passed : List Given

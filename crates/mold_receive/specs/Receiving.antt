@@ -42,7 +42,7 @@ unfoldable pub Follow : Repairer → List Call → Repairer → Type 0
 Follow old [] new = new ≡ old
 Follow old (call ∷ calls) new = (call.before ≡ old) × Follow call.after calls new
 
--- The index of the port on which datagrams of this origin come. `lines` is the number of lines: the ports of the
+-- The index of the port on which datagrams of this origin arrive. `lines` is the number of lines: the ports of the
 -- servers follow those of the lines.
 abbrev pub port_of : ℕ → RepairOrigin → ℕ
 port_of lines (Line A) = 0
@@ -178,7 +178,7 @@ open_line repairer failures = line_of
     ∷ codes "known" ∷ decimal repairer.arbiter.view.known
     ∷ codes "lost" ∷ decimal repairer.counts.lost ∷ codes "failed" ∷ decimal failures ∷ [])
 
--- The last line of a receiver for which no session came.
+-- The last line of a receiver that received no first packet.
 abbrev pub unopened_line : ℕ → ℕ → List ℕ
 unopened_line next failures = line_of
     (codes "open" ∷ codes "next" ∷ decimal next ∷ codes "known" ∷ decimal next

@@ -21,7 +21,7 @@ abbrev pub line_name : TheLine → List ℕ
 line_name A = codes "a"
 line_name B = codes "b"
 
--- The words for where a datagram came: a line, or a server, counted from 1.
+-- The words for where a datagram arrived: a line, or a server, counted from 1.
 abbrev pub origin_words : RepairOrigin → List (List ℕ)
 origin_words (Line line) = line_name line ∷ []
 origin_words (Server server) = codes "server" ∷ decimal (server + 1) ∷ []

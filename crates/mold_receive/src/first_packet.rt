@@ -3,10 +3,10 @@
 use mold_repair::RepairOrigin;
 use mold_wire::Session;
 
-/// The first data packet or heartbeat of a session that came.
+/// The first data packet or heartbeat of a session that arrived.
 #[derive(Debug, Drop)]
 pub struct FirstPacket {
-    /// The line on which it came, or the server.
+    /// The line on which it arrived, or the server.
     pub origin: RepairOrigin,
     /// Its session.
     pub session: Session,

@@ -16,7 +16,7 @@ use std::alloc::{AllocError, Global};
 /// The status of a receiver that is not finished, or that gave up messages.
 const UNFINISHED: u8 = 1;
 
-/// What the last line of a receiver reports for which no session came.
+/// What the last line of a receiver without a first packet reports.
 #[derive(Clone, Copy, Debug, PartialEq, Eq)]
 pub struct Unopened {
     /// The number at which it would have started.
@@ -93,7 +93,7 @@ pub(crate) fn last_status(repairer: &Repairer) -> u8
     UNFINISHED
 }
 
-// Appends the last line of a receiver for which no session came.
+// Appends the last line of a receiver without a first packet.
 fn push_unopened(outgoing: &mut Outgoing, next: u64, failures: u64) -> Result<(), AllocError>
     ensures line { OnOk result (outgoing.new ≡ with_note (unopened_line next failures) outgoing.old) }
 {
@@ -111,8 +111,8 @@ fn push_unopened(outgoing: &mut Outgoing, next: u64, failures: u64) -> Result<()
     outgoing.push_note(&words)
 }
 
-/// Prints the last line of a receiver that started at `next`, and for which no session came. If messages are printed as
-/// blocks, it is written to `errors`, otherwise to `sink`. Returns the status, which is 1.
+/// Prints the last line of a receiver that received no first packet, and would have started at `next`. If messages are
+/// printed as blocks, it is written to `errors`, otherwise to `sink`. Returns the status, which is 1.
 pub fn end_unopened<P: Copy, K: Sink, E: Sink>(
     alloc: Global,
     numbers: Unopened,

@@ -24,7 +24,7 @@ use std::alloc::{AllocError, Global};
 pub struct Opened<D> {
     /// The ports.
     pub ports: D,
-    /// The first packet, if one came.
+    /// The first packet, if one arrived.
     pub first: Option<FirstPacket>,
 }
 
@@ -173,7 +173,8 @@ impl<D: PortSet + Drop> Opening<D> {
         Ok(None)
     }
 
-    // Waits for a datagram, at most until the time `until`, and looks at what came. Writes why datagrams were refused.
+    // Waits for a datagram, at most until the time `until`, and looks at what arrived. Writes why datagrams were
+    // refused.
     fn turn<E: Sink>(
         &mut self,
         options: &ReceiveOptions<D::Peer>,

@@ -30,7 +30,7 @@ use mold_repair::laws::{lost_count_law, safe_law};
 /// The messages of an input are published into a new session, up to the first entry that is refused. Any number of
 /// servers respond from copies of the journal that the publisher left. A new receiver starts at a published message, or
 /// at the number after the last one. Each datagram that its ports gave, and each one that it took first (`given`), was
-/// sent by the publisher or by a server, or does not encode a packet of the session. A sent datagram may come any
+/// sent by the publisher or by a server, or does not encode a packet of the session. A sent datagram may arrive any
 /// number of times, in any order, or never.
 ///
 /// - `printed`: the receiver has ended. It printed the published messages from its first one up to some number, in

@@ -37,19 +37,19 @@ held_end v from = if nat_lt from v.next then v.next else from + length (skipped_
 abbrev pub held_from : View → ℕ → Gap
 held_from v from = range from (held_end v from)
 
--- What the pacer learns of numbers that came as a server's response. On a line there is no response.
+-- What the pacer learns of numbers that arrived as a server's response. On a line there is no response.
 abbrev pub response_steps : RepairOrigin → Gap → List Step
 response_steps (Line line) came = []
 response_steps (Server server) came = Respond server came ∷ []
 
--- What the pacer learns of the request for the datagram's first number: the numbers that have come, from the request's
--- first one on. If other datagrams brought the rest, this is the whole request.
+-- What the pacer learns of the request for the datagram's first number: the numbers that have arrived, from the
+-- request's first one on. If other datagrams brought the rest, this is the whole request.
 abbrev pub filled_steps : View → Option Flight → List Step
 filled_steps v None = []
 filled_steps v (Some request) = Arrive (held_from v request.first) ∷ []
 
 -- What the pacer learns of a datagram that was accepted, if it has messages in the window: the response, and the
--- numbers that have come, both from the datagram's first number on and from the first number of the request for it.
+-- numbers that have arrived, both from the datagram's first number on and from the first number of the request for it.
 -- `v` is the view after the datagram, and `request` the one that was in flight for its first number.
 abbrev pub came_steps : RepairOrigin → Gap → View → Option Flight → List Step
 came_steps origin came v request =
@@ -57,7 +57,7 @@ came_steps origin came v request =
     then response_steps origin came ++ (Arrive (held_from v came.first) ∷ filled_steps v request)
     else []
 
--- The same for a datagram with these numbers, which came at the time `now`. `flights` are the requests before it.
+-- The same for a datagram with these numbers, which arrived at the time `now`. `flights` are the requests before it.
 abbrev pub noted_from : RepairOrigin → Gap → View → ℕ → List Flight → List Step
 noted_from origin came v now flights = came_steps origin came v (find (covers now came.first) flights)
 

@@ -9,8 +9,8 @@ use Rattle.mold_repair.specs.declared.outcome.Outcome.{Outcome}
 use Rattle.mold_repair.specs.declared.repairer.Repairer.{Repairer}
 use Rattle.mold_repair.specs.declared.step.RepairStep.{RepairStep}
 
--- A run of the repairer is a run of its pacer, which sent its requests, and these are frugal. The pacer never learns that
--- a number is missing after it learned that this number came.
+-- A run of the repairer is a run of its pacer, which sent its requests, and these are frugal. The pacer never learns
+-- that a number is missing after it learned that this number arrived.
 pub record IsFrugalRun (old new : Repairer) (steps : List RepairStep) (outcomes : List Outcome) : Type 0 where
   pub pacer_steps : List Step
   pub sent : List (Option Sent)

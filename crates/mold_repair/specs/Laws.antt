@@ -85,7 +85,7 @@ abbrev pub ArePollSteps : List Step → Type 0
 ArePollSteps [] = Unit {0}
 ArePollSteps (step ∷ steps) = IsPollStep step × ArePollSteps steps
 
--- The steps of the pacer in a step of the repairer: the time, then polls, or what came. With a server, a poll of the
+-- The steps of the pacer in a step of the repairer: the time, then polls, or what arrived. With a server, a poll of the
 -- repairer is one poll of the pacer.
 abbrev pub ArePacerSteps : RepairOptions → RepairStep → List Step → Type 0
 ArePacerSteps options (Take time origin datagram) steps =

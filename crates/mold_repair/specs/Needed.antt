@@ -12,7 +12,7 @@ pub record IsNeeded (v : View) (request : Flight) : Type 0 where
   pub high : number < request.end
   pub missing : IsMissing v number
 
--- Each request in flight asks for a message that is missing. If all its messages came, it is no longer in flight.
+-- Each request in flight asks for a message that is missing. If all its messages arrived, it is no longer in flight.
 abbrev pub AreNeeded : Repairer → Type 0
 AreNeeded r = (i : ℕ) (request : Flight) → slice_get r.pacer.flights.items i ≡ Some request →
     r.pacer.state.now < request.until → IsNeeded r.arbiter.view request

@@ -109,7 +109,7 @@ pub record HasPolled (options : RepairOptions) (v : View) (old new : Pacer) (now
 abbrev pub NoneCanBeSent : View → Pacer → ℕ → Type 0
 NoneCanBeSent v p time = (number : ℕ) → IsWanted v p.state.ripe number → CanAsk p time number → ⊥
 
--- Nothing happens before the time `deadline`, if no datagram comes: no request can be sent, no missing number becomes
+-- Nothing happens before the time `deadline`, if no datagram arrives: no request can be sent, no missing number becomes
 -- ripe, and no message is to be given up. `p` is the pacer now.
 pub record IsDeadline (give_up : ℕ) (v : View) (p : Pacer) (deadline : ℕ) : Type 0 where
   pub now : p.state.now ≤ deadline

@@ -30,8 +30,8 @@ no_ask step = None
 abbrev pub HasLearned : Pacer → Pacer → List Step → Type 0
 HasLearned old new steps = IsRun old new steps (map no_ask steps)
 
--- What the pacer learns of a datagram that came at this time and was accepted. `delays` are those after it, and `p` is
--- the pacer before it.
+-- What the pacer learns of a datagram that arrived at this time and was accepted. `delays` are those after it, and `p`
+-- is the pacer before it.
 abbrev pub taken_steps : RepairOptions → ℕ → RepairOrigin → List ℕ → View → View → Delays → Pacer → List Step
 taken_steps options now origin bytes before after delays p =
     Advance now before.known ∷ (learned_from origin bytes before after (max p.state.now now) p.flights.items

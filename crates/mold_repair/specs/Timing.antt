@@ -12,7 +12,7 @@ use Rattle.mold_repair.specs.declared.options.RepairOptions.{RepairOptions}
 use Rattle.mold_repair.specs.declared.origin.RepairOrigin.{RepairOrigin}
 use Rattle.mold_repair.specs.declared.origin.RepairOrigin.TheVariants.{Line, Server}
 
--- The index of a line. What comes from a server has none.
+-- The index of a line. A datagram from a server has none.
 abbrev pub line_index : RepairOrigin → ℕ
 line_index (Line A) = 0
 line_index (Line B) = 1

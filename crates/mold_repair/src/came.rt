@@ -56,7 +56,7 @@ fn held_end(arbiter: &Arbiter, from: u64) -> u64
     }
 }
 
-// Reports to the pacer that the numbers from `first` on came, up to the first missing one.
+// Reports to the pacer that the numbers from `first` on arrived, up to the first missing one.
 fn report_from(arbiter: &Arbiter, pacer: &mut Pacer, first: u64)
     ensures learned { HasLearned pacer.old pacer.new (Arrive (held_from arbiter.now.view first) ∷ []) }
     ensures now { pacer.new.state.now ≡ pacer.old.state.now }
@@ -72,7 +72,7 @@ fn report_from(arbiter: &Arbiter, pacer: &mut Pacer, first: u64)
     });
 }
 
-// Reports to the pacer which numbers of the request came, from its first one on.
+// Reports to the pacer which numbers of the request arrived, from its first one on.
 fn report_filled(arbiter: &Arbiter, pacer: &mut Pacer, request: Option<Flight>)
     ensures learned { HasLearned pacer.old pacer.new (filled_steps arbiter.now.view request) }
     ensures now { pacer.new.state.now ≡ pacer.old.state.now }
@@ -84,7 +84,7 @@ fn report_filled(arbiter: &Arbiter, pacer: &mut Pacer, request: Option<Flight>)
     report_from(arbiter, pacer, request.first);
 }
 
-// Reports to the pacer that these numbers came, if a server sent them.
+// Reports to the pacer that these numbers arrived, if a server sent them.
 fn report_response(pacer: &mut Pacer, origin: RepairOrigin, came: Gap)
     ensures learned { HasLearned pacer.old pacer.new (response_steps origin came) }
     ensures now { pacer.new.state.now ≡ pacer.old.state.now }

@@ -9,7 +9,7 @@ use mold_receiver::{Line, Origin};
 /// The origin of a datagram: one of the two lines, or a re-request server.
 #[derive(Clone, Copy, Debug, PartialEq, Eq)]
 pub enum RepairOrigin {
-    /// The datagram came on this line.
+    /// The datagram arrived on this line.
     Line(Line),
     /// The datagram is a response of the server with this index, from 0.
     Server(u32),

@@ -174,7 +174,7 @@ impl Repairer {
         self.pacer.adapt(self.delays.patience());
     }
 
-    /// Takes a datagram that came at the time `now`, exactly as `Arbiter::take_from` does. If it is accepted, the
+    /// Takes a datagram that arrived at the time `now`, exactly as `Arbiter::take_from` does. If it is accepted, the
     /// messages that were delivered or stored are no longer requested. A response that has the last message of a
     /// request frees this request; any other response leaves it in flight for at most `settle` more. The batch must be
     /// empty or end just before the receiver's `next`.
@@ -367,7 +367,7 @@ impl Repairer {
         })
     }
 
-    // Returns the time before which no request can be sent, if no datagram comes.
+    // Returns the time before which no request can be sent, if no datagram arrives.
     fn sends(&self) -> u64
         ensures now { self.now.pacer.state.now ≤ result }
         ensures later { NoneCanBeSent self.now.arbiter.view self.now.pacer self.now.pacer.state.now →
@@ -408,7 +408,7 @@ impl Repairer {
         }
     }
 
-    /// Returns the time at which to call `lost` and `poll` next, if no datagram comes before: until then both return
+    /// Returns the time at which to call `lost` and `poll` next, if no datagram arrives before: until then both return
     /// none, and no number becomes ripe. After both returned none, it is later than `now`. It can be early: then they
     /// return none again. Without a missing message there is no deadline.
     pub fn deadline(&mut self, now: u64) -> Option<u64>

@@ -9,7 +9,7 @@ pub enum RepairStep<'a> {
     Pass {
         time: u64,
     },
-    /// `Repairer::take`: a datagram came.
+    /// `Repairer::take`: a datagram arrived.
     Take {
         time: u64,
         origin: RepairOrigin,
