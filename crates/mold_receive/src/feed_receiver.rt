@@ -532,7 +532,7 @@ fn push_lost(outgoing: &mut Outgoing, lost: Option<Gap>) -> Result<(), AllocErro
     outgoing.push_note(&words)
 }
 
-// Appends the count of datagrams of other senders that a line passed over, if there are any.
+// Appends the count of datagrams of other senders that a line ignored, if there are any.
 fn push_passed(out: &mut Vec<u8>, line: Line, passed: u64) -> Result<(), AllocError> {
     if passed == 0 {
         return Ok(());

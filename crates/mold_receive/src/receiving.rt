@@ -37,18 +37,20 @@ pub struct Received<D> {
     pub repairer: Repairer,
 }
 
-/// Receives a session on one or two lines, and requests from the servers what is missing, as the repairer's policy
-/// says. Prints each message that is delivered, in order: as its number and its bytes, or as its block. Prints the line
+/// Receives a session on one or two lines, and requests missing messages from the servers by the repairer's policy.
+/// Prints each message that is delivered, in order: as its number and its bytes, or as its block. Prints the line
 /// `lost FIRST LAST` for each range of messages that is given up.
 ///
 /// In each turn the loop takes what is at the ports, at most 64 datagrams from each before the next one is looked at.
 /// Then it gives up what is due, and sends the requests that may be sent. The text is written after each message with
 /// which it has at least 65,536 bytes. When no datagram is at a port, the loop writes all text and waits for a datagram,
-/// or until the repairer has something to do. So at most 65,535 bytes of text are kept back, and none while it waits. It
-/// ends after the first turn that leaves the session finished, or after the `turns` of the options.
+/// or until the repairer has something to do. So at most 65,535 bytes of text are kept back, and none while it waits.
 ///
-/// Then it prints a last line and returns the status: 0 if the session is finished and nothing was given up, otherwise
-/// 1. Among blocks, lines are written to `errors`, and `sink` gets the blocks and nothing else.
+/// It ends after the first turn in which each message is delivered or given up, after the `turns` of the options, or
+/// when no datagram was accepted for the time of `with_quiet`. Then it prints a last line and returns the status: 0 if
+/// the session is finished and nothing was given up, otherwise 1. Refused datagrams, contradictions and statistics are
+/// printed on `errors`. If messages are printed as blocks, lines are written to `errors`, and `sink` gets the blocks and
+/// nothing else.
 ///
 /// A failed wait, receive or send is counted, and the loop continues. After a fault, a prefix of the text is written.
 pub fn receive_loop<D: PortSet + Drop, K: Sink, E: Sink>(
