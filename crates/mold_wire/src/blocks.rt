@@ -1,6 +1,6 @@
 //! The message blocks of a data packet.
 
-ghost use Rattle.std.specs.Prelude.{◌≡◌, ◌<◌, length, List, ℕ, slice_get};
+ghost use Rattle.std.specs.Prelude.{◌≡◌, ◌<◌, drop, length, List, ℕ, slice_get};
 ghost use Rattle.std.specs.Option.{option_copied};
 ghost use Rattle.mold_wire.specs.declared.header.TheConstants.{END_OF_SESSION};
 
@@ -62,6 +62,17 @@ impl<'a> Blocks<'a> {
         ensures { result ≡ self.now }
     {
         Messages::new(self.count, self.bytes)
+    }
+
+    /// Returns an iterator over the messages from index `first` on, in order. Its cost grows with `first`.
+    pub fn iter_from(&self, first: u16) -> Messages<'a>
+        ensures { result ≡ drop first self.now }
+    {
+        let mut rest = self.iter();
+        for _index in 0..first {
+            let _message = rest.next();
+        }
+        rest
     }
 
     /// Returns the message at index `i`, counted from 0, or `None` if there are at most `i` messages. Its cost grows

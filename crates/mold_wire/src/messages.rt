@@ -1,6 +1,6 @@
 //! The iterator over the messages of a data packet.
 
-ghost use Rattle.std.specs.Prelude.{◌≡◌};
+ghost use Rattle.std.specs.Prelude.{◌≡◌, ◌==◌, [], length};
 
 use crate::block::split_block;
 use std::marker::Model;
@@ -24,13 +24,46 @@ impl<'a> Model for Messages<'a> {
 }
 
 impl<'a> Messages<'a> {
-    ghost use Rattle.mold_wire.specs.Block.{messages_at, AreBlocks};
+    ghost use Rattle.std.specs.List.{AllByRecursion};
+    ghost use Rattle.mold_wire.specs.Block.{messages_at, AreBlocks, IsMessage, blocks};
 
     pub(crate) fn new(left: u16, bytes: &'a [u8]) -> Messages<'a>
         requires { AreBlocks left bytes.now }
         ensures { result ≡ messages_at left bytes.entry.now }
     {
         Messages { left, bytes }
+    }
+
+    /// Returns an iterator over no messages.
+    pub fn none() -> Messages<'a>
+        ensures { result ≡ [] }
+    {
+        Messages {
+            left: 0,
+            bytes: &[],
+        }
+    }
+
+    /// Returns the number of the remaining messages.
+    pub fn len(&self) -> u16
+        ensures { result ≡ length self.now }
+    {
+        self.left
+    }
+
+    /// Returns whether no message remains.
+    pub fn is_empty(&self) -> bool
+        ensures { result ≡ (length self.now == 0) }
+    {
+        self.left == 0
+    }
+
+    /// Returns the blocks of the remaining messages as they are in the datagram. They are the datagram's last bytes.
+    pub fn bytes(&self) -> &'a [u8]
+        ensures blocks { result.now ≡ blocks self.now }
+        ensures each { AllByRecursion IsMessage self.now }
+    {
+        self.bytes
     }
 }
 
