@@ -27,6 +27,6 @@ pub use limits::{
 pub use messages::Messages;
 pub use packer::Packer;
 pub use packet::{Body, Packet};
-pub use reading::decode;
+pub use reading::{decode, decode_plain};
 pub use request::Request;
 pub use session::{SESSION_LENGTH, Session};

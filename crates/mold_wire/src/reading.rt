@@ -1,11 +1,12 @@
 //! The decoder of downstream packets.
 
-ghost use Rattle.std.specs.Prelude.{◌≡◌, IfOk, IfErr};
+ghost use Rattle.std.specs.Prelude.{◌≡◌, ◌<◌, IfErr, IfOk, IfSome, Ok};
 ghost use Rattle.mold_wire.specs.Block.{AreBlocks, messages_at};
 ghost use Rattle.mold_wire.specs.Fault.{FaultAt};
 ghost use Rattle.mold_wire.specs.Packet.{Spells, stated_blocks, BodyIs};
 ghost use Rattle.mold_wire.specs.Reading.{reading};
 ghost use Rattle.mold_wire.specs.declared.error.DecodeError.{DecodeError};
+ghost use Rattle.mold_wire.specs.declared.header.TheConstants.{END_OF_SESSION};
 ghost use Rattle.mold_wire.specs.declared.packet.Packet.{Packet};
 
 use crate::block::skip_blocks;
@@ -13,6 +14,7 @@ use crate::blocks::Blocks;
 use crate::error::DecodeError;
 use crate::header::{END_OF_SESSION, HEARTBEAT, Header};
 use crate::packet::{Body, Packet};
+use crate::session::Session;
 
 // Returns how many blocks follow a header with this message count.
 fn stated(count: u16) -> u16
@@ -68,4 +70,45 @@ pub fn decode(bytes: &[u8]) -> Result<Packet<'_>, DecodeError>
     ensures exact { result ≡ reading bytes.now }
 {
     read_packet(bytes)
+}
+
+// Returns the body of a packet with this message count and these blocks, as `body_from` does.
+// For the optimizer: it does not notice that an end packet was excluded before.
+#[inline(always)]
+fn plain_body_from(count: u16, blocks: &[u8]) -> Body<'_>
+    requires blocks { AreBlocks (stated_blocks count) blocks.now }
+    requires plain { count < END_OF_SESSION }
+    ensures { BodyIs count (messages_at (stated_blocks count) blocks.entry.now) result }
+{
+    match count {
+        HEARTBEAT => Body::Heartbeat,
+        _ => Body::Data(Blocks::new(count, blocks)),
+    }
+}
+
+/// Decodes a datagram that encodes a data packet or a heartbeat of this session. If it encodes anything else, the result
+/// is `None`. It is faster than `decode`, whose result has room for every fault.
+// For the optimizer: the session is compared before the packet is made, and the packet gets the caller's copy of it. A
+// later comparison of both then costs nothing. It is inlined, since the packet would be returned through memory.
+#[inline(always)]
+pub fn decode_plain<'a>(session: &Session, bytes: &'a [u8]) -> Option<Packet<'a>>
+    ensures spelled { IfSome result (λ packet. Spells packet bytes.now) }
+    ensures exact { IfSome result (λ packet. reading bytes.now ≡ Ok packet) }
+    ensures session { IfSome result (λ packet. packet.session ≡ session.now) }
+{
+    let (header, behind) = Header::split(bytes)?;
+    if header.count == END_OF_SESSION || !session.is_same(&header.session) {
+        return None;
+    }
+    let Ok(rest) = skip_blocks(stated(header.count), behind) else {
+        return None;
+    };
+    if !rest.is_empty() {
+        return None;
+    }
+    Some(Packet {
+        session: *session,
+        sequence: header.sequence,
+        body: plain_body_from(header.count, behind),
+    })
 }
