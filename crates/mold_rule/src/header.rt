@@ -62,6 +62,8 @@ fn is_foreign(packet: &Packet<'_>, session: Option<Session>) -> bool
 /// and `ended` are the session and its end, if they are known. `known` is the greatest top of the packets accepted so
 /// far, or the number at which the caller started, if that is greater. After a top is returned, only a conflict of its
 /// messages can still refuse the packet.
+// For the optimizer: this runs for each datagram, and a call would write the whole packet to memory.
+#[inline(always)]
 pub fn check_header(
     packet: &Packet<'_>,
     session: Option<Session>,
