@@ -116,7 +116,8 @@ fn push_run(
 }
 
 // Makes room for a packet's messages and the stored ones from the slot `start` on, up to the first empty slot. Returns
-// an error if an allocation fails. These messages are only counted if there is no room for all stored messages.
+// an error if an allocation fails. If the room for all stored messages is small, that room is made. Otherwise the
+// messages up to the first empty slot are counted, unless there is room for all stored messages.
 fn make_room(
     batch: &mut Batch,
     next: u64,
@@ -127,8 +128,12 @@ fn make_room(
     ensures { batch.new ≡ batch.old }
 {
     batch.recall(next)?;
-    if batch.has_room(packet.and(slots.room())) {
+    let all = packet.and(slots.room());
+    if batch.has_room(all) {
         return Ok(());
+    }
+    if all.is_small() {
+        return batch.make_room_for(next, all);
     }
     batch.make_room_for(next, packet.and(slots.room_of_run(start)))
 }
