@@ -1,13 +1,17 @@
 -- No line's `front` is above what the receiver knows.
 use Rattle.std.proofs.Common.{◌≡◌, ℕ, ◌≤◌, max, List, sym, ap, ◌∙◌, arith}
-use Rattle.std.specs.Prelude.{Some, Ok}
+use Rattle.std.specs.Prelude.{None, Some, Ok}
 use Rattle.mold_wire.specs.Packet.{top_of}
 use Rattle.mold_wire.specs.Reading.{reading}
 use Rattle.mold_receiver.specs.declared.line.Line.{Line}
 use Rattle.mold_receiver.specs.declared.line.Line.TheVariants.{A, B}
 use Rattle.mold_receiver.specs.declared.line.LineReports.{LineReports}
 use Rattle.mold_receiver.specs.Arbiter.{Arbitration, IsArbitration, arbitrated, reports_taken, reports_refused}
+use Rattle.mold_receiver.specs.Batch.{Handed}
+use Rattle.mold_receiver.specs.Own.{HasArbitratedOwn, HasHeard}
 use Rattle.mold_receiver.specs.Receive.{Reception, receive, top_read}
+use Rattle.mold_receiver.specs.Store.{Message}
+use Rattle.mold_receiver.specs.declared.taken.Taken.{Taken}
 use Rattle.mold_receiver.specs.View.{View}
 use Rattle.mold_receiver.proofs.LawLemmas.{is_taken}
 
@@ -45,3 +49,31 @@ answer_kept old bytes r is received =
     let known : r.view.known ≡ max old.view.known (top_of taken.packet) =
     ap (λ (t : Reception). t.view.known) taken.taken in
     record { front_a = omega (arith, is.front_a, known); front_b = omega (arith, is.front_b, known) }
+
+-- The arbiter took a datagram of a line without a copy, as its receiver did.
+pub heard_on : (line : Line) (old : Arbitration) (bytes : List ℕ) (view : View) (reports : LineReports) (top : ℕ)
+    (own : List Message) (after : Handed) (taken : Taken)
+    → HasHeard old.view bytes view own after taken → top ≡ top_read (reading bytes) →
+    reports ≡ reports_taken line old.reports top
+    → HasArbitratedOwn (Some line) old bytes (record { view = view; reports = reports }) own after taken
+heard_on line old bytes view reports top own after taken h tops is =
+    let noted = is ∙ ap (reports_taken line old.reports) tops in
+    record {
+      reception = h.reception;
+      received = h.received;
+      arbitration = (λ i. record { view = h.view i; reports = noted i })
+          ∙ ap (arbitrated (Some line) bytes old) (sym h.received);
+      delivers = h.delivers;
+    }
+
+-- The same for a server's response.
+pub heard_off : (old : Arbitration) (bytes : List ℕ) (view : View) (own : List Message) (after : Handed) (taken : Taken)
+    → HasHeard old.view bytes view own after taken
+    → HasArbitratedOwn None old bytes (record { view = view; reports = old.reports }) own after taken
+heard_off old bytes view own after taken h = record {
+  reception = h.reception;
+  received = h.received;
+  arbitration = (λ i. record { view = h.view i; reports = old.reports })
+      ∙ ap (arbitrated None bytes old) (sym h.received);
+  delivers = h.delivers;
+}

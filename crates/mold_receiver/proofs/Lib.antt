@@ -22,6 +22,7 @@ pub mod HavingLemmas
 pub mod MissingLemmas
 pub mod GapLemmas
 pub mod ArbiterLemmas
+pub mod OwnLemmas
 pub mod MarkLemmas
 pub mod ShelfLemmas
 pub mod SegmentLemmas

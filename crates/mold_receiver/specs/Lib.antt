@@ -18,5 +18,6 @@ pub mod Handing
 pub mod Honest
 pub mod Gap
 pub mod Arbiter
+pub mod Own
 pub mod Fresh
 pub mod Run

@@ -1,16 +1,18 @@
 //! The arbiter of line A and line B: one receiver and a report for each line.
 
-ghost use Rattle.std.specs.Prelude.{◌≡◌, ◌-◌, ◌<◌, ◌≤◌, length, max, None, Some, IfOk, IfErr};
+ghost use Rattle.std.specs.Prelude.{◌≡◌, ◌-◌, ◌<◌, ◌≤◌, [], length, max, None, Some, IfOk, IfErr};
 ghost use Rattle.std.specs.Prelude.{IfNone, IfSome, OnOk, OnErr};
 ghost use Rattle.mold_receiver.specs.Arbiter.{HasArbitrated, HasRefused, report_on};
 ghost use Rattle.mold_receiver.specs.Batch.{Follows, followed_by};
 ghost use Rattle.mold_receiver.specs.Origin.{line_of};
+ghost use Rattle.mold_receiver.specs.Own.{HasArbitratedOwn, HasRefusedOwn};
 ghost use Rattle.mold_receiver.specs.Receive.{IsRefusedFor};
 ghost use Rattle.mold_receiver.specs.Skip.{AreMissing, skipped, skipped_run};
 ghost use Rattle.mold_receiver.specs.Wanted.{HasNoGap, IsFirstAbsent, IsNextGap};
 
 use crate::batch::Batch;
 use crate::gap::Gap;
+use crate::heard::Heard;
 use crate::line::{Line, LineReport, LineReports};
 use crate::origin::Origin;
 use crate::receiver::Receiver;
@@ -123,6 +125,67 @@ impl Arbiter {
         ensures batch { OnErr result (batch.new ≡ batch.old) }
     {
         self.take_from(Origin::Response, bytes, batch)
+    }
+
+    /// Takes a datagram as `Receiver::hear` does: the messages that the datagram delivers itself are not copied, and the
+    /// batch is emptied first. The reports change as in `take_from`.
+    #[inline(always)]
+    pub fn hear<'a>(
+        &mut self,
+        origin: Origin,
+        bytes: &'a [u8],
+        batch: &mut Batch,
+    ) -> Result<Heard<'a>, Refusal>
+        ensures heard { IfOk result
+            (λ heard. HasArbitratedOwn (line_of origin) self.old bytes.now self.new heard.own batch.new heard.taken) }
+        ensures refused { IfErr result
+            (λ refused. HasRefusedOwn (line_of origin) self.old bytes.now self.new refused) }
+        ensures batch { OnErr result (batch.new ≡ record { first = 0; messages = [] }) }
+    {
+        match self.receiver.hear_top(bytes, batch) {
+            Ok(heard) => {
+                if let Origin::Line(line) = origin {
+                    self.reports.note_taken(line, heard.top);
+                }
+                Ok(Heard {
+                    taken: heard.taken,
+                    own: heard.own,
+                })
+            }
+            Err(refused) => {
+                if let Origin::Line(line) = origin {
+                    self.reports.note_refused(line, refused);
+                }
+                Err(refused)
+            }
+        }
+    }
+
+    /// Takes the usual datagrams of a line as `hear` does, but faster. The batch must be empty, no message stored and
+    /// the session's end not known. The datagram must be a heartbeat, begin at `next` or have nothing new. For other
+    /// datagrams the result is `None`, and nothing changes: the caller then calls `hear`.
+    #[inline(always)]
+    pub fn hear_quickly<'a>(
+        &mut self,
+        line: Line,
+        bytes: &'a [u8],
+        batch: &mut Batch,
+    ) -> Option<Heard<'a>>
+        ensures heard { IfSome result
+            (λ heard. HasArbitratedOwn (Some line) self.old bytes.now self.new heard.own batch.new heard.taken) }
+        ensures same { IfNone result (self.new ≡ self.old) }
+        ensures batch { IfNone result (batch.new ≡ batch.old) }
+    {
+        match self.receiver.hear_quickly(bytes, batch) {
+            Some(heard) => {
+                self.reports.note_taken(line, heard.top);
+                Some(Heard {
+                    taken: heard.taken,
+                    own: heard.own,
+                })
+            }
+            None => None,
+        }
     }
 
     /// Returns the report of a line: the counts of datagrams accepted and refused on it, and `front`, the greatest top

@@ -204,3 +204,26 @@ pub(crate) fn hand_stored(
     }
     end
 }
+
+/// Does the same as `hand_stored`, but looks at no slot if all are empty.
+#[inline(always)]
+pub(crate) fn hand_following(
+    batch: &mut Batch,
+    next: u64,
+    slots: &Slots,
+    start: usize,
+) -> Result<usize, AllocError>
+    requires follows { Follows batch.old (next + start) }
+    requires counted { next + start < 2 ^ 64 }
+    requires numbered { AreNumbered slots.now next }
+    ensures handed { OnOk result (batch.new ≡ followed_by batch.old (next + start) (run_in slots.now start)) }
+    ensures stopped { IfOk result (λ end. end ≡ start + length (run_in slots.now start)) }
+    ensures fits { IfOk result (λ end. next + end < 2 ^ 64) }
+    ensures needed { OnErr result (0 < length (run_in slots.now start)) }
+    ensures same { OnErr result (batch.new ≡ batch.old) }
+{
+    if slots.held() == 0 {
+        return Ok(start);
+    }
+    hand_stored(batch, next, slots, start)
+}

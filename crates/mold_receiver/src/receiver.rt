@@ -4,7 +4,7 @@
 // emits calls that return structs through memory. They take a third of the time of a datagram with one message.
 
 ghost use Rattle.std.specs.Prelude.{◌≡◌, ◌↔◌, IsTrue, ◌⊎◌, [], ◌+◌, ◌*◌, ◌-◌, ◌<◌, ◌≤◌, ◌^◌, min, length};
-ghost use Rattle.std.specs.Prelude.{Some, None, Ok, Err, IfOk, IfErr, IfNone, IfSome, OnOk, OnErr, max};
+ghost use Rattle.std.specs.Prelude.{Some, None, Ok, Err, IfOk, IfErr, IfNone, IfSome, OnOk, OnErr, drop, max};
 ghost use Rattle.std.specs.FinMap as finite;
 ghost use Rattle.mold_wire.specs.Packet.{IsBody, messages_of, top_of};
 ghost use Rattle.mold_wire.specs.Reading.{reading};
@@ -12,6 +12,7 @@ ghost use Rattle.mold_wire.specs.declared.header.TheConstants.{END_OF_SESSION};
 ghost use Rattle.mold_wire.specs.declared.packet.Body.TheVariants.{Data};
 ghost use Rattle.mold_receiver.specs.Batch.{Follows, followed_by};
 ghost use Rattle.mold_receiver.specs.Handing.{HasNext};
+ghost use Rattle.mold_receiver.specs.Own.{HandsOwn, HasHeard, IsUnheardFor, NeedsRoom};
 ghost use Rattle.mold_receiver.specs.Receive.{HasTaken, HasTakenPacket, IsRefusedFor, TakesMemory, data_packet};
 ghost use Rattle.mold_receiver.specs.Receive.{ended_after, handed_on, refusal, top_read};
 ghost use Rattle.mold_receiver.specs.Store.{first_conflict, from_next, stored_bytes};
@@ -27,12 +28,14 @@ use crate::batch::Batch;
 use crate::conflict::conflict_of;
 use crate::error::ReceiverError;
 use crate::gap::Gap;
-use crate::hand::{hand_on, hand_stored};
+use crate::hand::{hand_following, hand_on, hand_stored};
+use crate::heard::{Heard, HeardPacket};
 use crate::slots::Slots;
 use crate::taken::{Accepted, Taken};
 use mold_rule::{Refusal, check_header};
 use mold_wire::{
-    Blocks, Body, MAX_COUNT, MAX_WIDE_WINDOW, MAX_WINDOW, Packet, Request, Session, decode,
+    Blocks, Body, MAX_COUNT, MAX_WIDE_WINDOW, MAX_WINDOW, Messages, Packet, Request, Session,
+    decode, decode_plain,
 };
 use std::alloc::{AllocError, Global};
 use std::marker::Model;
@@ -313,6 +316,201 @@ impl Receiver {
     {
         let accepted = self.accept(bytes, batch)?;
         Ok(accepted.taken)
+    }
+
+    // Delivers from a packet that has the message `next`. Its messages are not copied: only the stored messages that
+    // follow them are appended to the batch, which is empty.
+    #[inline(always)]
+    fn hand_own(
+        &mut self,
+        first: u64,
+        top: u64,
+        blocks: &Blocks<'_>,
+        batch: &mut Batch,
+    ) -> Result<Taken, AllocError>
+        requires empty { batch.old ≡ record { first = 0; messages = [] } }
+        requires packet { HasNext batch.old self.old.next first top blocks.now }
+        requires few { length blocks.now < END_OF_SESSION }
+        requires end { past_end self.old.ended (Data blocks.now) top ≡ None }
+        ensures taken { IfOk result
+            (λ taken. HasTakenPacket self.old (data_packet self.old.session first blocks.now) self.new taken) }
+        ensures own { OnOk result (HandsOwn self.old (data_packet self.old.session first blocks.now)
+            (drop (self.old.next - first) blocks.now) batch.new) }
+        ensures needed { OnErr result
+            (NeedsRoom self.old (data_packet self.old.session first blocks.now)) }
+        ensures unchanged { OnErr result (self.new ≡ self.old) }
+        ensures batch { OnErr result (batch.new ≡ batch.old) }
+    {
+        let end = hand_following(batch, self.next, &self.slots, (top - self.next) as usize)?;
+        let count = end.min(self.slots.len());
+        self.slots.skip(count);
+        let next = self.next + end as u64;
+        self.next = next;
+        self.known = self.known.max(top);
+        Ok(Taken {
+            handed: end as u32,
+            kept: 0,
+            beyond: 0,
+        })
+    }
+
+    // Takes a packet to which no refusal applies, without copying the messages that it delivers itself.
+    #[inline(always)]
+    fn hear_packet<'a>(
+        &mut self,
+        packet: &Packet<'a>,
+        top: u64,
+        batch: &mut Batch,
+    ) -> Result<Heard<'a>, AllocError>
+        requires empty { batch.old ≡ record { first = 0; messages = [] } }
+        requires top { top_of packet.now ≡ top }
+        requires body { IsBody packet.now.body }
+        requires taken { refusal self.old packet.now ≡ None }
+        ensures taken { IfOk result (λ heard. HasTakenPacket self.old packet.now self.new heard.taken) }
+        ensures own { IfOk result (λ heard. HandsOwn self.old packet.now heard.own batch.new) }
+        ensures needed { OnErr result (NeedsRoom self.old packet.now) }
+        ensures unchanged { OnErr result (self.new ≡ self.old) }
+        ensures batch { OnErr result (batch.new ≡ batch.old) }
+    {
+        let Body::Data(blocks) = &packet.body else {
+            return Ok(Heard {
+                taken: self.note(packet, top),
+                own: Messages::none(),
+            });
+        };
+        if self.next >= top {
+            return Ok(Heard {
+                taken: self.note(packet, top),
+                own: Messages::none(),
+            });
+        }
+        if packet.sequence > self.next {
+            return Ok(Heard {
+                taken: self.keep(packet.sequence, top, blocks)?,
+                own: Messages::none(),
+            });
+        }
+        let own = blocks.iter_from((self.next - packet.sequence) as u16);
+        let taken = self.hand_own(packet.sequence, top, blocks, batch)?;
+        Ok(Heard { taken, own })
+    }
+
+    // Takes a packet to which no refusal applies as `hear_packet` does, if it begins at `next` or has nothing new.
+    // Otherwise it returns `None`, and nothing changes.
+    #[inline(always)]
+    fn hear_usual<'a>(
+        &mut self,
+        packet: &Packet<'a>,
+        top: u64,
+        batch: &mut Batch,
+    ) -> Option<Heard<'a>>
+        requires empty { batch.old ≡ record { first = 0; messages = [] } }
+        requires top { top_of packet.now ≡ top }
+        requires body { IsBody packet.now.body }
+        requires taken { refusal self.old packet.now ≡ None }
+        ensures taken { IfSome result (λ heard. HasTakenPacket self.old packet.now self.new heard.taken) }
+        ensures own { IfSome result (λ heard. HandsOwn self.old packet.now heard.own batch.new) }
+        ensures unchanged { IfNone result (self.new ≡ self.old) }
+        ensures batch { IfNone result (batch.new ≡ batch.old) }
+    {
+        let Body::Data(blocks) = &packet.body else {
+            return Some(Heard {
+                taken: self.note(packet, top),
+                own: Messages::none(),
+            });
+        };
+        if self.next >= top {
+            return Some(Heard {
+                taken: self.note(packet, top),
+                own: Messages::none(),
+            });
+        }
+        if packet.sequence != self.next {
+            return None;
+        }
+        match self.hand_own(packet.sequence, top, blocks, batch) {
+            Ok(taken) => Some(Heard {
+                taken,
+                own: blocks.iter(),
+            }),
+            Err(_) => None,
+        }
+    }
+
+    /// Takes a datagram as `hear` does, and returns the packet's top too.
+    #[inline(always)]
+    pub(crate) fn hear_top<'a>(
+        &mut self,
+        bytes: &'a [u8],
+        batch: &mut Batch,
+    ) -> Result<HeardPacket<'a>, Refusal>
+        ensures heard { IfOk result
+            (λ heard. HasHeard self.old bytes.now self.new heard.own batch.new heard.taken) }
+        ensures top { IfOk result (λ heard. heard.top ≡ top_read (reading bytes.now)) }
+        ensures refused { IfErr result (λ refused. IsUnheardFor self.old bytes.now refused) }
+        ensures view { OnErr result (self.new ≡ self.old) }
+        ensures batch { OnErr result (batch.new ≡ record { first = 0; messages = [] }) }
+    {
+        batch.clear();
+        let packet = match decode(bytes) {
+            Ok(packet) => packet,
+            Err(error) => return Err(Refusal::Malformed(error)),
+        };
+        let checked = self.check(&packet)?;
+        match self.hear_packet(&packet, checked, batch) {
+            Ok(Heard { taken, own }) => Ok(HeardPacket {
+                taken,
+                own,
+                top: checked,
+            }),
+            Err(_) => Err(Refusal::Memory),
+        }
+    }
+
+    /// Takes the usual datagrams as `hear_top` does, but faster, if the batch is empty: a heartbeat, and a packet that
+    /// begins at `next` or has nothing new, while no message is stored and the session's end is not known. For other
+    /// datagrams it returns `None`, and nothing changes.
+    // For the optimizer: the tests for stored messages and for an end are not needed for correctness. They let the
+    // compiler omit branches of the functions that are called after them.
+    // For the prover: `is_empty` doesn't state that an empty batch has the first number 0.
+    #[inline(always)]
+    pub(crate) fn hear_quickly<'a>(
+        &mut self,
+        bytes: &'a [u8],
+        batch: &mut Batch,
+    ) -> Option<HeardPacket<'a>>
+        ensures heard { IfSome result
+            (λ heard. HasHeard self.old bytes.now self.new heard.own batch.new heard.taken) }
+        ensures top { IfSome result (λ heard. heard.top ≡ top_read (reading bytes.now)) }
+        ensures view { IfNone result (self.new ≡ self.old) }
+        ensures batch { IfNone result (batch.new ≡ batch.old) }
+    {
+        if batch.len() > 0 || self.stored() > 0 || self.ended.is_some() {
+            return None;
+        }
+        let packet = decode_plain(&self.session, bytes)?;
+        let Ok(top) = self.check(&packet) else {
+            return None;
+        };
+        match self.hear_usual(&packet, top, batch) {
+            Some(Heard { taken, own }) => Some(HeardPacket { taken, own, top }),
+            None => None,
+        }
+    }
+
+    /// Takes a datagram as `take` does, but doesn't copy the messages that the datagram delivers itself: the result has
+    /// them. They are valid as long as the datagram. The batch is emptied first, and gets the stored messages that
+    /// follow them. Memory is only needed to store messages and to deliver stored ones. After a refusal, the receiver is
+    /// unchanged and the batch is empty.
+    pub fn hear<'a>(&mut self, bytes: &'a [u8], batch: &mut Batch) -> Result<Heard<'a>, Refusal>
+        ensures heard { IfOk result
+            (λ heard. HasHeard self.old bytes.now self.new heard.own batch.new heard.taken) }
+        ensures refused { IfErr result (λ refused. IsUnheardFor self.old bytes.now refused) }
+        ensures view { OnErr result (self.new ≡ self.old) }
+        ensures batch { OnErr result (batch.new ≡ record { first = 0; messages = [] }) }
+    {
+        let HeardPacket { taken, own, .. } = self.hear_top(bytes, batch)?;
+        Ok(Heard { taken, own })
     }
 
     /// Returns the session of the receiver.
