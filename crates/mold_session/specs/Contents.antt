@@ -2,15 +2,17 @@
 use Rattle.std.specs.Prelude.{◌≡◌, ◌⊎◌, ℕ, List, [], ◌++◌, length, Option, None, Some}
 use Rattle.mold_wire.specs.Block.{blocks}
 use Rattle.mold_wire.specs.declared.block.TheConstants.{MAX_MESSAGE}
-use Rattle.mold_session.specs.FileFault.{IsBody1, IsBody2, BlockFault, JournalFault}
+use Rattle.mold_session.specs.FileFault.{IsBody1, IsBody2, BlockFault, JournalFault, PrecedeRecord}
 use Rattle.mold_session.specs.Journal.{AreMessages}
 use Rattle.mold_session.specs.Loading.{SpellsFile}
 use Rattle.mold_session.specs.declared.error.FileError.{FileError}
 use Rattle.mold_session.specs.declared.error.FileError.TheVariants.{TooLong, Memory, BadMagic, Short, BlockCut, Read}
 use Rattle.mold_session.specs.declared.error.FileError.TheVariants.{Write, Full, CountDiffers, BadFlag}
+use Rattle.mold_session.specs.declared.error.FileError.TheVariants.{Damaged}
 use Rattle.mold_session.specs.declared.loading.FileHead.{FileHead}
 
--- The file has a valid head. The blocks of `messages` follow the head, and then come the bytes `rest`.
+-- The file, of version 1 or 2, has a valid head. The blocks of `messages` follow the head, and then come the bytes
+-- `rest`.
 pub record HasBlocks (bytes : List ℕ) (messages : List (List ℕ)) (rest : List ℕ) : Type 0 where
   -- all bytes after the head
   pub behind : List ℕ
@@ -24,16 +26,18 @@ pub record AreBefore (bytes : List ℕ) (messages : List (List ℕ)) (error : Fi
   pub front : HasBlocks bytes messages rest
   pub fault : BlockFault MAX_MESSAGE (length messages) rest error
 
--- The messages of a file with this fault: none if the fault is in the head, otherwise those of the whole blocks
--- before the fault.
+-- The messages of a file with this fault: none if the fault is in the head, otherwise those of the whole blocks, or of
+-- the whole records, before the fault.
 abbrev pub PrecedeFault : List ℕ → List (List ℕ) → FileError → Type 0
 PrecedeFault bytes messages (Short len) = messages ≡ []
 PrecedeFault bytes messages BadMagic = messages ≡ []
 PrecedeFault bytes messages (BadFlag byte) = messages ≡ []
 PrecedeFault bytes messages (CountDiffers count found) = HasBlocks bytes messages []
-PrecedeFault bytes messages Full = AreBefore bytes messages Full
-PrecedeFault bytes messages (TooLong len) = AreBefore bytes messages (TooLong len)
+PrecedeFault bytes messages Full = AreBefore bytes messages Full ⊎ PrecedeRecord MAX_MESSAGE bytes messages Full
+PrecedeFault bytes messages (TooLong len) =
+    AreBefore bytes messages (TooLong len) ⊎ PrecedeRecord MAX_MESSAGE bytes messages (TooLong len)
 PrecedeFault bytes messages (BlockCut number) = AreBefore bytes messages (BlockCut number)
+PrecedeFault bytes messages (Damaged number) = PrecedeRecord MAX_MESSAGE bytes messages (Damaged number)
 PrecedeFault bytes messages Read = ⊥
 PrecedeFault bytes messages Memory = ⊥
 PrecedeFault bytes messages Write = ⊥

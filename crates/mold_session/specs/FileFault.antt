@@ -1,5 +1,5 @@
 -- The faults of a journal's file: why bytes are not the file of a journal.
-use Rattle.std.specs.Prelude.{◌≡◌, ◌⊎◌, ℕ, ◌+◌, ◌<◌, ◌≤◌, List, ◌++◌, length, take, drop, slice_index}
+use Rattle.std.specs.Prelude.{◌≡◌, ◌⊎◌, ℕ, ◌+◌, ◌<◌, ◌≤◌, List, [], ◌∷◌, ◌++◌, length, take, drop, slice_index}
 use Rattle.std.specs.List.{AllByRecursion}
 use Rattle.byteorder.specs.Endian.{big_number}
 use Rattle.mold_wire.specs.Block.{blocks}
@@ -7,10 +7,12 @@ use Rattle.mold_wire.specs.declared.limits.TheConstants.{MAX_NUMBER}
 use Rattle.mold_devices.specs.declared.fault.ReadFault.{ReadFault}
 use Rattle.mold_devices.specs.declared.fault.ReadFault.TheVariants as reading
 use Rattle.mold_session.specs.File.{magic_1, magic_2}
-use Rattle.mold_session.specs.Journal.{IsWithin}
+use Rattle.mold_session.specs.Journal.{AreMessages, IsWithin}
+use Rattle.mold_session.specs.Records.{magic_3, records}
 use Rattle.mold_session.specs.declared.error.FileError.{FileError}
 use Rattle.mold_session.specs.declared.error.FileError.TheVariants.{TooLong, Memory, BadMagic, Short, BlockCut, Read}
 use Rattle.mold_session.specs.declared.error.FileError.TheVariants.{Write, Full, CountDiffers, BadFlag}
+use Rattle.mold_session.specs.declared.error.FileError.TheVariants.{Damaged}
 use Rattle.mold_session.specs.declared.journal.TheConstants.{MAX_MESSAGES}
 
 -- The bytes begin with the magic bytes of version 2.
@@ -34,11 +36,22 @@ pub record IsBody2 (bytes behind : List ℕ) : Type 0 where
   pub flag : slice_index bytes 18 ≤ 1
   pub from : behind ≡ drop 27 bytes
 
+-- A file of version 3 has a valid head, and the bytes after it, from offset 18 on, are `behind`.
+pub record IsBody3 (bytes behind : List ℕ) : Type 0 where
+  pub magic : take 8 bytes ≡ magic_3
+  pub whole : 18 ≤ length bytes
+  pub from : behind ≡ drop 18 bytes
+
+-- The bytes end within a block: there are fewer than two of them, or the block has a valid length and fewer bytes than
+-- that.
+abbrev pub EndsInBlock : ℕ → List ℕ → Type 0
+EndsInBlock most rest = (length rest < 2) ⊎ ((big_number 2 rest ≤ most) × (length rest < 2 + big_number 2 rest))
+
 -- The bytes begin with a block that is cut: there is only one byte, or the block has a valid length and fewer
 -- bytes than that.
 pub record IsCut (most : ℕ) (rest : List ℕ) : Type 0 where
   pub some : 0 < length rest
-  pub short : (length rest < 2) ⊎ ((big_number 2 rest ≤ most) × (length rest < 2 + big_number 2 rest))
+  pub short : EndsInBlock most rest
 
 -- The fault of the bytes that follow `count` whole blocks: another message would have no number, or it is too
 -- long, or its block is cut.
@@ -59,10 +72,57 @@ pub record BlocksFault (most : ℕ) (behind : List ℕ) (error : FileError) : Ty
   pub parts : behind ≡ blocks messages ++ rest
   pub fault : BlockFault most (length messages) rest error
 
--- A file of either version has a valid head and a fault in its blocks.
+-- A file of version 1 or 2 has a valid head and a fault in its blocks.
 abbrev pub FaultInBlocks : ℕ → List ℕ → FileError → Type 0
 FaultInBlocks most bytes error =
     (behind : List ℕ) × (IsBody1 bytes behind ⊎ IsBody2 bytes behind) × BlocksFault most behind error
+
+-- The bytes, which follow the records of `count` messages, begin neither with a whole record nor with a shut gate.
+pub data IsDamaged (most count : ℕ) (rest : List ℕ) : Type 0 where
+  -- The file ends where a gate has to be.
+  NoGate : rest ≡ [] → IsDamaged most count rest
+  -- It ends after an open gate.
+  NoKind : rest ≡ 1 ∷ [] → IsDamaged most count rest
+  -- The byte after an open gate is neither 0 nor 1.
+  BadKind : (kind : ℕ) (more : List ℕ) → rest ≡ 1 ∷ kind ∷ more → 1 < kind → IsDamaged most count rest
+  -- It ends before the third byte of the closing record.
+  CutClosing : rest ≡ 1 ∷ 1 ∷ [] → IsDamaged most count rest
+  -- It ends within the block of a message that has a number.
+  CutMessage : (more : List ℕ) → count < MAX_MESSAGES → rest ≡ 1 ∷ 0 ∷ more → EndsInBlock most more →
+      IsDamaged most count rest
+
+-- The bytes begin with the record of a message whose length is `len`, which is above `most`.
+pub record IsLongRecord (most : ℕ) (rest : List ℕ) (len : ℕ) : Type 0 where
+  -- the bytes from the message's block on
+  pub more : List ℕ
+  pub parts : rest ≡ 1 ∷ 0 ∷ more
+  pub whole : 2 ≤ length more
+  pub stated : big_number 2 more ≡ len
+  pub long : most < len
+
+-- The fault of the bytes that follow the records of `count` messages: another message would have no number, or it is
+-- too long, or there is neither a whole record nor a shut gate.
+abbrev pub RecordFault : ℕ → ℕ → List ℕ → FileError → Type 0
+RecordFault most count rest Full = (MAX_MESSAGES ≤ count) × ((more : List ℕ) × (rest ≡ 1 ∷ 0 ∷ more))
+RecordFault most count rest (TooLong len) = (count < MAX_MESSAGES) × IsLongRecord most rest len
+RecordFault most count rest (Damaged number) = (number ≡ count + 1) × IsDamaged most count rest
+RecordFault most count rest _ = ⊥
+
+-- A file of version 3 has a valid head and then the records of these messages, which have at most `most` bytes. The
+-- bytes after them are `rest`.
+pub record HasRecords (most : ℕ) (bytes : List ℕ) (messages : List (List ℕ)) (rest : List ℕ) : Type 0 where
+  pub head : IsBody3 bytes (records messages ++ rest)
+  pub listed : AreMessages most messages
+
+-- A file of version 3 has the records of these messages, and then a record with the fault `error`.
+pub record PrecedeRecord (most : ℕ) (bytes : List ℕ) (messages : List (List ℕ)) (error : FileError) : Type 0 where
+  pub rest : List ℕ
+  pub front : HasRecords most bytes messages rest
+  pub fault : RecordFault most (length messages) rest error
+
+-- A file of version 3 has a valid head and a record with a fault.
+abbrev pub FaultInRecords : ℕ → List ℕ → FileError → Type 0
+FaultInRecords most bytes error = (messages : List (List ℕ)) × PrecedeRecord most bytes messages error
 
 -- A file of version 2 ends after a whole block, and it states another number of messages than it has.
 pub record IsMiscounted (most : ℕ) (bytes : List ℕ) (count found : ℕ) : Type 0 where
@@ -82,12 +142,14 @@ abbrev pub JournalFault : ℕ → List ℕ → FileError → Type 0
 JournalFault most bytes (Short len) =
     (len ≡ length bytes) × ((length bytes < 18) ⊎ (IsVersion2 bytes × (length bytes < 27)))
 JournalFault most bytes BadMagic =
-    (18 ≤ length bytes) × (take 8 bytes ≡ magic_1 → ⊥) × (take 8 bytes ≡ magic_2 → ⊥)
+    (18 ≤ length bytes) × (take 8 bytes ≡ magic_1 → ⊥) × (take 8 bytes ≡ magic_2 → ⊥) × (take 8 bytes ≡ magic_3 → ⊥)
 JournalFault most bytes (BadFlag byte) =
     IsVersion2 bytes × (27 ≤ length bytes) × (slice_index bytes 18 ≡ byte) × IsBadFlag byte
-JournalFault most bytes Full = FaultInBlocks most bytes Full
-JournalFault most bytes (TooLong len) = FaultInBlocks most bytes (TooLong len)
+JournalFault most bytes Full = FaultInBlocks most bytes Full ⊎ FaultInRecords most bytes Full
+JournalFault most bytes (TooLong len) =
+    FaultInBlocks most bytes (TooLong len) ⊎ FaultInRecords most bytes (TooLong len)
 JournalFault most bytes (BlockCut number) = FaultInBlocks most bytes (BlockCut number)
+JournalFault most bytes (Damaged number) = FaultInRecords most bytes (Damaged number)
 JournalFault most bytes (CountDiffers count found) = IsMiscounted most bytes count found
 JournalFault most bytes Read = ⊥
 JournalFault most bytes Memory = ⊥

@@ -11,6 +11,7 @@ pub mod Packing
 pub mod Publisher
 pub mod Putting
 pub mod Reader
+pub mod Records
 pub mod Server
 pub mod Serving
 pub mod Truthful

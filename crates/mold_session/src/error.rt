@@ -94,18 +94,19 @@ pub enum SessionError {
 /// the order of its bytes.
 #[derive(Clone, Copy, Debug, PartialEq, Eq, Hash, Error)]
 pub enum FileError {
-    /// The file ends within its head, which has 18 bytes in version 1 and 27 in version 2. `len` is the file's
+    /// The file ends within its head, which has 27 bytes in version 2 and 18 in the others. `len` is the file's
     /// length.
     #[error("{len} bytes are too short for a journal")]
     Short { len: usize },
-    /// The first eight bytes are the magic bytes of neither version.
-    #[error("not a journal of version 1 or 2")]
+    /// The first eight bytes are the magic bytes of none of the versions.
+    #[error("not a journal of version 1, 2 or 3")]
     BadMagic,
     /// The byte at offset 18 of a file of version 2, which states whether the session is closed, is neither 0
     /// nor 1.
     #[error("the byte {byte} means neither open nor closed")]
     BadFlag { byte: u8 },
-    /// Bytes follow message `MAX_MESSAGES`, the last one that can have a sequence number.
+    /// Bytes, or in version 3 the record of a message, follow message `MAX_MESSAGES`, the last one that can have a
+    /// sequence number.
     #[error("the journal has messages after the greatest number")]
     Full,
     /// A message is longer than the journal's `max_message`. `len` is its length in bytes.
@@ -117,6 +118,9 @@ pub enum FileError {
     /// A file of version 2 ends after a whole block, but it has `found` messages and states `count`.
     #[error("the file states {count} messages and has {found}")]
     CountDiffers { count: u64, found: u64 },
+    /// In a file of version 3, neither a whole record nor a shut gate follows the messages before message `number`.
+    #[error("the file is damaged where message {number} has to be")]
+    Damaged { number: u64 },
     /// The source failed.
     #[error("the journal can't be read")]
     Read,
