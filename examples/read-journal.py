@@ -1,6 +1,6 @@
 #!/usr/bin/env python3
 """Prints the messages of a journal file as `mold listen` does. Each line has a sequence number and the message in
-hexadecimal digits, or - for an empty message. It reads files of both versions.
+hexadecimal digits, or - for an empty message. It reads files of versions 1 and 2.
 
     python3 examples/read-journal.py FILE
 

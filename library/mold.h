@@ -89,10 +89,11 @@ enum {
     MOLD_AHEAD = 26,          /* the request begins above the last message */
     MOLD_BURST = 27,          /* a burst is 1 to 64 datagrams */
     MOLD_FILE_SHORT = 28,     /* too few bytes for a journal */
-    MOLD_BAD_MAGIC = 29,      /* not a journal of version 1 or 2 */
+    MOLD_BAD_MAGIC = 29,      /* not a journal of version 1, 2 or 3 */
     MOLD_BAD_FLAG = 30,       /* the journal's flag is neither open nor closed */
     MOLD_FILE_CUT = 31,       /* the journal ends within a message */
-    MOLD_COUNT_DIFFERS = 32   /* the journal does not have as many messages as it states */
+    MOLD_COUNT_DIFFERS = 32,  /* the journal does not have as many messages as it states */
+    MOLD_DAMAGED = 33         /* a record of the journal is damaged */
 };
 
 /* A slice: `length` bytes at `at`. */
@@ -424,7 +425,7 @@ static inline mold_server *mold_server_of(mold_publisher *publisher) {
 #endif
 }
 
-/* Makes a server from the bytes of a journal file of version 1 or 2. Its datagrams have at most `limit` bytes, and a
+/* Makes a server from the bytes of a journal file of version 1, 2 or 3. Its datagrams have at most `limit` bytes, and a
  * request gets at most `burst` responses. *number is 0 if the call succeeds.
  *
  *   MOLD_BROKEN         the handle is not empty.
@@ -437,6 +438,7 @@ static inline mold_server *mold_server_of(mold_publisher *publisher) {
  *   MOLD_TOO_LONG       a message is longer than the limit allows; *number is its length.
  *   MOLD_FILE_CUT       the bytes end within message *number.
  *   MOLD_COUNT_DIFFERS  the journal has *number messages, and states another number.
+ *   MOLD_DAMAGED        there is no whole record where message *number could be.
  *   MOLD_MEMORY         an allocation failed; the handle is empty.
  *
  * If the call makes no server, it reads the bytes once more. So it reports a fault even if an allocation failed. */

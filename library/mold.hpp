@@ -82,7 +82,7 @@ private:
 
 /// Returns the text of a code. A zero byte ends it, as `%s` of printf requires. It is valid forever.
 inline const char *text(std::uint32_t code) noexcept {
-    constexpr std::uint32_t unknown = MOLD_COUNT_DIFFERS + 1;
+    constexpr std::uint32_t unknown = MOLD_DAMAGED + 1;
     struct Texts {
         char all[unknown + 1][64] = {};
 

@@ -370,8 +370,11 @@ def file(chance):
     if has(chance, 0.02):
         messages.append(bytes(chance.choice([4096, 65534, 65535])))
     session = chance.choice([NAME.encode(), chance.randbytes(10)])
-    if has(chance, 0.4):
+    if has(chance, 0.3):
         drawn = model.old_journal_file(session, messages)
+    elif has(chance, 0.5):
+        rest = chance.choice([b"\0", b"\2", b"7", b"\0\1\0\0", b"\xff\xff"])
+        drawn = model.record_file(session, messages, has(chance, 0.5), rest)
     else:
         drawn = model.journal_file(session, messages, has(chance, 0.5))
         if has(chance, 0.1):

@@ -335,6 +335,34 @@ def old_journal_file(session, messages):
     return b"MOLDJNL1" + session + blocks(messages)
 
 
+def record_file(session, messages, is_closed, rest=b"\0"):
+    """A journal file of version 3. The bytes `rest` follow the records, or `01 01` if it is closed."""
+    records = b"".join(b"\1\0" + blocks([message]) for message in messages)
+    return b"MOLDJNL3" + session + records + (b"\1\1" if is_closed else b"") + rest
+
+
+def records_of(some_bytes, longest):
+    """The messages of the records of a file, whether it is closed, and a refusal or None."""
+    messages = []
+    while True:
+        damaged = f"Damaged {len(messages) + 1}"
+        if not some_bytes:
+            return messages, False, damaged
+        if some_bytes[0] != 1:
+            return messages, False, None
+        if some_bytes[1:2] == b"\1":
+            return messages, True, None if len(some_bytes) > 2 else damaged
+        if some_bytes[1:2] != b"\0" or len(some_bytes) < 4:
+            return messages, False, damaged
+        size = number_in(some_bytes[2:4])
+        if size > longest:
+            return messages, False, f"TooLong {size}"
+        if len(some_bytes) < 4 + size:
+            return messages, False, damaged
+        messages.append(some_bytes[4 : 4 + size])
+        some_bytes = some_bytes[4 + size :]
+
+
 def messages_of_file(some_bytes, longest):
     """The messages of the blocks in the rest of a file."""
     messages, size = whole_blocks(some_bytes)
@@ -353,9 +381,14 @@ def journal_of(some_bytes, longest=65535):
     """The journal in a file. Messages may have at most `longest` bytes."""
     if len(some_bytes) < 18:
         raise Refused(f"Short {len(some_bytes)}")
-    if some_bytes[:8] not in (b"MOLDJNL1", b"MOLDJNL2"):
+    if some_bytes[:8] not in (b"MOLDJNL1", b"MOLDJNL2", b"MOLDJNL3"):
         raise Refused("BadMagic")
     session = some_bytes[8:18]
+    if some_bytes[:8] == b"MOLDJNL3":
+        messages, is_closed, refusal = records_of(some_bytes[18:], longest)
+        if refusal:
+            raise Refused(refusal)
+        return Journal(session, messages, is_closed)
     if some_bytes[:8] == b"MOLDJNL1":
         return Journal(session, messages_of_file(some_bytes[18:], longest), False)
     if len(some_bytes) < 27:
@@ -381,7 +414,9 @@ def upgrade(close, some_bytes):
 
 
 def messages_before(some_bytes):
-    """The messages of the complete blocks after a valid file header."""
+    """The messages of the complete blocks or records after a valid file header."""
+    if some_bytes[:8] == b"MOLDJNL3" and len(some_bytes) >= 18:
+        return records_of(some_bytes[18:], 65535)[0]
     size = {b"MOLDJNL1": 18, b"MOLDJNL2": 27}.get(some_bytes[:8])
     if size is None or len(some_bytes) < size or (size == 27 and some_bytes[18] > 1):
         return []

@@ -9,7 +9,7 @@
 #include <stdlib.h>
 #include <string.h>
 
-#define CODES 33
+#define CODES 34
 
 /* The number of checks, the number of failed checks, and whether a call has returned each code. */
 extern unsigned long checks, faults;

@@ -18,7 +18,7 @@ using Bytes = std::vector<std::uint8_t>;
 
 const std::uint8_t session[] = {'C', 'O', 'M', 'P', 'A', 'R', 'E', ' ', ' ', ' '};
 unsigned long checks, faults;
-unsigned long codes[33];
+unsigned long codes[34];
 
 void check(bool holds, const char *what, unsigned long place) {
     checks++;
@@ -112,7 +112,7 @@ public:
             line, bytes.data(), bytes.size(), other,
             [&batch](std::uint64_t, const std::uint8_t *at, std::size_t length) { batch.push(at, length); });
         const std::uint32_t code = mold_listener_take(&listener_, line, bytes.data(), bytes.size(), &told);
-        codes[code % 33]++;
+        codes[code % 34]++;
         check(code == wanted && told.detail == other.detail, "the codes or their numbers differ", place);
         check(told.handed == other.handed && told.kept == other.kept && told.beyond == other.beyond,
               "the counts differ", place);

@@ -271,13 +271,14 @@ static void run_checker(void) {
 /* Files with a fault. Their code is the same if all allocations fail, and no server is made. */
 static void run_faulty_journals(void) {
     static const uint32_t codes[] = {MOLD_FILE_SHORT, MOLD_BAD_MAGIC, MOLD_FILE_CUT, MOLD_TOO_LONG, MOLD_FILE_CUT,
-                                     MOLD_BAD_FLAG, MOLD_COUNT_DIFFERS};
-    static const uint64_t numbers[] = {17, 0, 5, 43, 1, 2, 2};
+                                     MOLD_BAD_FLAG, MOLD_COUNT_DIFFERS, MOLD_DAMAGED};
+    static const uint64_t numbers[] = {17, 0, 5, 43, 1, 2, 2, 2};
     for (size_t i = 0; i < sizeof codes / sizeof *codes; i++) {
         datagram files[] = {cut(five_messages(), 17), of_length(200), cut(five_messages(), 18 + 5 * 22 - 1),
                             five_messages(), cut(five_messages(), 19),
                             of_hex("4d4f4c444a4e4c32" SESSION_HEX "020000000000000000"),
-                            of_hex("4d4f4c444a4e4c32" SESSION_HEX "000000000000000003" "00024142" "0000")};
+                            of_hex("4d4f4c444a4e4c32" SESSION_HEX "000000000000000003" "00024142" "0000"),
+                            of_hex("4d4f4c444a4e4c33" SESSION_HEX "0100" "00024142")};
         mold_server server = MOLD_EMPTY;
         uint64_t number = 99;
         files[3].at[18 + 4 * 22 + 1] = 43;

@@ -128,6 +128,7 @@ static void servers_that_cannot_be(void) {
 }
 
 #define VERSION_2 "4d4f4c444a4e4c32" SESSION_HEX
+#define VERSION_3 "4d4f4c444a4e4c33" SESSION_HEX
 
 static void files_that_are_no_journals(void) {
     mold_server server = MOLD_EMPTY;
@@ -147,6 +148,10 @@ static void files_that_are_no_journals(void) {
     CHECK(number == 2);
     CODE(server_new(&server, 64, 1, of_hex(VERSION_2 "000000000000000003" "00024142" "0000"), &number),
          MOLD_COUNT_DIFFERS);
+    CHECK(number == 2);
+    CODE(server_new(&server, 64, 1, of_hex(VERSION_3), &number), MOLD_DAMAGED);
+    CHECK(number == 1);
+    CODE(server_new(&server, 64, 1, of_hex(VERSION_3 "0100" "00024142" "0102"), &number), MOLD_DAMAGED);
     CHECK(number == 2);
     datagram longer = five_messages();
     longer.at[19] = 43;

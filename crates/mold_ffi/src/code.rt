@@ -67,7 +67,7 @@ pub const AHEAD: u32 = 26;
 pub const BURST: u32 = 27;
 /// A file that ends in its head.
 pub const FILE_SHORT: u32 = 28;
-/// A file that is not a journal of version 1 or 2.
+/// A file that is not a journal of version 1, 2 or 3.
 pub const BAD_MAGIC: u32 = 29;
 /// A flag in the file's head that is neither open nor closed.
 pub const BAD_FLAG: u32 = 30;
@@ -75,3 +75,5 @@ pub const BAD_FLAG: u32 = 30;
 pub const FILE_CUT: u32 = 31;
 /// A number of messages other than the one that the file's head states.
 pub const COUNT_DIFFERS: u32 = 32;
+/// A file of version 3 with neither a whole record nor a shut gate where one has to be.
+pub const DAMAGED: u32 = 33;

@@ -40,6 +40,9 @@ pub fn push_file_refusal(out: &mut Vec<u8>, error: FileError) -> Result<(), Allo
                 Word::Number(found),
             ],
         ),
+        FileError::Damaged { number } => {
+            push_refused(out, &[Word::Text(b"Damaged"), Word::Number(number)])
+        }
         FileError::Read => push_refused(out, &[Word::Text(b"Read")]),
         FileError::Write => push_refused(out, &[Word::Text(b"Write")]),
         FileError::Memory => push_refused(out, &[Word::Text(b"Memory")]),

@@ -7,11 +7,12 @@ use Rattle.byteorder.specs.Endian.{big_number}
 use Rattle.mold_wire.specs.Block.{be64, block, blocks}
 use Rattle.mold_wire.specs.declared.session.Session.{Session}
 use Rattle.mold_session.specs.File.{magic_1, magic_2, closed_byte, head_2, SpellsJournal, SpellsJournal2}
-use Rattle.mold_session.specs.FileFault.{BlockFault, BlocksFault, FaultInBlocks, JournalFault}
+use Rattle.mold_session.specs.FileFault.{BlockFault, BlocksFault, FaultInBlocks, FaultInRecords, JournalFault}
 use Rattle.mold_session.specs.Journal.{IsWithin}
+use Rattle.mold_session.specs.Records.{magic_3}
 use Rattle.mold_session.specs.declared.error.FileError.{FileError}
-use Rattle.mold_session.specs.declared.error.FileError.TheVariants.{TooLong, Memory, BadMagic, Short, BlockCut, Read, Write, Full, CountDiffers, BadFlag}
-use Rattle.mold_session.proofs.HeadLemmas.{length-magic_1, length-magic_2, one_magic, behind_1, behind_2, count_at, flag_at}
+use Rattle.mold_session.specs.declared.error.FileError.TheVariants.{TooLong, Memory, BadMagic, Short, BlockCut, Read, Write, Full, CountDiffers, BadFlag, Damaged}
+use Rattle.mold_session.proofs.HeadLemmas.{length-magic_1, length-magic_2, one_magic, magic_1_or_3, magic_2_or_3, behind_1, behind_2, count_at, flag_at}
 
 -- A block begins with the length of its message.
 pub length_read : (message rest : List ℕ) → length message ≤ 65535 → big_number 2 (block message ++ rest) ≡ length message
@@ -126,6 +127,7 @@ no_rest_fault most count extra rest BadMagic bound each few same fault = fault
 no_rest_fault most count extra rest (Short len) bound each few same fault = fault
 no_rest_fault most count extra rest (BadFlag byte) bound each few same fault = fault
 no_rest_fault most count extra rest (CountDiffers stated found) bound each few same fault = fault
+no_rest_fault most count extra rest (Damaged number) bound each few same fault = fault
 
 pub no_blocks_fault : (most : ℕ) (messages : List (List ℕ)) (behind : List ℕ) (error : FileError) → most ≤ 65535 →
     AllByRecursion (IsWithin most) messages → length messages < 18446744073709551615 → behind ≡ blocks messages →
@@ -143,6 +145,11 @@ no_blocks_fault most messages behind error bound each few same fault =
       length-append fault.messages found.extra,
     ))
     found.behind fault.fault
+
+-- Only a file of version 3 has a fault in its records.
+pub no_records : (most : ℕ) (bytes magic : List ℕ) (error : FileError) → take 8 bytes ≡ magic →
+    (magic ≡ magic_3 → ⊥) → FaultInRecords most bytes error → ⊥
+no_records most bytes magic error is other fault = other (sym is ∙ fault.1.magic)
 
 no_fault_behind_1 : (most : ℕ) (session : Session) (messages : List (List ℕ)) (bytes : List ℕ) (error : FileError) →
     most ≤ 65535 → SpellsJournal session messages bytes → AllByRecursion (IsWithin most) messages →
@@ -171,10 +178,19 @@ no_fault_1 most session messages bytes (BadFlag byte) bound spelled each fault =
     one_magic (sym (behind_1 session.0 bytes (blocks messages) spelled.named spelled.spelled).magic ∙ fault.0)
 no_fault_1 most session messages bytes (CountDiffers count found) bound spelled each fault =
     one_magic (sym (behind_1 session.0 bytes (blocks messages) spelled.named spelled.spelled).magic ∙ fault.head.magic)
-no_fault_1 most session messages bytes Full bound spelled each fault =
+no_fault_1 most session messages bytes Full bound spelled each (inl fault) =
     no_fault_behind_1 most session messages bytes Full bound spelled each fault
-no_fault_1 most session messages bytes (TooLong len) bound spelled each fault =
+no_fault_1 most session messages bytes Full bound spelled each (inr fault) =
+    no_records most bytes magic_1 Full
+    (behind_1 session.0 bytes (blocks messages) spelled.named spelled.spelled).magic magic_1_or_3 fault
+no_fault_1 most session messages bytes (TooLong len) bound spelled each (inl fault) =
     no_fault_behind_1 most session messages bytes (TooLong len) bound spelled each fault
+no_fault_1 most session messages bytes (TooLong len) bound spelled each (inr fault) =
+    no_records most bytes magic_1 (TooLong len)
+    (behind_1 session.0 bytes (blocks messages) spelled.named spelled.spelled).magic magic_1_or_3 fault
+no_fault_1 most session messages bytes (Damaged number) bound spelled each fault =
+    no_records most bytes magic_1 (Damaged number)
+    (behind_1 session.0 bytes (blocks messages) spelled.named spelled.spelled).magic magic_1_or_3 fault
 no_fault_1 most session messages bytes (BlockCut number) bound spelled each fault =
     no_fault_behind_1 most session messages bytes (BlockCut number) bound spelled each fault
 no_fault_1 most session messages bytes Read bound spelled each fault = fault
@@ -219,10 +235,22 @@ no_fault_2 most session messages closed bytes (CountDiffers count found) bound s
     in
     fault.differs
     (fault.stated ∙ sym stated ∙ ap (λ (t : List (List ℕ)). length t) same ∙ sym fault.counted)
-no_fault_2 most session messages closed bytes Full bound spelled each fault =
+no_fault_2 most session messages closed bytes Full bound spelled each (inl fault) =
     no_fault_behind_2 most session messages closed bytes Full bound spelled each fault
-no_fault_2 most session messages closed bytes (TooLong len) bound spelled each fault =
+no_fault_2 most session messages closed bytes Full bound spelled each (inr fault) =
+    no_records most bytes magic_2 Full
+    (behind_2 session.0 bytes (blocks messages) closed (length messages) spelled.named spelled.spelled).magic
+    magic_2_or_3 fault
+no_fault_2 most session messages closed bytes (TooLong len) bound spelled each (inl fault) =
     no_fault_behind_2 most session messages closed bytes (TooLong len) bound spelled each fault
+no_fault_2 most session messages closed bytes (TooLong len) bound spelled each (inr fault) =
+    no_records most bytes magic_2 (TooLong len)
+    (behind_2 session.0 bytes (blocks messages) closed (length messages) spelled.named spelled.spelled).magic
+    magic_2_or_3 fault
+no_fault_2 most session messages closed bytes (Damaged number) bound spelled each fault =
+    no_records most bytes magic_2 (Damaged number)
+    (behind_2 session.0 bytes (blocks messages) closed (length messages) spelled.named spelled.spelled).magic
+    magic_2_or_3 fault
 no_fault_2 most session messages closed bytes (BlockCut number) bound spelled each fault =
     no_fault_behind_2 most session messages closed bytes (BlockCut number) bound spelled each fault
 no_fault_2 most session messages closed bytes Read bound spelled each fault = fault
@@ -238,7 +266,7 @@ one_version one other messages others closed bytes first second = one_magic (
     )
 
 -- Two journals with the same file are equal.
-session_at : (session bytes behind magic : List ℕ) → length magic ≡ 8 → length session ≡ 10 →
+pub session_at : (session bytes behind magic : List ℕ) → length magic ≡ 8 → length session ≡ 10 →
     bytes ≡ magic ++ (session ++ behind) → session ≡ take 10 (drop 8 bytes)
 session_at session bytes behind magic eight ten parts = sym (
     ap (λ (t : List ℕ). take 10 (drop 8 t)) parts
@@ -246,7 +274,7 @@ session_at session bytes behind magic eight ten parts = sym (
     ∙ take_at session behind 10 ten
     )
 
-as_session : (one other : Session) → one.0 ≡ other.0 → one ≡ other
+pub as_session : (one other : Session) → one.0 ≡ other.0 → one ≡ other
 as_session one other same = ap (λ (x : List ℕ). record { 0 = x }) same
 
 pub one_journal : (one other : Session) (messages others : List (List ℕ)) (bytes : List ℕ) →

@@ -10,10 +10,11 @@ use Rattle.std.specs.Io.KnownBytes.{Consumes}
 use Rattle.byteorder.specs.Endian.{big_number}
 use Rattle.mold_wire.specs.Block.{be64}
 use Rattle.mold_session.specs.File.{magic_1, magic_2, closed_byte, head_1, head_2}
-use Rattle.mold_session.specs.FileFault.{IsBody1, IsBody2, JournalFault}
+use Rattle.mold_session.specs.FileFault.{IsBody1, IsBody2, IsBody3, JournalFault}
 use Rattle.mold_session.specs.Loading.{NumbersFault, Refuses}
+use Rattle.mold_session.specs.Records.{magic_3, head_3}
 use Rattle.mold_session.specs.declared.error.FileError.{FileError}
-use Rattle.mold_session.specs.declared.error.FileError.TheVariants.{TooLong, Memory, BadMagic, Short, BlockCut, Read, Write, Full, CountDiffers, BadFlag}
+use Rattle.mold_session.specs.declared.error.FileError.TheVariants.{TooLong, Memory, BadMagic, Short, BlockCut, Read, Write, Full, CountDiffers, BadFlag, Damaged}
 
 pub length-magic_1 : length magic_1 ≡ 8
 unfolding magic_1
@@ -23,10 +24,22 @@ pub length-magic_2 : length magic_2 ≡ 8
 unfolding magic_2
 length-magic_2 = refl
 
--- The magic bytes of the two versions differ.
+pub length-magic_3 : length magic_3 ≡ 8
+unfolding magic_3
+length-magic_3 = refl
+
+-- The magic bytes of the versions differ.
 pub one_magic : magic_1 ≡ magic_2 → ⊥
 unfolding magic_1 magic_2
 one_magic same = absurd (omega (arith, ap (λ (t : List ℕ). get_or t 7 0) same))
+
+pub magic_1_or_3 : magic_1 ≡ magic_3 → ⊥
+unfolding magic_1 magic_3
+magic_1_or_3 same = absurd (omega (arith, ap (λ (t : List ℕ). get_or t 7 0) same))
+
+pub magic_2_or_3 : magic_2 ≡ magic_3 → ⊥
+unfolding magic_2 magic_3
+magic_2_or_3 same = absurd (omega (arith, ap (λ (t : List ℕ). get_or t 7 0) same))
 
 length-head_1 : (session : List ℕ) → length session ≡ 10 → length (head_1 session) ≡ 18
 length-head_1 session ten = omega (arith, length-append magic_1 session, length-magic_1)
@@ -66,6 +79,25 @@ behind_1 session bytes behind ten parts = record {
     length-head_1 session ten,
   );
   from = sym (ap (drop 18) parts ∙ drop_at (head_1 session) behind 18 (length-head_1 session ten));
+}
+
+length-head_3 : (session : List ℕ) → length session ≡ 10 → length (head_3 session) ≡ 18
+length-head_3 session ten = omega (arith, length-append magic_3 session, length-magic_3)
+
+-- The bytes after a head of version 3.
+pub behind_3 : (session bytes behind : List ℕ) → length session ≡ 10 → bytes ≡ head_3 session ++ behind →
+    IsBody3 bytes behind
+behind_3 session bytes behind ten parts = record {
+  magic =
+      ap (take 8) (parts ∙ append_assoc magic_3 session behind)
+      ∙ take_at magic_3 (session ++ behind) 8 length-magic_3;
+  whole = omega (
+    arith,
+    ap (λ (t : List ℕ). length t) parts,
+    length-append (head_3 session) behind,
+    length-head_3 session ten,
+  );
+  from = sym (ap (drop 18) parts ∙ drop_at (head_3 session) behind 18 (length-head_3 session ten));
 }
 
 closed_byte_small : (closed : Bool) → closed_byte closed ≤ 1
@@ -135,17 +167,18 @@ numbers_are index count byte number all small read =
     ∙ read
     ∙ ap (λ (n : ℕ). n ∷ be64 number) (sym (closed_from byte small))
 
--- A file whose first 18 bytes begin with the magic bytes of neither version is refused.
+-- A file whose first 18 bytes begin with the magic bytes of no version is refused.
 pub bad_magic : (known left : Option (List ℕ)) (front : List ℕ) (most : ℕ) → Consumes known left front →
-    length front ≡ 18 → (take 8 front ≡ magic_1 → ⊥) → (take 8 front ≡ magic_2 → ⊥) →
+    length front ≡ 18 → (take 8 front ≡ magic_1 → ⊥) → (take 8 front ≡ magic_2 → ⊥) → (take 8 front ≡ magic_3 → ⊥) →
     Refuses (JournalFault most) known BadMagic
-bad_magic None left front most read long no_1 no_2 = tt
-bad_magic (Some xs) None front most read long no_1 no_2 = absurd read
-bad_magic (Some xs) (Some ys) front most read long no_1 no_2 =
+bad_magic None left front most read long no_1 no_2 no_3 = tt
+bad_magic (Some xs) None front most read long no_1 no_2 no_3 = absurd read
+bad_magic (Some xs) (Some ys) front most read long no_1 no_2 no_3 =
     let begins : take 8 xs ≡ take 8 front = ap (take 8) read ∙ take-append-le 8 front ys (omega arith) in (
       omega (arith, ap (λ (t : List ℕ). length t) read, length-append front ys),
       (λ is. no_1 (sym begins ∙ is)),
       (λ is. no_2 (sym begins ∙ is)),
+      (λ is. no_3 (sym begins ∙ is)),
     )
 
 known_behind : (known left : Option (List ℕ)) (front : List ℕ) (Behind Whole : List ℕ → Type 0) →
@@ -185,6 +218,9 @@ refused_behind Behind Whole known left front read same (CountDiffers count found
     known_behind known left front (λ rest. Behind rest (CountDiffers count found))
     (λ bytes. Whole bytes (CountDiffers count found))
     read (λ xs ys e. same xs ys e (CountDiffers count found)) fault
+refused_behind Behind Whole known left front read same (Damaged number) fault =
+    known_behind known left front (λ rest. Behind rest (Damaged number)) (λ bytes. Whole bytes (Damaged number))
+    read (λ xs ys e. same xs ys e (Damaged number)) fault
 
 -- A fault of the bytes after the first 18 bytes of version 2 is a fault of the file.
 pub numbers_refused : (front : List ℕ) (most : ℕ) → length front ≡ 18 → take 8 front ≡ magic_2 → (bytes rest : List ℕ) →
@@ -213,6 +249,7 @@ numbers_refused front most long is bytes rest read Full fault = absurd fault
 numbers_refused front most long is bytes rest read (TooLong len) fault = absurd fault
 numbers_refused front most long is bytes rest read (BlockCut number) fault = absurd fault
 numbers_refused front most long is bytes rest read (CountDiffers count found) fault = absurd fault
+numbers_refused front most long is bytes rest read (Damaged number) fault = absurd fault
 
 -- If the comparison of bytes is false, they differ.
 pub unequal : (one other magic front : List ℕ) → pointwise eqb one other ≡ false → one ≡ take 8 front →

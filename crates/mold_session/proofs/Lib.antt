@@ -15,6 +15,9 @@ pub mod PublisherLemmas
 pub mod PuttingLemmas
 pub mod SavingLemmas
 pub mod ReaderLemmas
+pub mod RecordLemmas
+pub mod RecordLawLemmas
+pub mod RecordReadingLemmas
 pub mod ServingLemmas
 pub mod TruthLemmas
 pub mod SendingLemmas

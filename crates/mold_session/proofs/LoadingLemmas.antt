@@ -7,6 +7,7 @@ use Rattle.std.proofs.KnownBytes.{Consumes-trans, prepend_known-read}
 use Rattle.mold_messages.specs.Listed.{extended}
 use Rattle.mold_wire.specs.Block.{blocks}
 use Rattle.mold_session.specs.Journal.{AreMessages}
+use Rattle.mold_session.specs.Records.{records}
 
 -- The last message of the list has all but `missing` of its `len` bytes.
 pub record Taking (known left : Option (List ℕ)) (old new : List (List ℕ)) (missing len : ℕ) : Type 0 where
@@ -49,3 +50,8 @@ taking_more known mid left piece lent rest old new newer missing count len takin
       consumed = Consumes-trans known mid (prepend_known rest left) taking.message part taking.consumed
           (prepend_known-read mid left piece rest part ⊥ kept cut (λ none. absurd none)).0;
     }
+
+-- The records of these messages were read.
+pub record ReadsRecords (most : ℕ) (known left : Option (List ℕ)) (messages : List (List ℕ)) : Type 0 where
+  pub listed : AreMessages most messages
+  pub consumed : Consumes known left (records messages)

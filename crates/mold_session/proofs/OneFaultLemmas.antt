@@ -5,12 +5,15 @@ use Rattle.std.specs.List.{AllByRecursion}
 use Rattle.byteorder.specs.Endian.{big_number}
 use Rattle.mold_wire.specs.Block.{block, blocks}
 use Rattle.mold_session.specs.File.{magic_1, magic_2}
-use Rattle.mold_session.specs.FileFault.{IsVersion2, IsBody1, IsBody2, IsCut, BlockFault, BlocksFault, FaultInBlocks, IsMiscounted, JournalFault}
+use Rattle.mold_session.specs.FileFault.{IsVersion2, IsBody1, IsBody2, IsBody3, IsCut, BlockFault, BlocksFault, FaultInBlocks, FaultInRecords}
+use Rattle.mold_session.specs.FileFault.{IsMiscounted, JournalFault, RecordsFault}
 use Rattle.mold_session.specs.Journal.{IsWithin}
+use Rattle.mold_session.specs.Records.{magic_3}
 use Rattle.mold_session.specs.declared.error.FileError.{FileError}
-use Rattle.mold_session.specs.declared.error.FileError.TheVariants.{TooLong, Memory, BadMagic, Short, BlockCut, Read, Write, Full, CountDiffers, BadFlag}
+use Rattle.mold_session.specs.declared.error.FileError.TheVariants.{TooLong, Memory, BadMagic, Short, BlockCut, Read, Write, Full, CountDiffers, BadFlag, Damaged}
 use Rattle.mold_session.proofs.FileLawLemmas.{length_read, block_here, each_file, same_messages, no_blocks_fault}
-use Rattle.mold_session.proofs.HeadLemmas.{one_magic}
+use Rattle.mold_session.proofs.HeadLemmas.{one_magic, magic_1_or_3, magic_2_or_3}
+use Rattle.mold_session.proofs.RecordLemmas.{one_record_fault}
 
 -- The fault after `count` blocks: no sequence number remains, the message is too long, or its block is cut.
 abbrev pub IsFullAt : ℕ → FileError → Type 0
@@ -42,6 +45,7 @@ fault_at most count rest BadMagic fault = absurd fault
 fault_at most count rest (Short len) fault = absurd fault
 fault_at most count rest (BadFlag byte) fault = absurd fault
 fault_at most count rest (CountDiffers stated found) fault = absurd fault
+fault_at most count rest (Damaged number) fault = absurd fault
 
 long_or_cut : (most : ℕ) (rest : List ℕ) → 2 ≤ length rest → most < big_number 2 rest → IsCut most rest → ⊥
 long_or_cut most rest some long cut =
@@ -181,7 +185,13 @@ one_blocks most bytes one other bound first second =
     one_blocks_fault most first.0 one other bound first.2
     (subst (λ (t : List ℕ). BlocksFault most t other) behind second.2)
 
--- Where a fault can be: too few bytes, the magic bytes, the flag, the blocks, or the number of messages.
+one_records : (most : ℕ) (bytes : List ℕ) (one other : FileError) → most ≤ 65535 → FaultInRecords most bytes one →
+    FaultInRecords most bytes other → one ≡ other
+one_records most bytes one other bound first second =
+    one_record_fault most first.0 one other bound first.2
+    (subst (λ (t : List ℕ). RecordsFault most t other) (second.1.from ∙ sym first.1.from) second.2)
+
+-- Where a fault can be: too few bytes, the magic bytes, the flag, the blocks, the number of messages, or the records.
 abbrev pub IsShort : List ℕ → FileError → Type 0
 IsShort bytes error =
     (error ≡ Short (length bytes)) × ((length bytes < 18) ⊎ (IsVersion2 bytes × (length bytes < 27)))
@@ -189,6 +199,7 @@ IsShort bytes error =
 abbrev pub IsForeign : List ℕ → FileError → Type 0
 IsForeign bytes error =
     (error ≡ BadMagic) × (18 ≤ length bytes) × (take 8 bytes ≡ magic_1 → ⊥) × (take 8 bytes ≡ magic_2 → ⊥)
+    × (take 8 bytes ≡ magic_3 → ⊥)
 
 abbrev pub IsFlagged : List ℕ → FileError → Type 0
 IsFlagged bytes error =
@@ -200,14 +211,18 @@ data Place (most : ℕ) (bytes : List ℕ) (error : FileError) : Type 0 where
   In_flag : IsFlagged bytes error → Place most bytes error
   In_blocks : FaultInBlocks most bytes error → Place most bytes error
   In_count : IsCountedOff most bytes error → Place most bytes error
+  In_records : FaultInRecords most bytes error → Place most bytes error
 
 place_of : (most : ℕ) (bytes : List ℕ) (error : FileError) → JournalFault most bytes error → Place most bytes error
 place_of most bytes (Short len) fault = In_length (ap (λ (n : ℕ). Short n) fault.0, fault.1)
-place_of most bytes BadMagic fault = In_magic (refl, fault.0, fault.1, fault.2)
+place_of most bytes BadMagic fault = In_magic (refl, fault.0, fault.1, fault.2, fault.3)
 place_of most bytes (BadFlag byte) fault =
     In_flag (ap (λ (n : ℕ). BadFlag n) (sym fault.2), fault.0, fault.1, omega (arith, fault.2, fault.3))
-place_of most bytes Full fault = In_blocks fault
-place_of most bytes (TooLong len) fault = In_blocks fault
+place_of most bytes Full (inl fault) = In_blocks fault
+place_of most bytes Full (inr fault) = In_records fault
+place_of most bytes (TooLong len) (inl fault) = In_blocks fault
+place_of most bytes (TooLong len) (inr fault) = In_records fault
+place_of most bytes (Damaged number) fault = In_records fault
 place_of most bytes (BlockCut number) fault = In_blocks fault
 place_of most bytes (CountDiffers count found) fault = In_count (count, found, refl, fault)
 place_of most bytes Read fault = absurd fault
@@ -248,6 +263,24 @@ foreign_or_headed bytes behind one first (inr head) = first.3 head.magic
 pub flagged_or_headed : (bytes behind : List ℕ) (one : FileError) → IsFlagged bytes one → IsBehind bytes behind → ⊥
 flagged_or_headed bytes behind one first (inl head) = one_magic (sym head.magic ∙ first.1)
 flagged_or_headed bytes behind one first (inr head) = absurd (omega (arith, first.3, head.flag))
+
+-- A file whose head is not of version 3 has no fault in its records.
+pub short_or_recorded : (bytes behind : List ℕ) (one : FileError) → IsShort bytes one → IsBody3 bytes behind → ⊥
+short_or_recorded bytes behind one first head =
+    elim first.1 [
+      | inl short ↦ absurd (omega (arith, short, head.whole))
+      | inr short ↦ magic_2_or_3 (sym short.0 ∙ head.magic)
+    ]
+
+pub foreign_or_recorded : (bytes behind : List ℕ) (one : FileError) → IsForeign bytes one → IsBody3 bytes behind → ⊥
+foreign_or_recorded bytes behind one first head = first.4 head.magic
+
+pub flagged_or_recorded : (bytes behind : List ℕ) (one : FileError) → IsFlagged bytes one → IsBody3 bytes behind → ⊥
+flagged_or_recorded bytes behind one first head = magic_2_or_3 (sym first.1 ∙ head.magic)
+
+pub headed_or_recorded : (bytes behind after : List ℕ) → IsBehind bytes behind → IsBody3 bytes after → ⊥
+headed_or_recorded bytes behind after (inl head) other = magic_1_or_3 (sym head.magic ∙ other.magic)
+headed_or_recorded bytes behind after (inr head) other = magic_2_or_3 (sym head.magic ∙ other.magic)
 
 same_place : (most : ℕ) (bytes : List ℕ) (one other : FileError) → most ≤ 65535 → Place most bytes one →
     Place most bytes other → one ≡ other
@@ -296,6 +329,28 @@ same_place most bytes one other bound (In_count first) (In_blocks second) =
     absurd (blocks_or_count most bytes other one bound second first)
 same_place most bytes one other bound (In_count first) (In_count second) =
     one_count most bytes one other bound first second
+same_place most bytes one other bound (In_records first) (In_records second) =
+    one_records most bytes one other bound first second
+same_place most bytes one other bound (In_records first) (In_length second) =
+    absurd (short_or_recorded bytes first.0 other second first.1)
+same_place most bytes one other bound (In_records first) (In_magic second) =
+    absurd (foreign_or_recorded bytes first.0 other second first.1)
+same_place most bytes one other bound (In_records first) (In_flag second) =
+    absurd (flagged_or_recorded bytes first.0 other second first.1)
+same_place most bytes one other bound (In_records first) (In_blocks second) =
+    absurd (headed_or_recorded bytes second.0 first.0 second.1 first.1)
+same_place most bytes one other bound (In_records first) (In_count second) =
+    absurd (headed_or_recorded bytes second.3.behind first.0 (inr second.3.head) first.1)
+same_place most bytes one other bound (In_length first) (In_records second) =
+    absurd (short_or_recorded bytes second.0 one first second.1)
+same_place most bytes one other bound (In_magic first) (In_records second) =
+    absurd (foreign_or_recorded bytes second.0 one first second.1)
+same_place most bytes one other bound (In_flag first) (In_records second) =
+    absurd (flagged_or_recorded bytes second.0 one first second.1)
+same_place most bytes one other bound (In_blocks first) (In_records second) =
+    absurd (headed_or_recorded bytes first.0 second.0 first.1 second.1)
+same_place most bytes one other bound (In_count first) (In_records second) =
+    absurd (headed_or_recorded bytes first.3.behind second.0 (inr first.3.head) second.1)
 
 -- A file has at most one fault.
 pub one_fault : (most : ℕ) (bytes : List ℕ) (one other : FileError) → most ≤ 65535 → JournalFault most bytes one →

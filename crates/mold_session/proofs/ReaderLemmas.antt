@@ -1,24 +1,29 @@
 -- The contents of a file, given the messages that were read of it.
-use Rattle.std.proofs.Common.{◌≡◌, ℕ, ◌<◌, ◌≤◌, List, [], ◌∷◌, ◌++◌, length, length-append, Option, None, Some}
-use Rattle.std.proofs.Common.{refl, sym, ap, subst, ◌∙◌, append_assoc, append-nil, arith}
-use Rattle.std.specs.Prelude.{IfSome, unwrap_or}
+use Rattle.std.proofs.Common.{◌≡◌, ℕ, ◌<◌, ◌≤◌, Bool, true, false, true≢false, List, [], ◌∷◌, ◌++◌, length, length-append, Option}
+use Rattle.std.proofs.Common.{None, Some, refl, sym, ap, subst, ◌∙◌, append_assoc, append-nil, inl, inr, arith}
+use Rattle.std.specs.Prelude.{IfSome}
 use Rattle.std.specs.Io.KnownBytes.{Consumes, prepend_known}
 use Rattle.std.specs.List.{AllByRecursion}
 use Rattle.std.proofs.KnownBytes.{Consumes-trans, Keeps-refl, prepend_known-read}
 use Rattle.std.proofs.lemmas.List.Concat.{flat_map-append}
-use Rattle.mold_wire.specs.Block.{block, blocks}
+use Rattle.mold_wire.specs.Block.{blocks}
 use Rattle.mold_wire.specs.declared.block.TheConstants.{MAX_MESSAGE}
-use Rattle.mold_session.specs.Contents.{HasBlocks, AreBefore, Gives, FileContents, IsFront}
-use Rattle.mold_session.specs.FileFault.{BlockFault, JournalFault}
+use Rattle.mold_session.specs.Contents.{HasBlocks, AreBefore, AreBeforeRecord, Gives, FileContents, IsFront}
+use Rattle.mold_session.specs.FileFault.{IsBody3, BlockFault, HasRecords, JournalFault, PrecedeRecord, RecordFault}
 use Rattle.mold_session.specs.Journal.{IsWithin}
-use Rattle.mold_session.specs.Loading.{head_spelling, IsOfHead, IsStated, ReadsHead, Refuses}
-use Rattle.mold_session.specs.Reader.{EndsWith, HasRead, PassesBlocks, ReaderState, ReadsNext, RestFault}
+use Rattle.mold_session.specs.Loading.{head_spelling, has_records, message_spelling, messages_spelling, stated_count}
+use Rattle.mold_session.specs.Loading.{IsOfHead, IsStated, ReadsHead, Refuses, SpellsFile}
+use Rattle.mold_session.specs.Reader.{BlocksRestFault, EndsFile, EndsWith, HasRead, PassesBlocks, ReaderState, ReadsNext}
+use Rattle.mold_session.specs.Reader.{RestFault, head_at_end}
+use Rattle.mold_session.specs.Records.{records}
 use Rattle.mold_session.specs.declared.error.FileError.{FileError}
-use Rattle.mold_session.specs.declared.error.FileError.TheVariants.{TooLong, Memory, BadMagic, Short, BlockCut, Read, Write, Full, CountDiffers, BadFlag}
+use Rattle.mold_session.specs.declared.error.FileError.TheVariants.{TooLong, Memory, BadMagic, Short, BlockCut, Read, Write, Full, CountDiffers, BadFlag, Damaged}
+use Rattle.mold_session.specs.declared.file_version.FileVersion.{FileVersion}
+use Rattle.mold_session.specs.declared.file_version.FileVersion.TheVariants.{One, Two, Three}
 use Rattle.mold_session.specs.declared.loading.FileHead.{FileHead}
-use Rattle.mold_session.proofs.ContentsLemmas.{begins}
+use Rattle.mold_session.proofs.ContentsLemmas.{begins, record_begins}
 use Rattle.mold_session.proofs.HeadLemmas.{refused_behind}
-use Rattle.mold_session.proofs.FileLemmas.{behind_head, in_file, count_refused, file_spelled}
+use Rattle.mold_session.proofs.FileLemmas.{as_blocks, as_records, behind_head, behind_head_3, in_file, in_file_3, count_refused, file_ended}
 
 -- ---- the head
 
@@ -46,6 +51,7 @@ head_refused known Full of refused = absurd of
 head_refused known (TooLong len) of refused = absurd of
 head_refused known (BlockCut number) of refused = absurd of
 head_refused known (CountDiffers count found) of refused = absurd of
+head_refused known (Damaged number) of refused = absurd of
 
 -- ---- the next message
 
@@ -59,27 +65,31 @@ pub read_more : (known left after : Option (List ℕ)) (reader next : ReaderStat
     HasRead known after next (messages ++ next.message ∷ [])
 read_more known left after reader next messages read more =
     let within : length next.message ≤ 65535 = more.within in
-    let head : FileHead → List ℕ = λ h. head_spelling h.session.0 h.closed h.stated in
-    let joined : (head reader.head ++ blocks messages) ++ block next.message
-    ≡ head reader.head ++ blocks (messages ++ next.message ∷ []) =
-    append_assoc (head reader.head) (blocks messages) (block next.message)
+    let head : FileHead → List ℕ = λ h. head_spelling h.session.0 h.closed h.version in
+    let spell : List ℕ → List ℕ = message_spelling reader.head.version in
+    let all : List (List ℕ) → List ℕ = messages_spelling reader.head.version in
+    let joined : (head reader.head ++ all messages) ++ spell next.message
+    ≡ head reader.head ++ all (messages ++ next.message ∷ []) =
+    append_assoc (head reader.head) (all messages) (spell next.message)
     ∙ ap (λ (t : List ℕ). head reader.head ++ t)
-    (ap (λ (t : List ℕ). blocks messages ++ t) (sym (append-nil (block next.message)))
-    ∙ sym (flat_map-append block messages (next.message ∷ [])))
+    (ap (λ (t : List ℕ). all messages ++ t) (sym (append-nil (spell next.message)))
+    ∙ sym (flat_map-append spell messages (next.message ∷ [])))
     in
     let same : reader.head ≡ next.head = sym more.same in
     record {
       named = subst (λ (h : FileHead). length h.session.0 ≡ 10) same read.named;
-      said = subst (λ (h : FileHead). IsStated h.closed h.stated) same read.said;
+      said = subst (λ (h : FileHead). IsStated h.closed h.version) same read.said;
       listed = record {
         few = omega (arith, read.counted, more.few, length-append messages (next.message ∷ []));
         each = each_more messages next.message read.listed.each (omega (arith, within));
       };
       counted = omega (arith, read.counted, more.counted, length-append messages (next.message ∷ []));
       consumed =
-          subst (λ (h : FileHead). Consumes known after (head h ++ blocks (messages ++ next.message ∷ []))) same
+          subst
+          (λ (h : FileHead). Consumes known after (head h ++ messages_spelling h.version (messages ++ next.message ∷ [])))
+          same
           (subst (Consumes known after) joined
-          (Consumes-trans known left after (head reader.head ++ blocks messages) (block next.message) read.consumed
+          (Consumes-trans known left after (head reader.head ++ all messages) (spell next.message) read.consumed
           more.consumed));
     }
 
@@ -94,14 +104,16 @@ pub read_blocks : (known left : Option (List ℕ)) (reader next : ReaderState) (
     (messages more : List (List ℕ)) → HasRead known (prepend_known reader.rest left) reader messages →
     PassesBlocks limit reader next more → HasRead known (prepend_known next.rest left) next (messages ++ more)
 read_blocks known left reader next limit messages more read passes =
-    let head : FileHead → List ℕ = λ h. head_spelling h.session.0 h.closed h.stated in
+    let head : FileHead → List ℕ = λ h. head_spelling h.session.0 h.closed h.version in
     let after = prepend_known next.rest left in
-    let joined : (head reader.head ++ blocks messages) ++ blocks more ≡ head reader.head ++ blocks (messages ++ more) =
-    append_assoc (head reader.head) (blocks messages) (blocks more)
-    ∙ ap (λ (t : List ℕ). head reader.head ++ t) (sym (flat_map-append block messages more))
+    let all : List (List ℕ) → List ℕ = messages_spelling reader.head.version in
+    let joined : (head reader.head ++ all messages) ++ all more ≡ head reader.head ++ all (messages ++ more) =
+    append_assoc (head reader.head) (all messages) (all more)
+    ∙ ap (λ (t : List ℕ). head reader.head ++ t)
+    (sym (flat_map-append (message_spelling reader.head.version) messages more))
     in
-    let taken : Consumes (prepend_known reader.rest left) after (blocks more) =
-    (prepend_known-read (prepend_known reader.rest left) left reader.rest next.rest (blocks more) ⊥
+    let taken : Consumes (prepend_known reader.rest left) after (all more) =
+    (prepend_known-read (prepend_known reader.rest left) left reader.rest next.rest (all more) ⊥
     (Keeps-refl (prepend_known reader.rest left)) passes.parts (λ none. absurd none)).0
     in
     let same : reader.head ≡ next.head = sym passes.same in
@@ -110,95 +122,181 @@ read_blocks known left reader next limit messages more read passes =
     in
     record {
       named = subst (λ (h : FileHead). length h.session.0 ≡ 10) same read.named;
-      said = subst (λ (h : FileHead). IsStated h.closed h.stated) same read.said;
+      said = subst (λ (h : FileHead). IsStated h.closed h.version) same read.said;
       listed = record {
         few = omega (arith, counted, passes.below);
         each = each_all messages more read.listed.each passes.each;
       };
       counted = counted;
       consumed =
-          subst (λ (h : FileHead). Consumes known after (head h ++ blocks (messages ++ more))) same
+          subst (λ (h : FileHead). Consumes known after (head h ++ messages_spelling h.version (messages ++ more))) same
           (subst (Consumes known after) joined
-          (Consumes-trans known (prepend_known reader.rest left) after (head reader.head ++ blocks messages)
-          (blocks more) read.consumed taken));
+          (Consumes-trans known (prepend_known reader.rest left) after (head reader.head ++ all messages)
+          (all more) read.consumed taken));
     }
 
 -- ---- the contents of the file
 
 module _ (xs ys : List ℕ) (reader : ReaderState) (messages : List (List ℕ))
     (read : HasRead (Some xs) (Some ys) reader messages) where
-  parts : xs ≡ head_spelling reader.head.session.0 reader.head.closed reader.head.stated ++ (blocks messages ++ ys)
+  abbrev all : List ℕ
+  all = messages_spelling reader.head.version messages
+
+  parts : xs ≡ head_spelling reader.head.session.0 reader.head.closed reader.head.version ++ (all ++ ys)
   parts =
       read.consumed
-      ∙ append_assoc (head_spelling reader.head.session.0 reader.head.closed reader.head.stated) (blocks messages) ys
+      ∙ append_assoc (head_spelling reader.head.session.0 reader.head.closed reader.head.version) all ys
 
-  read_head : ReadsHead (Some xs) (Some (blocks messages ++ ys)) reader.head
-  read_head = record { named = read.named; said = read.said; consumed = parts }
+  pub ended : (head : FileHead) → EndsWith (Some ys) reader head → SpellsFile head messages head.version xs
+  ended head ends =
+      let same : head_at_end reader.head head.closed ≡ head = sym ends.same in
+      subst (λ (h : FileHead). SpellsFile h messages h.version xs) same
+      (file_ended xs ys reader.head head.closed reader.head.version messages reader.count read.named read.said read.listed
+      read.counted read.consumed ends.ends)
 
-  all_read : ys ≡ [] → blocks messages ++ ys ≡ blocks messages
-  all_read none = ap (λ (t : List ℕ). blocks messages ++ t) none ∙ append-nil (blocks messages)
+  pub whole : (head : FileHead) → EndsWith (Some ys) reader head → Gives xs messages None
+  whole head ends = (head, ended head ends)
 
-  has_blocks : HasBlocks xs messages ys
-  has_blocks = record {
-    behind = blocks messages ++ ys;
-    head = behind_head reader.head.session.0 reader.head.closed reader.head.stated xs (blocks messages ++ ys) read.named
-        parts;
-    listed = read.listed;
-    parts = refl;
-  }
+  -- A file with blocks.
+  module _ (plain : has_records reader.head.version ≡ false) where
+    block_parts : all ++ ys ≡ blocks messages ++ ys
+    block_parts = ap (λ (t : List ℕ). t ++ ys) (as_blocks reader.head.version messages plain)
 
-  pub whole : EndsWith (Some ys) reader → Gives xs messages None
-  whole ends = (
-    reader.head,
-    file_spelled (Some xs) (Some (blocks messages ++ ys)) reader.head messages
-        (unwrap_or reader.head.stated reader.count) reader.count read_head (all_read ends.over) read.listed refl
-        ends.stated read.counted,
-  )
+    read_head : ReadsHead (Some xs) (Some (all ++ ys)) reader.head
+    read_head = record { named = read.named; said = read.said; consumed = parts }
 
-  block_refused : (error : FileError) → BlockFault 65535 reader.count ys error →
-      JournalFault 65535 xs error × AreBefore xs messages error
-  block_refused error fault =
-      let here = subst (λ (n : ℕ). BlockFault 65535 n ys error) read.counted fault in (
-        in_file reader.head 65535 read.named xs (blocks messages ++ ys) parts error (record {
-          messages = messages;
+    all_read : ys ≡ [] → all ++ ys ≡ blocks messages
+    all_read none = block_parts ∙ ap (λ (t : List ℕ). blocks messages ++ t) none ∙ append-nil (blocks messages)
+
+    has_blocks : HasBlocks xs messages ys
+    has_blocks = record {
+      behind = all ++ ys;
+      head = behind_head reader.head.session.0 reader.head.closed reader.head.version xs (all ++ ys) plain read.named parts;
+      listed = read.listed;
+      parts = block_parts;
+    }
+
+    block_refused : (error : FileError) → BlockFault 65535 reader.count ys error →
+        JournalFault 65535 xs error × AreBefore xs messages error
+    block_refused error fault =
+        let here = subst (λ (n : ℕ). BlockFault 65535 n ys error) read.counted fault in (
+          in_file reader.head 65535 plain read.named xs (all ++ ys) parts error (record {
+            messages = messages;
+            rest = ys;
+            each = read.listed.each;
+            parts = block_parts;
+            fault = here;
+          }),
+          record { rest = ys; front = has_blocks; fault = here },
+        )
+
+    refused_block : (error : FileError) → BlocksRestFault reader.head.version reader.count ys error →
+        Gives xs messages (Some error)
+    refused_block (CountDiffers count found) fault =
+        let whole = all_read fault.0 in (
+          count_refused (Some xs) (Some (all ++ ys)) reader.head 65535 messages count found read_head whole read.listed
+              (fault.1.states ∙ ap (stated_count reader.head.version) (sym fault.1.reads)) fault.1.differs
+              (fault.1.reads ∙ read.counted),
+          subst (HasBlocks xs messages) fault.0 has_blocks,
+        )
+    refused_block Full fault = let here = block_refused Full fault in (here.0, inl here.1)
+    refused_block (TooLong len) fault = let here = block_refused (TooLong len) fault in (here.0, inl here.1)
+    refused_block (BlockCut number) fault = block_refused (BlockCut number) fault
+    refused_block (Damaged number) fault = absurd fault
+    refused_block (Short len) fault = absurd fault
+    refused_block BadMagic fault = absurd fault
+    refused_block (BadFlag byte) fault = absurd fault
+    refused_block Read fault = absurd fault
+    refused_block Memory fault = absurd fault
+    refused_block Write fault = absurd fault
+
+    pub block_front : (contents : FileContents xs) → IsFront messages contents.messages
+    block_front contents = begins xs ys messages contents has_blocks
+
+  -- A file with records.
+  module _ (recorded : has_records reader.head.version ≡ true) where
+    body : IsBody3 xs (all ++ ys)
+    body = behind_head_3 reader.head.session.0 reader.head.closed reader.head.version xs (all ++ ys) recorded read.named
+        parts
+
+    has_listed : HasRecords 65535 (all ++ ys) messages ys
+    has_listed = record {
+      listed = read.listed;
+      parts = ap (λ (t : List ℕ). t ++ ys) (as_records reader.head.version messages recorded);
+    }
+
+    record_refused : (error : FileError) → RecordFault 65535 reader.count ys error →
+        JournalFault 65535 xs error × AreBeforeRecord xs messages error
+    record_refused error fault =
+        let before : PrecedeRecord 65535 (all ++ ys) messages error = record {
           rest = ys;
-          each = read.listed.each;
-          parts = refl;
-          fault = here;
-        }),
-        record { rest = ys; front = has_blocks; fault = here },
-      )
+          front = has_listed;
+          fault = subst (λ (n : ℕ). RecordFault 65535 n ys error) read.counted fault;
+        } in (
+          in_file_3 65535 xs (all ++ ys) body error (record { messages = messages; before = before }),
+          (all ++ ys, body, before),
+        )
 
-  pub refused : (error : FileError) → RestFault reader.head.stated reader.count ys error → Gives xs messages (Some error)
-  refused (CountDiffers count found) fault =
-      let all = all_read fault.0 in (
-        count_refused (Some xs) (Some (blocks messages ++ ys)) reader.head 65535 messages count found read_head all
-            read.listed (fault.1.states ∙ ap (unwrap_or reader.head.stated) (sym fault.1.reads)) fault.1.differs
-            (fault.1.reads ∙ read.counted),
-        subst (HasBlocks xs messages) fault.0 has_blocks,
-      )
-  refused Full fault = block_refused Full fault
-  refused (TooLong len) fault = block_refused (TooLong len) fault
-  refused (BlockCut number) fault = block_refused (BlockCut number) fault
-  refused (Short len) fault = absurd fault
-  refused BadMagic fault = absurd fault
-  refused (BadFlag byte) fault = absurd fault
-  refused Read fault = absurd fault
-  refused Memory fault = absurd fault
-  refused Write fault = absurd fault
+    refused_record : (error : FileError) → RecordFault 65535 reader.count ys error → Gives xs messages (Some error)
+    refused_record Full fault = let here = record_refused Full fault in (here.0, inr here.1)
+    refused_record (TooLong len) fault = let here = record_refused (TooLong len) fault in (here.0, inr here.1)
+    refused_record (Damaged number) fault = record_refused (Damaged number) fault
+    refused_record (BlockCut number) fault = absurd fault
+    refused_record (CountDiffers count found) fault = absurd fault
+    refused_record (Short len) fault = absurd fault
+    refused_record BadMagic fault = absurd fault
+    refused_record (BadFlag byte) fault = absurd fault
+    refused_record Read fault = absurd fault
+    refused_record Memory fault = absurd fault
+    refused_record Write fault = absurd fault
 
-pub read_whole : (known left : Option (List ℕ)) (reader : ReaderState) (messages : List (List ℕ)) →
-    HasRead known left reader messages → EndsWith left reader → IfSome known (λ bytes. Gives bytes messages None)
-read_whole None left reader messages read ends = tt
-read_whole (Some xs) None reader messages read ends = absurd read.consumed
-read_whole (Some xs) (Some ys) reader messages read ends = whole xs ys reader messages read ends
+    pub record_front : (contents : FileContents xs) → IsFront messages contents.messages
+    record_front contents = record_begins xs (all ++ ys) ys messages contents body has_listed
+
+-- A version has blocks or records.
+pub by_version : {C : Type 0} (version : FileVersion) → (has_records version ≡ false → C) →
+    (has_records version ≡ true → C) → C
+by_version One plain recorded = plain refl
+by_version (Two count) plain recorded = plain refl
+by_version Three plain recorded = recorded refl
+
+rest_fault : (version : FileVersion) (read : ℕ) (rest : List ℕ) (error : FileError) → RestFault version read rest error →
+    (has_records version ≡ false → BlocksRestFault version read rest error)
+    × (has_records version ≡ true → RecordFault MAX_MESSAGE read rest error)
+rest_fault One read rest error fault = ((λ plain. fault), (λ recorded. absurd (true≢false (sym recorded))))
+rest_fault (Two count) read rest error fault = ((λ plain. fault), (λ recorded. absurd (true≢false (sym recorded))))
+rest_fault Three read rest error fault = ((λ plain. absurd (true≢false plain)), (λ recorded. fault))
+
+pub refused : (xs ys : List ℕ) (reader : ReaderState) (messages : List (List ℕ)) →
+    HasRead (Some xs) (Some ys) reader messages → (error : FileError) →
+    RestFault reader.head.version reader.count ys error → Gives xs messages (Some error)
+refused xs ys reader messages read error fault =
+    let faults = rest_fault reader.head.version reader.count ys error fault in
+    by_version reader.head.version
+    (λ plain. refused_block xs ys reader messages read plain error (faults.0 plain))
+    (λ recorded. refused_record xs ys reader messages read recorded error (faults.1 recorded))
+
+pub read_whole : (known left : Option (List ℕ)) (reader : ReaderState) (messages : List (List ℕ)) (head : FileHead) →
+    HasRead known left reader messages → EndsWith left reader head → IfSome known (λ bytes. Gives bytes messages None)
+read_whole None left reader messages head read ends = tt
+read_whole (Some xs) None reader messages head read ends = absurd read.consumed
+read_whole (Some xs) (Some ys) reader messages head read ends = whole xs ys reader messages read head ends
+
+-- The file whose end was read.
+pub read_file : (known left : Option (List ℕ)) (reader : ReaderState) (messages : List (List ℕ)) (head : FileHead) →
+    HasRead known left reader messages → EndsWith left reader head →
+    IfSome known (λ bytes. SpellsFile head messages head.version bytes)
+read_file None left reader messages head read ends = tt
+read_file (Some xs) None reader messages head read ends = absurd read.consumed
+read_file (Some xs) (Some ys) reader messages head read ends = ended xs ys reader messages read head ends
 
 pub read_refused : (known left : Option (List ℕ)) (reader : ReaderState) (messages : List (List ℕ)) (error : FileError) →
-    HasRead known left reader messages → Refuses (RestFault reader.head.stated reader.count) left error →
+    HasRead known left reader messages → Refuses (RestFault reader.head.version reader.count) left error →
     Refuses (λ bytes why. Gives bytes messages (Some why)) known error
 read_refused known left reader messages error read fault =
-    refused_behind (RestFault reader.head.stated reader.count) (λ bytes why. Gives bytes messages (Some why)) known left
-    (head_spelling reader.head.session.0 reader.head.closed reader.head.stated ++ blocks messages) read.consumed
+    refused_behind (RestFault reader.head.version reader.count) (λ bytes why. Gives bytes messages (Some why)) known left
+    (head_spelling reader.head.session.0 reader.head.closed reader.head.version
+    ++ messages_spelling reader.head.version messages) read.consumed
     (λ xs ys is why rest. refused xs ys reader messages (record {
       named = read.named;
       said = read.said;
@@ -214,5 +312,7 @@ pub read_front : (known left : Option (List ℕ)) (reader : ReaderState) (messag
     IfSome known (λ bytes. (contents : FileContents bytes) → IsFront messages contents.messages)
 read_front None left reader messages read = tt
 read_front (Some xs) None reader messages read = absurd read.consumed
-read_front (Some xs) (Some ys) reader messages read =
-    λ contents. begins xs ys messages contents (has_blocks xs ys reader messages read)
+read_front (Some xs) (Some ys) reader messages read = λ contents.
+    by_version reader.head.version
+    (λ plain. block_front xs ys reader messages read plain contents)
+    (λ recorded. record_front xs ys reader messages read recorded contents)

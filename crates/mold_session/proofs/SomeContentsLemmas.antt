@@ -3,7 +3,6 @@ use Rattle.std.proofs.Common.{◌≡◌, ◌⊎◌, ℕ, zero, suc, ◌+◌, ◌
 use Rattle.std.proofs.Common.{◌++◌, length, length-drop, take, drop, get_or, take-append-drop, Option, None}
 use Rattle.std.proofs.Common.{Some, refl, sym, ap, subst, ◌∙◌, append_assoc, inl, inr, arith, ⊎_elim}
 use Rattle.std.proofs.lemmas.Bool.{cases_eq, cases_lt}
-use Rattle.std.specs.Prelude.{unwrap_or}
 use Rattle.std.proofs.Common.{true≢false, drop-drop}
 use Rattle.std.proofs.lemmas.List.{get_or-drop, length-take-le, take_all}
 use Rattle.std.proofs.lemmas.Nat.{be_bytes_2}
@@ -14,13 +13,18 @@ use Rattle.mold_wire.specs.Block.{IsBytes, be16, be64, block, blocks}
 use Rattle.mold_wire.specs.declared.session.Session.{Session}
 use Rattle.mold_session.specs.Contents.{FileContents, Gives}
 use Rattle.mold_session.specs.File.{magic_1, magic_2, closed_byte}
-use Rattle.mold_session.specs.FileFault.{BlockFault}
+use Rattle.mold_session.specs.FileFault.{EndsInBlock, BlockFault, IsDamaged, RecordFault}
+use Rattle.mold_session.specs.FileFault.{no_gate, no_kind, bad_kind, cut_closing, cut_message}
 use Rattle.mold_session.specs.Journal.{IsWithin}
-use Rattle.mold_session.specs.Loading.{IsStated, head_spelling}
-use Rattle.mold_session.specs.Reader.{HasRead, ReaderState, RestFault}
+use Rattle.mold_session.specs.Loading.{IsStated, has_records, head_spelling, messages_spelling, stated_count}
+use Rattle.mold_session.specs.Reader.{BlocksRestFault, EndsFile, HasRead, ReaderState, RestFault, head_at_end}
+use Rattle.mold_session.specs.Records.{magic_3, head_3, record_of, records, IsShut, EndsRecords}
 use Rattle.mold_session.specs.declared.error.FileError.{FileError}
-use Rattle.mold_session.specs.declared.error.FileError.TheVariants.{TooLong, Memory, BadMagic, Short, BlockCut, Read, Write, Full, CountDiffers, BadFlag}
+use Rattle.mold_session.specs.declared.error.FileError.TheVariants.{TooLong, Memory, BadMagic, Short, BlockCut, Read, Write, Full, CountDiffers, BadFlag, Damaged}
+use Rattle.mold_session.specs.declared.file_version.FileVersion.{FileVersion}
+use Rattle.mold_session.specs.declared.file_version.FileVersion.TheVariants.{One, Two, Three}
 use Rattle.mold_session.specs.declared.loading.FileHead.{FileHead}
+use Rattle.mold_session.proofs.FileLemmas.{as_blocks, ends_counted}
 use Rattle.mold_session.proofs.HeadLemmas.{byte_and_number, numbers_are}
 use Rattle.mold_session.proofs.ReaderLemmas.{whole, refused}
 
@@ -122,45 +126,55 @@ split (suc fuel) base (high ∷ low ∷ more) short are few =
 
 -- ---- the bytes after a head
 
-as_rest : (stated : Option ℕ) (count : ℕ) (rest : List ℕ) (error : FileError) → BlockFault 65535 count rest error →
-    RestFault stated count rest error
-as_rest stated count rest Full fault = fault
-as_rest stated count rest (TooLong len) fault = fault
-as_rest stated count rest (BlockCut number) fault = fault
-as_rest stated count rest (Short len) fault = absurd fault
-as_rest stated count rest BadMagic fault = absurd fault
-as_rest stated count rest (BadFlag byte) fault = absurd fault
-as_rest stated count rest (CountDiffers number found) fault = absurd fault
-as_rest stated count rest Read fault = absurd fault
-as_rest stated count rest Memory fault = absurd fault
-as_rest stated count rest Write fault = absurd fault
+as_rest : (version : FileVersion) (count : ℕ) (rest : List ℕ) (error : FileError) → BlockFault 65535 count rest error →
+    BlocksRestFault version count rest error
+as_rest version count rest Full fault = fault
+as_rest version count rest (TooLong len) fault = fault
+as_rest version count rest (BlockCut number) fault = fault
+as_rest version count rest (Short len) fault = absurd fault
+as_rest version count rest BadMagic fault = absurd fault
+as_rest version count rest (BadFlag byte) fault = absurd fault
+as_rest version count rest (CountDiffers number found) fault = absurd fault
+as_rest version count rest (Damaged number) fault = absurd fault
+as_rest version count rest Read fault = absurd fault
+as_rest version count rest Memory fault = absurd fault
+as_rest version count rest Write fault = absurd fault
+
+as_fault : (version : FileVersion) (count : ℕ) (rest : List ℕ) (error : FileError) → has_records version ≡ false →
+    BlocksRestFault version count rest error → RestFault version count rest error
+as_fault One count rest error plain fault = fault
+as_fault (Two stated) count rest error plain fault = fault
+as_fault Three count rest error plain fault = absurd (true≢false plain)
 
 -- The file states the number of its messages, or another number.
-counted : (stated : Option ℕ) (count : ℕ) →
-    (unwrap_or stated count ≡ count) ⊎ RestFault stated count [] (CountDiffers (unwrap_or stated count) count)
-counted stated count = ⊎_elim
+counted : (version : FileVersion) (count : ℕ) →
+    (stated_count version count ≡ count) ⊎ BlocksRestFault version count [] (CountDiffers (stated_count version count) count)
+counted version count = ⊎_elim
     (λ same. inl same)
     (λ differs. inr (refl, record { states = refl; reads = refl; differs = differs }))
-    (cases_eq (unwrap_or stated count) count)
+    (cases_eq (stated_count version count) count)
 
-module _ (head : FileHead) (bytes behind : List ℕ) (ten : length head.session.0 ≡ 10)
-    (said : IsStated head.closed head.stated)
-    (parts : bytes ≡ head_spelling head.session.0 head.closed head.stated ++ behind) (found : Split 0 behind) where
+module _ (head : FileHead) (bytes behind : List ℕ) (plain : has_records head.version ≡ false)
+    (ten : length head.session.0 ≡ 10) (said : IsStated head.closed head.version)
+    (parts : bytes ≡ head_spelling head.session.0 head.closed head.version ++ behind) (found : Split 0 behind) where
   reader : ReaderState
   reader = record { head = head; count = length found.messages; message = []; rest = [] }
 
   read : HasRead (Some bytes) (Some found.rest) reader found.messages
   unfolding reader
-  read = record {
-    named = ten;
-    said = said;
-    listed = record { few = omega (arith, found.few); each = found.each };
-    counted = refl;
-    consumed =
-        parts
-        ∙ ap (λ (t : List ℕ). head_spelling head.session.0 head.closed head.stated ++ t) found.parts
-        ∙ sym (append_assoc (head_spelling head.session.0 head.closed head.stated) (blocks found.messages) found.rest);
-  }
+  read =
+      let all : List ℕ = messages_spelling head.version found.messages in
+      record {
+        named = ten;
+        said = said;
+        listed = record { few = omega (arith, found.few); each = found.each };
+        counted = refl;
+        consumed =
+            parts
+            ∙ ap (λ (t : List ℕ). head_spelling head.session.0 head.closed head.version ++ t)
+            (found.parts ∙ ap (λ (t : List ℕ). t ++ found.rest) (sym (as_blocks head.version found.messages plain)))
+            ∙ sym (append_assoc (head_spelling head.session.0 head.closed head.version) all found.rest);
+      }
 
   ended : Ending (0 + length found.messages) found.rest → FileContents bytes
   unfolding reader
@@ -168,30 +182,178 @@ module _ (head : FileHead) (bytes behind : List ℕ) (ten : length head.session.
       (λ same. record {
         messages = found.messages;
         fault = None;
-        gives = whole bytes found.rest reader found.messages read (record { over = none; stated = same });
+        gives = whole bytes found.rest reader found.messages read head (record {
+          same = refl;
+          ends = ends_counted head.version (length found.messages) head.closed found.rest plain none same;
+        });
       })
       (λ differs. record {
         messages = found.messages;
-        fault = Some (CountDiffers (unwrap_or head.stated (length found.messages)) (length found.messages));
+        fault = Some (CountDiffers (stated_count head.version (length found.messages)) (length found.messages));
         gives = refused bytes found.rest reader found.messages read
-            (CountDiffers (unwrap_or head.stated (length found.messages)) (length found.messages)) (none, differs.1);
+            (CountDiffers (stated_count head.version (length found.messages)) (length found.messages))
+            (as_fault head.version (length found.messages) found.rest
+            (CountDiffers (stated_count head.version (length found.messages)) (length found.messages)) plain
+            (none, differs.1));
       })
-      (counted head.stated (length found.messages))
+      (counted head.version (length found.messages))
   ended (Refusal error fault) =
       let here : length found.messages ≡ 0 + length found.messages = omega arith in
       record {
         messages = found.messages;
         fault = Some error;
-        gives = refused bytes found.rest reader found.messages read error (as_rest head.stated (length found.messages)
-            found.rest error (subst (λ (n : ℕ). BlockFault 65535 n found.rest error) (sym here) fault));
+        gives = refused bytes found.rest reader found.messages read error
+            (as_fault head.version (length found.messages) found.rest error plain
+            (as_rest head.version (length found.messages) found.rest error
+            (subst (λ (n : ℕ). BlockFault 65535 n found.rest error) (sym here) fault)));
       }
 
-behind_some : (head : FileHead) (bytes behind : List ℕ) → length head.session.0 ≡ 10 →
-    IsStated head.closed head.stated → bytes ≡ head_spelling head.session.0 head.closed head.stated ++ behind →
-    IsBytes behind → FileContents bytes
-behind_some head bytes behind ten said parts are =
+behind_some : (head : FileHead) (bytes behind : List ℕ) → has_records head.version ≡ false →
+    length head.session.0 ≡ 10 → IsStated head.closed head.version →
+    bytes ≡ head_spelling head.session.0 head.closed head.version ++ behind → IsBytes behind → FileContents bytes
+behind_some head bytes behind plain ten said parts are =
     let found = split (length behind) 0 behind (omega arith) are (omega arith) in
-    ended head bytes behind ten said parts found found.ending
+    ended head bytes behind plain ten said parts found found.ending
+
+-- ---- records
+
+-- After `count` messages the records end, or the rest has a fault.
+data Stopping (count : ℕ) (rest : List ℕ) : Type 0 where
+  Ends : (closed : Bool) → EndsRecords closed rest → Stopping count rest
+  Fails : (error : FileError) → RecordFault 65535 count rest error → Stopping count rest
+
+-- The bytes split into records, and a rest that ends them or has a fault. They follow `base` other messages.
+record Records (base : ℕ) (bytes : List ℕ) : Type 0 where
+  messages : List (List ℕ)
+  rest : List ℕ
+  few : base + length messages < 18446744073709551615
+  each : AllByRecursion (IsWithin 65535) messages
+  parts : bytes ≡ records messages ++ rest
+  stopping : Stopping (base + length messages) rest
+
+halt : (base : ℕ) (bytes : List ℕ) → base < 18446744073709551615 → Stopping base bytes → Records base bytes
+halt base bytes few stopping = record {
+  messages = [];
+  rest = bytes;
+  few = omega (arith, few);
+  each = tt;
+  parts = refl;
+  stopping = subst (λ (n : ℕ). Stopping n bytes) (omega arith) stopping;
+}
+
+fails : (base : ℕ) (bytes : List ℕ) → base < 18446744073709551615 → (error : FileError) →
+    RecordFault 65535 base bytes error → Records base bytes
+fails base bytes few error fault = halt base bytes few (Fails error fault)
+
+next_records : (base : ℕ) (message bytes behind : List ℕ) → length message < 65536 →
+    bytes ≡ record_of message ++ behind → Records (base + 1) behind → Records base bytes
+next_records base message bytes behind within parts others =
+    let count : (base + 1) + length others.messages ≡ base + length (message ∷ others.messages) = omega arith in
+    record {
+      messages = message ∷ others.messages;
+      rest = others.rest;
+      few = omega (arith, others.few);
+      each = (omega (arith, within), others.each);
+      parts =
+          parts
+          ∙ ap (λ (t : List ℕ). record_of message ++ t) others.parts
+          ∙ sym (append_assoc (record_of message) (records others.messages) others.rest);
+      stopping = subst (λ (n : ℕ). Stopping n others.rest) count others.stopping;
+    }
+
+-- The bytes after the start of a message's record: its block is cut, or whole.
+data Block (more : List ℕ) : Type 0 where
+  Cut : EndsInBlock 65535 more → Block more
+  Whole : (message behind : List ℕ) → length message < 65536 → more ≡ block message ++ behind →
+      length behind < length more → IsBytes behind → Block more
+
+by_block : {C : Type 0} (more : List ℕ) → Block more → (EndsInBlock 65535 more → C) →
+    ((message behind : List ℕ) → length message < 65536 → more ≡ block message ++ behind →
+    length behind < length more → IsBytes behind → C) → C
+by_block more (Cut ends) cut whole = cut ends
+by_block more (Whole message behind within parts shorter bytes) cut whole =
+    whole message behind within parts shorter bytes
+
+first_of : (more : List ℕ) → IsBytes more → Block more
+first_of [] are = Cut (inl (omega arith))
+first_of (high ∷ []) are = Cut (inl (omega arith))
+first_of (high ∷ low ∷ more) are =
+    let len = big_number 2 (high ∷ low ∷ more) in
+    let one : high < 256 = are 0 in
+    let other : low < 256 = are 1 in
+    let most : len ≤ 65535 = omega (arith, one, other) in
+    ⊎_elim
+    (λ cut. Cut (inr (most, omega (arith, cut))))
+    (λ whole. Whole (take len more) (drop len more) (omega (arith, length-take-le len more whole, most))
+    (first_block high low more one other whole) (omega (arith, length-drop len more))
+    (bytes_behind len more (bytes_behind 2 (high ∷ low ∷ more) are)))
+    (cases_lt (length more) len)
+
+shut : (gate : ℕ) (more : List ℕ) → (gate ≡ 1 → ⊥) → IsShut (gate ∷ more)
+shut gate more other = record { gate = gate; rest = more; shut = other; parts = refl }
+
+split_records : (fuel base : ℕ) (bytes : List ℕ) → length bytes ≤ fuel → IsBytes bytes → base < 18446744073709551615 →
+    Records base bytes
+split_records fuel base [] short are few = fails base [] few (Damaged (base + 1)) (refl, no_gate refl)
+split_records zero base (gate ∷ bytes) short are few = absurd (omega (arith, short))
+split_records (suc fuel) base (zero ∷ bytes) short are few =
+    halt base (zero ∷ bytes) few (Ends false (shut zero bytes (λ is. absurd (omega (arith, is)))))
+split_records (suc fuel) base (suc (suc gate) ∷ bytes) short are few =
+    halt base (suc (suc gate) ∷ bytes) few (Ends false (shut (suc (suc gate)) bytes (λ is. absurd (omega (arith, is)))))
+split_records (suc fuel) base (suc zero ∷ []) short are few =
+    fails base (suc zero ∷ []) few (Damaged (base + 1)) (refl, no_kind refl)
+split_records (suc fuel) base (suc zero ∷ suc (suc kind) ∷ more) short are few =
+    fails base (suc zero ∷ suc (suc kind) ∷ more) few (Damaged (base + 1))
+    (refl, bad_kind (suc (suc kind)) more refl (omega arith))
+split_records (suc fuel) base (suc zero ∷ suc zero ∷ []) short are few =
+    fails base (suc zero ∷ suc zero ∷ []) few (Damaged (base + 1)) (refl, cut_closing refl)
+split_records (suc fuel) base (suc zero ∷ suc zero ∷ byte ∷ more) short are few =
+    halt base (suc zero ∷ suc zero ∷ byte ∷ more) few
+    (Ends true (record { byte = byte; rest = more; parts = refl }))
+split_records (suc fuel) base (suc zero ∷ zero ∷ more) short are few = ⊎_elim
+    (λ left. by_block more (first_of more (bytes_behind 2 (suc zero ∷ zero ∷ more) are))
+    (λ ends. fails base (suc zero ∷ zero ∷ more) few (Damaged (base + 1)) (refl, cut_message more left refl ends))
+    (λ message behind within parts shorter bytes. next_records base message (suc zero ∷ zero ∷ more) behind within
+    (ap (λ (t : List ℕ). 1 ∷ 0 ∷ t) parts)
+    (split_records fuel (base + 1) behind (omega (arith, short, shorter)) bytes (omega (arith, left)))))
+    (λ none. fails base (suc zero ∷ zero ∷ more) few Full (none, (more, refl)))
+    (cases_lt base 18446744073709551614)
+
+module _ (session : Session) (bytes behind : List ℕ) (ten : length session.0 ≡ 10)
+    (parts : bytes ≡ head_3 session.0 ++ behind) (found : Records 0 behind) where
+  abbrev record_head : FileHead
+  record_head = record { session = session; closed = false; version = Three }
+
+  abbrev record_reader : ReaderState
+  record_reader = record { head = record_head; count = length found.messages; message = []; rest = [] }
+
+  read_records : HasRead (Some bytes) (Some found.rest) record_reader found.messages
+  read_records = record {
+    named = ten;
+    said = refl;
+    listed = record { few = omega (arith, found.few); each = found.each };
+    counted = refl;
+    consumed =
+        parts
+        ∙ ap (λ (t : List ℕ). head_3 session.0 ++ t) found.parts
+        ∙ sym (append_assoc (head_3 session.0) (records found.messages) found.rest);
+  }
+
+  stopped : Stopping (0 + length found.messages) found.rest → FileContents bytes
+  stopped (Ends closed ends) = record {
+    messages = found.messages;
+    fault = None;
+    gives = whole bytes found.rest record_reader found.messages read_records (head_at_end record_head closed)
+        (record { same = refl; ends = ends });
+  }
+  stopped (Fails error fault) =
+      let here : length found.messages ≡ 0 + length found.messages = omega arith in
+      record {
+        messages = found.messages;
+        fault = Some error;
+        gives = refused bytes found.rest record_reader found.messages read_records error
+            (subst (λ (n : ℕ). RecordFault 65535 n found.rest error) (sym here) fault);
+      }
 
 -- ---- heads
 
@@ -222,10 +384,17 @@ ten_bytes bytes long = length-take-le 10 (drop 8 bytes) (omega (arith, length-dr
 
 version_1 : (bytes : List ℕ) → IsBytes bytes → 18 ≤ length bytes → take 8 bytes ≡ magic_1 → FileContents bytes
 version_1 bytes are long is =
-    behind_some (record { session = session_of bytes; closed = false; stated = None }) bytes (drop 18 bytes)
-    (ten_bytes bytes long) refl
+    behind_some (record { session = session_of bytes; closed = false; version = One }) bytes (drop 18 bytes)
+    refl (ten_bytes bytes long) refl
     (head_parts bytes magic_1 long is ∙ sym (append_assoc magic_1 (take 10 (drop 8 bytes)) (drop 18 bytes)))
     (bytes_behind 18 bytes are)
+
+version_3 : (bytes : List ℕ) → IsBytes bytes → 18 ≤ length bytes → take 8 bytes ≡ magic_3 → FileContents bytes
+version_3 bytes are long is =
+    let behind : List ℕ = drop 18 bytes in
+    let found = split_records (length behind) 0 behind (omega arith) (bytes_behind 18 bytes are) (omega arith) in
+    stopped (session_of bytes) bytes behind (ten_bytes bytes long)
+    (head_parts bytes magic_3 long is ∙ sym (append_assoc magic_3 (take 10 (drop 8 bytes)) behind)) found found.stopping
 
 -- The flag and the number after the session.
 number_fits : (bytes : List ℕ) → IsBytes bytes → big_number 8 bytes < 2 ^ 64
@@ -273,8 +442,8 @@ module _ (bytes : List ℕ) (are : IsBytes bytes) (long : 27 ≤ length bytes) (
 
   version_2 : take 8 bytes ≡ magic_2 → FileContents bytes
   version_2 is =
-      behind_some (record { session = session_of bytes; closed = eqb byte 1; stated = Some number }) bytes (drop 27 bytes)
-      (ten_bytes bytes (omega (arith, long))) (number_fits (drop 1 index) (bytes_behind 1 index bytes_taken))
+      behind_some (record { session = session_of bytes; closed = eqb byte 1; version = Two number }) bytes (drop 27 bytes)
+      refl (ten_bytes bytes (omega (arith, long))) (number_fits (drop 1 index) (bytes_behind 1 index bytes_taken))
       (head_parts bytes magic_2 (omega (arith, long)) is
       ∙ ap (λ (t : List ℕ). magic_2 ++ (take 10 (drop 8 bytes) ++ t)) numbers_at
       ∙ ap (λ (t : List ℕ). magic_2 ++ t)
@@ -298,7 +467,10 @@ some_contents bytes are = ⊎_elim
     (λ first. version_1 bytes are long first)
     (λ other. ⊎_elim
     (λ second. headed bytes are long second)
-    (λ neither. none_but bytes BadMagic ((long, other, neither), refl))
+    (λ neither. ⊎_elim
+    (λ third. version_3 bytes are long third)
+    (λ none. none_but bytes BadMagic ((long, other, neither, none), refl))
+    (same_bytes (take 8 bytes) magic_3))
     (same_bytes (take 8 bytes) magic_2))
     (same_bytes (take 8 bytes) magic_1))
     (cases_lt (length bytes) 18)

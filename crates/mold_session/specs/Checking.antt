@@ -1,17 +1,20 @@
 -- How the bytes of a file are checked without memory for its messages.
-use Rattle.std.specs.Prelude.{◌≡◌, ℕ, ◌≤◌, List, ◌++◌, length, take, drop, Option, None, Some}
+use Rattle.std.specs.Prelude.{◌≡◌, ℕ, ◌≤◌, Bool, List, ◌++◌, length, take, drop}
 use Rattle.std.specs.List.{AllByRecursion}
 use Rattle.byteorder.specs.Endian.{big_number}
 use Rattle.mold_wire.specs.Block.{block, blocks}
 use Rattle.mold_wire.specs.declared.block.TheConstants.{MAX_MESSAGE}
-use Rattle.mold_session.specs.FileFault.{IsBody1, IsBody2}
+use Rattle.mold_session.specs.FileFault.{IsBody1, IsBody2, IsBody3, HasRecords}
 use Rattle.mold_session.specs.Journal.{AreMessages, IsWithin}
+use Rattle.mold_session.specs.Records.{record_of, EndsRecords}
+use Rattle.mold_session.specs.declared.file_version.FileVersion.{FileVersion}
+use Rattle.mold_session.specs.declared.file_version.FileVersion.TheVariants.{One, Two, Three}
 
--- The bytes have a valid head. After it come the bytes `behind`, and it states this number of messages. A head of
--- version 1 states none.
-abbrev pub IsBody : List ℕ → List ℕ → Option ℕ → Type 0
-IsBody bytes behind None = IsBody1 bytes behind
-IsBody bytes behind (Some count) = IsBody2 bytes behind × (count ≡ big_number 8 (drop 19 bytes))
+-- The bytes have a valid head of this version, and after it come the bytes `behind`.
+abbrev pub IsBody : List ℕ → List ℕ → FileVersion → Type 0
+IsBody bytes behind One = IsBody1 bytes behind
+IsBody bytes behind (Two count) = IsBody2 bytes behind × (count ≡ big_number 8 (drop 19 bytes))
+IsBody bytes behind Three = IsBody3 bytes behind
 
 -- The bytes are a block, of a message with at most `most` bytes, and then the bytes `behind`.
 pub record HasBlock (most : ℕ) (bytes behind : List ℕ) : Type 0 where
@@ -25,6 +28,30 @@ pub record HasCounted (most count : ℕ) (bytes rest : List ℕ) : Type 0 where
   pub listed : AreMessages most messages
   pub counted : count ≡ length messages
   pub parts : bytes ≡ blocks messages ++ rest
+
+-- The bytes are the record of a message with at most `most` bytes, and then the bytes `behind`.
+pub record HasRecord (most : ℕ) (bytes behind : List ℕ) : Type 0 where
+  pub message : List ℕ
+  pub within : IsWithin most message
+  pub parts : bytes ≡ record_of message ++ behind
+
+-- The bytes are the records of `count` messages with at most `most` bytes, and then the bytes `rest`.
+pub record HasCountedRecords (most count : ℕ) (bytes rest : List ℕ) : Type 0 where
+  pub messages : List (List ℕ)
+  pub has : HasRecords most bytes messages rest
+  pub counted : count ≡ length messages
+
+-- The bytes are the closing record or a shut gate, and any bytes may follow.
+pub record IsEnd (bytes : List ℕ) : Type 0 where
+  pub closed : Bool
+  pub ends : EndsRecords closed bytes
+
+-- The bytes are records of messages with at most `most` bytes, and then what ends them.
+pub record HasEnded (most : ℕ) (bytes : List ℕ) : Type 0 where
+  pub messages : List (List ℕ)
+  pub rest : List ℕ
+  pub has : HasRecords most bytes messages rest
+  pub end : IsEnd rest
 
 -- The first `len` bytes are whole blocks, of `count` messages, and there are at most `limit` of them.
 pub record AreWholeBlocks (limit : ℕ) (bytes : List ℕ) (len count : ℕ) : Type 0 where

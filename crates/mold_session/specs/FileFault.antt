@@ -80,15 +80,15 @@ FaultInBlocks most bytes error =
 -- The bytes, which follow the records of `count` messages, begin neither with a whole record nor with a shut gate.
 pub data IsDamaged (most count : ℕ) (rest : List ℕ) : Type 0 where
   -- The file ends where a gate has to be.
-  NoGate : rest ≡ [] → IsDamaged most count rest
+  no_gate : rest ≡ [] → IsDamaged most count rest
   -- It ends after an open gate.
-  NoKind : rest ≡ 1 ∷ [] → IsDamaged most count rest
+  no_kind : rest ≡ 1 ∷ [] → IsDamaged most count rest
   -- The byte after an open gate is neither 0 nor 1.
-  BadKind : (kind : ℕ) (more : List ℕ) → rest ≡ 1 ∷ kind ∷ more → 1 < kind → IsDamaged most count rest
+  bad_kind : (kind : ℕ) (more : List ℕ) → rest ≡ 1 ∷ kind ∷ more → 1 < kind → IsDamaged most count rest
   -- It ends before the third byte of the closing record.
-  CutClosing : rest ≡ 1 ∷ 1 ∷ [] → IsDamaged most count rest
+  cut_closing : rest ≡ 1 ∷ 1 ∷ [] → IsDamaged most count rest
   -- It ends within the block of a message that has a number.
-  CutMessage : (more : List ℕ) → count < MAX_MESSAGES → rest ≡ 1 ∷ 0 ∷ more → EndsInBlock most more →
+  cut_message : (more : List ℕ) → count < MAX_MESSAGES → rest ≡ 1 ∷ 0 ∷ more → EndsInBlock most more →
       IsDamaged most count rest
 
 -- The bytes begin with the record of a message whose length is `len`, which is above `most`.
@@ -108,21 +108,25 @@ RecordFault most count rest (TooLong len) = (count < MAX_MESSAGES) × IsLongReco
 RecordFault most count rest (Damaged number) = (number ≡ count + 1) × IsDamaged most count rest
 RecordFault most count rest _ = ⊥
 
--- A file of version 3 has a valid head and then the records of these messages, which have at most `most` bytes. The
--- bytes after them are `rest`.
-pub record HasRecords (most : ℕ) (bytes : List ℕ) (messages : List (List ℕ)) (rest : List ℕ) : Type 0 where
-  pub head : IsBody3 bytes (records messages ++ rest)
+-- The bytes `behind` are the records of these messages, which have at most `most` bytes, and then the bytes `rest`.
+pub record HasRecords (most : ℕ) (behind : List ℕ) (messages : List (List ℕ)) (rest : List ℕ) : Type 0 where
   pub listed : AreMessages most messages
+  pub parts : behind ≡ records messages ++ rest
 
--- A file of version 3 has the records of these messages, and then a record with the fault `error`.
-pub record PrecedeRecord (most : ℕ) (bytes : List ℕ) (messages : List (List ℕ)) (error : FileError) : Type 0 where
+-- The bytes `behind` have the records of these messages. The bytes after these have the fault `error`.
+pub record PrecedeRecord (most : ℕ) (behind : List ℕ) (messages : List (List ℕ)) (error : FileError) : Type 0 where
   pub rest : List ℕ
-  pub front : HasRecords most bytes messages rest
+  pub front : HasRecords most behind messages rest
   pub fault : RecordFault most (length messages) rest error
 
--- A file of version 3 has a valid head and a record with a fault.
+-- The bytes `behind` have the records of some messages. The bytes after these have the fault `error`.
+pub record RecordsFault (most : ℕ) (behind : List ℕ) (error : FileError) : Type 0 where
+  pub messages : List (List ℕ)
+  pub before : PrecedeRecord most behind messages error
+
+-- A file of version 3 has a valid head and a fault in its records.
 abbrev pub FaultInRecords : ℕ → List ℕ → FileError → Type 0
-FaultInRecords most bytes error = (messages : List (List ℕ)) × PrecedeRecord most bytes messages error
+FaultInRecords most bytes error = (behind : List ℕ) × IsBody3 bytes behind × RecordsFault most behind error
 
 -- A file of version 2 ends after a whole block, and it states another number of messages than it has.
 pub record IsMiscounted (most : ℕ) (bytes : List ℕ) (count found : ℕ) : Type 0 where

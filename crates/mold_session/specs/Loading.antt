@@ -1,39 +1,76 @@
 -- How a file is read, part by part.
-use Rattle.std.specs.Prelude.{◌≡◌, ℕ, ◌+◌, ◌*◌, ◌^◌, ◌<◌, ◌≤◌, slice_index, ⊤, Bool, false, List, ◌∷◌, [], ◌++◌, length}
-use Rattle.std.specs.Prelude.{Option, None, Some, Result, Ok, Err, IfSome}
+use Rattle.std.specs.Prelude.{◌≡◌, ℕ, ◌+◌, ◌*◌, ◌^◌, ◌<◌, ◌≤◌, slice_index, ⊤, Bool, true, false, List, ◌∷◌, [], ◌++◌}
+use Rattle.std.specs.Prelude.{length, Option, Result, Ok, Err, IfSome}
 use Rattle.std.specs.Io.KnownBytes.{Consumes}
+use Rattle.std.specs.List.{flat_map}
 use Rattle.mold_wire.specs.Block.{be64, block}
 use Rattle.mold_wire.specs.declared.session.Session.{Session}
 use Rattle.mold_devices.specs.Devices.{one_more}
 use Rattle.mold_session.specs.File.{closed_byte, head_1, head_2, SpellsJournal, SpellsJournal2}
 use Rattle.mold_session.specs.FileFault.{IsBadFlag}
 use Rattle.mold_session.specs.Journal.{IsWithin}
+use Rattle.mold_session.specs.Records.{head_3, record_of, records, EndsRecords, SpellsJournal3}
 use Rattle.mold_session.specs.declared.error.FileError.{FileError}
 use Rattle.mold_session.specs.declared.error.FileError.TheVariants.{Short, BadMagic, BadFlag, Read, Write, Memory}
+use Rattle.mold_session.specs.declared.file_version.FileVersion.{FileVersion}
+use Rattle.mold_session.specs.declared.file_version.FileVersion.TheVariants.{One, Two, Three}
+use Rattle.mold_session.specs.declared.journal.TheConstants.{MAX_MESSAGES}
 use Rattle.mold_session.specs.declared.loading.FileHead.{FileHead}
+use Rattle.mold_session.specs.declared.records.NextMessage.{NextMessage}
+use Rattle.mold_session.specs.declared.records.NextMessage.TheVariants.{Message, End}
 
 -- An upper bound of the work that remains for a loop over the file, which each iteration decreases. It counts the reads
 -- that the source still allows, and the bytes that were read and not used.
 abbrev pub work_left : ℕ → List ℕ → ℕ
 work_left bound rest = bound * 4097 + length rest
 
--- The head of a file that states this number of messages. A file of version 1 states none.
-abbrev pub head_spelling : List ℕ → Bool → Option ℕ → List ℕ
-head_spelling session closed None = head_1 session
-head_spelling session closed (Some count) = head_2 session closed count
+-- The number of a version.
+abbrev pub version_number : FileVersion → ℕ
+version_number One = 1
+version_number (Two count) = 2
+version_number Three = 3
 
--- What a head states is possible: version 1 never states that the session is closed, and version 2 states a
--- number of 64 bits.
-abbrev pub IsStated : Bool → Option ℕ → Type 0
-IsStated closed None = closed ≡ false
-IsStated closed (Some count) = count < 2 ^ 64
+-- Whether the messages of a file of this version are in records. Otherwise they are in blocks.
+abbrev pub has_records : FileVersion → Bool
+has_records One = false
+has_records (Two count) = false
+has_records Three = true
+
+-- The head of a file of this version.
+abbrev pub head_spelling : List ℕ → Bool → FileVersion → List ℕ
+head_spelling session closed One = head_1 session
+head_spelling session closed (Two count) = head_2 session closed count
+head_spelling session closed Three = head_3 session
+
+-- A message in a file of this version: a block, or in version 3 a record.
+abbrev pub message_spelling : FileVersion → List ℕ → List ℕ
+message_spelling One = block
+message_spelling (Two count) = block
+message_spelling Three = record_of
+
+-- The messages in a file of this version, in order, without anything between them.
+abbrev pub messages_spelling : FileVersion → List (List ℕ) → List ℕ
+messages_spelling version messages = flat_map (message_spelling version) messages
+
+-- The number of messages that the head states, or `found` if it states none.
+abbrev pub stated_count : FileVersion → ℕ → ℕ
+stated_count One found = found
+stated_count (Two count) found = count
+stated_count Three found = found
+
+-- What a head states is possible: only version 2 may state that the session is closed, and it states a number of 64
+-- bits.
+abbrev pub IsStated : Bool → FileVersion → Type 0
+IsStated closed One = closed ≡ false
+IsStated closed (Two count) = count < 2 ^ 64
+IsStated closed Three = closed ≡ false
 
 -- The rest of the head of version 2 was read: whether the session is closed, and the number of messages.
 pub record ReadsNumbers (known left : Option (List ℕ)) (session : Session) (head : FileHead) : Type 0 where
   pub count : ℕ
   pub fits : count < 2 ^ 64
   pub same : head.session ≡ session
-  pub stated : head.stated ≡ Some count
+  pub stated : head.version ≡ Two count
   pub consumed : Consumes known left (closed_byte head.closed ∷ be64 count)
 
 -- The fault of the rest of the head of version 2: it has fewer than 9 bytes, or its first byte is neither 0 nor
@@ -55,14 +92,15 @@ IsOfHead error = ⊥
 -- The head was read from the source.
 pub record ReadsHead (known left : Option (List ℕ)) (head : FileHead) : Type 0 where
   pub named : length head.session.0 ≡ 10
-  pub said : IsStated head.closed head.stated
-  pub consumed : Consumes known left (head_spelling head.session.0 head.closed head.stated)
+  pub said : IsStated head.closed head.version
+  pub consumed : Consumes known left (head_spelling head.session.0 head.closed head.version)
 
--- The bytes are the file of these messages and this head. The file is of version 2 if the head states a number of
--- messages, otherwise of version 1.
-abbrev pub SpellsFile : FileHead → List (List ℕ) → Option ℕ → List ℕ → Type 0
-SpellsFile head messages None bytes = (head.closed ≡ false) × SpellsJournal head.session messages bytes
-SpellsFile head messages (Some count) bytes = SpellsJournal2 head.session messages head.closed bytes
+-- The bytes are the file, of this version, of a journal with these messages. `head` has its session, and whether it is
+-- closed.
+abbrev pub SpellsFile : FileHead → List (List ℕ) → FileVersion → List ℕ → Type 0
+SpellsFile head messages One bytes = (head.closed ≡ false) × SpellsJournal head.session messages bytes
+SpellsFile head messages (Two count) bytes = SpellsJournal2 head.session messages head.closed bytes
+SpellsFile head messages Three bytes = SpellsJournal3 head.session messages head.closed bytes
 
 -- The next `len` bytes were read and appended to the list as one message.
 pub record TakesMessage (len : ℕ) (known left : Option (List ℕ)) (old new : List (List ℕ)) : Type 0 where
@@ -71,12 +109,36 @@ pub record TakesMessage (len : ℕ) (known left : Option (List ℕ)) (old new : 
   pub added : new ≡ old ++ message ∷ []
   pub consumed : Consumes known left message
 
--- A block was read, and its message was appended to the list. The message has at most `most` bytes.
-pub record TakesBlock (most : ℕ) (known left : Option (List ℕ)) (old new : List (List ℕ)) : Type 0 where
+-- A message was read as the file spells it, and appended to the list. It has at most `most` bytes.
+pub record TakesSpelled (spelling : List ℕ → List ℕ) (most : ℕ) (known left : Option (List ℕ))
+    (old new : List (List ℕ)) : Type 0 where
   pub message : List ℕ
   pub within : IsWithin most message
   pub added : new ≡ old ++ message ∷ []
-  pub consumed : Consumes known left (block message)
+  pub consumed : Consumes known left (spelling message)
+
+-- A block was read, and its message was appended to the list.
+abbrev pub TakesBlock : ℕ → Option (List ℕ) → Option (List ℕ) → List (List ℕ) → List (List ℕ) → Type 0
+TakesBlock most known left old new = TakesSpelled block most known left old new
+
+-- The start of the next record was read: that of a message up to its block. Otherwise the closing record or a shut gate
+-- follows.
+abbrev pub StartsRecord : Option (List ℕ) → Option (List ℕ) → NextMessage → Type 0
+StartsRecord known left Message = Consumes known left (1 ∷ 0 ∷ [])
+StartsRecord known left (End closed) = IfSome known (EndsRecords closed)
+
+-- The next record was read: that of a message, which was appended to the list. Otherwise the closing record or a shut
+-- gate follows, and the list is unchanged.
+abbrev pub ReadsRecord : ℕ → ℕ → Option (List ℕ) → Option (List ℕ) → List (List ℕ) → List (List ℕ) → NextMessage → Type 0
+ReadsRecord most count known left old new Message =
+    (count < MAX_MESSAGES) × TakesSpelled record_of most known left old new
+ReadsRecord most count known left old new (End closed) = IfSome known (EndsRecords closed) × (new ≡ old)
+
+-- The bytes, which follow a head of version 3, are the records of these messages, and then what ends them.
+pub record AreRecords (messages : List (List ℕ)) (closed : Bool) (behind : List ℕ) : Type 0 where
+  pub rest : List ℕ
+  pub parts : behind ≡ records messages ++ rest
+  pub ends : EndsRecords closed rest
 
 -- The call may return this error: `Read`, `Memory`, or a fault of the bytes, but never `Write`. Bytes that are known
 -- must have the fault.

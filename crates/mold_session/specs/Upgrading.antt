@@ -1,5 +1,5 @@
--- How a file of either version is rewritten in version 2.
-use Rattle.std.specs.Prelude.{◌≡◌, ◌⊎◌, ℕ, Bool, true, false, List, length, if◌then◌else◌, Option, None, Some, Result}
+-- How a file of any version is rewritten in version 2.
+use Rattle.std.specs.Prelude.{◌≡◌, ◌⊎◌, ℕ, Bool, true, false, List, length, if◌then◌else◌, Option, Result}
 use Rattle.std.specs.Prelude.{Ok, Err, IfSome}
 use Rattle.mold_wire.specs.declared.block.TheConstants.{MAX_MESSAGE}
 use Rattle.mold_wire.specs.declared.session.Session.{Session}
@@ -7,20 +7,17 @@ use Rattle.mold_devices.specs.Devices.{one_more}
 use Rattle.mold_session.specs.File.{SpellsJournal, SpellsJournal2, AppendsFile, AppendsFilePrefix}
 use Rattle.mold_session.specs.FileFault.{JournalFault}
 use Rattle.mold_session.specs.Loading.{Refuses}
+use Rattle.mold_session.specs.Records.{SpellsJournal3}
 use Rattle.mold_session.specs.declared.error.FileError.{FileError}
 use Rattle.mold_session.specs.declared.error.FileError.TheVariants.{Write}
 use Rattle.mold_session.specs.declared.upgrading.Upgraded.{Upgraded}
-
--- The version of a file, given the number of messages that it states. A file of version 1 states none.
-abbrev pub version_of : Option ℕ → ℕ
-version_of None = 1
-version_of (Some count) = 2
 
 -- The bytes are the file, of this version, of a journal with these messages.
 abbrev pub SpellsVersion : ℕ → Session → List (List ℕ) → Bool → List ℕ → Type 0
 SpellsVersion version session messages closed bytes =
     ((version ≡ 1) × (closed ≡ false) × SpellsJournal session messages bytes)
-    ⊎ ((version ≡ 2) × SpellsJournal2 session messages closed bytes)
+    ⊎ (((version ≡ 2) × SpellsJournal2 session messages closed bytes)
+    ⊎ ((version ≡ 3) × SpellsJournal3 session messages closed bytes))
 
 -- The source's bytes, if known, were the file of a journal, and a file of version 2 with the same session and messages
 -- was appended to the sink. The new file is closed if the old one was or if `close` is true.

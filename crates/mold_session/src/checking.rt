@@ -1,20 +1,23 @@
-//! Checks bytes that should be the file of a journal, of version 1 or 2, and allocates nothing.
+//! Checks bytes that should be the file of a journal, of version 1, 2 or 3, and allocates nothing.
 
-ghost use Rattle.std.specs.Prelude.{◌≡◌, ◌<◌, ℕ, [], length, IfOk, IfErr, OnOk};
-ghost use Rattle.mold_session.specs.Checking.{AreWholeBlocks, IsBody, HasBlock, HasCounted};
-ghost use Rattle.mold_session.specs.FileFault.{BlockFault, BlocksFault, JournalFault};
+ghost use Rattle.std.specs.Prelude.{◌≡◌, ◌<◌, ◌∷◌, ℕ, [], length, IfOk, IfErr, IfSome, MatchOption, OnOk};
+ghost use Rattle.mold_wire.specs.declared.limits.TheConstants.{MAX_NUMBER};
+ghost use Rattle.mold_session.specs.Checking.{AreWholeBlocks, IsBody, IsEnd, HasBlock, HasCounted, HasEnded, HasRecord};
+ghost use Rattle.mold_session.specs.FileFault.{BlockFault, BlocksFault, JournalFault, RecordFault, RecordsFault};
 ghost use Rattle.mold_session.specs.declared.error.FileError.{FileError as AFault};
 ghost use Rattle.mold_session.specs.declared.journal.TheConstants.{MAX_MESSAGES};
 
 use crate::error::FileError;
+use crate::file_version::FileVersion;
 use crate::journal::MAX_MESSAGES;
 use crate::loading::check_count;
-use crate::magic::{MAGIC_LENGTH, first_magic, second_magic};
+use crate::magic::{MAGIC_LENGTH, first_magic, second_magic, third_magic};
+use crate::records::{CLOSING_KIND, MESSAGE_KIND, OPEN_GATE};
 use byteorder::{BigEndian, ByteOrder};
 use mold_wire::{LENGTH_BYTES, MAX_MESSAGE};
 
-// Returns the bytes after the head, and the number of messages that the head states.
-fn split_head(bytes: &[u8]) -> Result<(&[u8], Option<u64>), FileError>
+// Returns the bytes after the head, and the version.
+fn split_head(bytes: &[u8]) -> Result<(&[u8], FileVersion), FileError>
     ensures body { IfOk result (λ found. IsBody bytes.now found.0.now found.1) }
     ensures refused { IfErr result (λ error. (most : ℕ) → JournalFault most bytes.now error) }
 {
@@ -25,7 +28,11 @@ fn split_head(bytes: &[u8]) -> Result<(&[u8], Option<u64>), FileError>
     let (magic, _) = bytes.split_at(MAGIC_LENGTH);
     if magic == first_magic().as_slice() {
         let (_, behind) = bytes.split_at(18);
-        return Ok((behind, None));
+        return Ok((behind, FileVersion::One));
+    }
+    if magic == third_magic().as_slice() {
+        let (_, behind) = bytes.split_at(18);
+        return Ok((behind, FileVersion::Three));
     }
     if magic != second_magic().as_slice() {
         return Err(FileError::BadMagic);
@@ -39,7 +46,8 @@ fn split_head(bytes: &[u8]) -> Result<(&[u8], Option<u64>), FileError>
     }
     let (_, stated) = bytes.split_at(19);
     let (_, behind) = bytes.split_at(27);
-    Ok((behind, Some(BigEndian::read_u64(stated))))
+    let count = BigEndian::read_u64(stated);
+    Ok((behind, FileVersion::Two { count }))
 }
 
 // Returns the bytes after the first block. `count` blocks precede it.
@@ -68,6 +76,64 @@ fn skip_block(most: u16, count: u64, rest: &[u8]) -> Result<&[u8], FileError>
     }
     let (_, after) = behind.split_at(usize::from(len));
     Ok(after)
+}
+
+// Returns the bytes after the block of a record. `count` messages precede it.
+fn skip_record_block(most: u16, count: u64, rest: &[u8]) -> Result<&[u8], FileError>
+    requires { count < MAX_NUMBER }
+    ensures skipped { IfOk result (λ behind. HasBlock most rest.now behind.now) }
+    ensures few { OnOk result (count < MAX_MESSAGES) }
+    ensures refused { IfErr result (RecordFault most count (1 ∷ 0 ∷ rest.now)) }
+{
+    if count == MAX_MESSAGES {
+        return Err(FileError::Full);
+    }
+    let number = count + 1;
+    if rest.is_empty() {
+        return Err(FileError::Damaged { number });
+    }
+    match skip_block(most, count, rest) {
+        Ok(behind) => Ok(behind),
+        Err(FileError::BlockCut { .. }) => Err(FileError::Damaged { number }),
+        Err(error) => Err(error),
+    }
+}
+
+// Returns the bytes after a message's record, or `None` if the closing record or a shut gate follows. `count` messages
+// precede it.
+fn skip_record(most: u16, count: u64, rest: &[u8]) -> Result<Option<&[u8]>, FileError>
+    requires { count < MAX_NUMBER }
+    ensures skipped { IfOk result (λ found. MatchOption found (IsEnd rest.now)
+        (λ behind. HasRecord most rest.now behind.now)) }
+    ensures few { IfOk result (λ found. IfSome found (λ _. count < MAX_MESSAGES)) }
+    ensures refused { IfErr result (RecordFault most count rest.now) }
+{
+    match rest {
+        [OPEN_GATE, MESSAGE_KIND, block @ ..] => match skip_record_block(most, count, block) {
+            Ok(behind) => Ok(Some(behind)),
+            Err(error) => Err(error),
+        },
+        [OPEN_GATE, CLOSING_KIND, _, ..] => Ok(None),
+        [] | [OPEN_GATE, ..] => Err(FileError::Damaged { number: count + 1 }),
+        _ => Ok(None),
+    }
+}
+
+// Checks that the bytes are records, and then what ends them.
+fn check_records(most: u16, bytes: &[u8]) -> Result<(), FileError>
+    ensures ended { OnOk result (HasEnded most bytes.now) }
+    ensures refused { IfErr result (RecordsFault most bytes.now) }
+{
+    let mut rest = bytes;
+    let mut count = 0;
+    'messages: loop {
+        match skip_record(most, count, rest) {
+            Ok(Some(behind)) => rest = behind,
+            Ok(None) => return Ok(()),
+            Err(error) => return Err(error),
+        }
+        count += 1;
+    }
 }
 
 // Counts the messages of the blocks.
@@ -103,17 +169,20 @@ pub fn whole_blocks(bytes: &[u8], limit: u64) -> (usize, u64)
     (bytes.len() - rest.len(), count)
 }
 
-/// Checks that the bytes are the file of a journal, of either version, whose messages have at most `most` bytes.
+/// Checks that the bytes are the file of a journal, of any version, whose messages have at most `most` bytes.
 pub fn check_file(most: u16, bytes: &[u8]) -> Result<(), FileError>
     ensures valid { OnOk result ((error : AFault) → ¬ JournalFault most bytes.now error) }
     ensures refused { IfErr result (λ error. JournalFault most bytes.now error) }
 {
-    let (behind, stated) = match split_head(bytes) {
+    let (behind, version) = match split_head(bytes) {
         Ok(found) => found,
         Err(error) => return Err(error),
     };
+    if version.has_records() {
+        return check_records(most, behind);
+    }
     match count_messages(most, behind) {
-        Ok(found) => check_count(stated, found),
+        Ok(found) => check_count(version, found),
         Err(error) => Err(error),
     }
 }

@@ -11,6 +11,7 @@ ghost use Rattle.mold_session.specs.File.{SpellsJournal, SpellsJournal2, Appends
 ghost use Rattle.mold_session.specs.FileFault.{JournalFault};
 ghost use Rattle.mold_session.specs.Journal.{IsJournal, message_numbered, append_refusal, appended, fresh_journal};
 ghost use Rattle.mold_session.specs.Loading.{Refuses, CountsLoad};
+ghost use Rattle.mold_session.specs.Records.{SpellsJournal3};
 ghost use Rattle.mold_session.specs.Putting.{PutsFile};
 ghost use Rattle.mold_session.specs.declared.error.AppendError.{AppendError};
 ghost use Rattle.mold_session.specs.declared.error.FileError.{FileError};
@@ -152,7 +153,7 @@ impl Journal {
         }
     }
 
-    /// Loads a journal from its file, of version 1 or 2, whose messages have at most `max_message` bytes. A journal
+    /// Loads a journal from its file, of version 1, 2 or 3, whose messages have at most `max_message` bytes. A journal
     /// from a file of version 1 is open.
     ///
     /// It goes through the file once, in reads of at most 4,096 bytes, and holds only the journal and the bytes of one
@@ -169,7 +170,8 @@ impl Journal {
         ensures listed { IfOk result (λ journal. IsJournal journal) }
         ensures whole { IfOk result (λ journal. IfSome (S.left source.old) (λ bytes.
             ((journal.closed ≡ false) × SpellsJournal journal.session journal.messages bytes)
-            ⊎ SpellsJournal2 journal.session journal.messages journal.closed bytes)) }
+            ⊎ (SpellsJournal2 journal.session journal.messages journal.closed bytes
+            ⊎ SpellsJournal3 journal.session journal.messages journal.closed bytes))) }
         ensures spent { IfOk result (λ _. IsAtEnd (S.left source.new)) }
         ensures refused { IfErr result (λ error. Refuses (JournalFault max_message) (S.left source.old) error) }
         ensures failures { CountsLoad (S.failed source.old) (S.failed source.new) result }
@@ -183,7 +185,7 @@ impl Journal {
         })
     }
 
-    /// Checks that the bytes are the file of a journal, of version 1 or 2, whose messages have at most
+    /// Checks that the bytes are the file of a journal, of version 1, 2 or 3, whose messages have at most
     /// `max_message` bytes. The error is their fault, which `load` returns too unless an allocation fails first.
     ///
     /// It goes through the bytes once and allocates nothing.

@@ -22,12 +22,14 @@ ghost use Rattle.mold_session.specs.Journal.{IsJournal, IsWithin, JournalState, 
 ghost use Rattle.mold_session.specs.Contents.{FileContents, Gives, IsFront};
 ghost use Rattle.mold_session.specs.File.{SpellsJournal, SpellsJournal2};
 ghost use Rattle.mold_session.specs.FileFault.{JournalFault};
+ghost use Rattle.mold_session.specs.Records.{SpellsJournal3};
 ghost use Rattle.mold_session.specs.declared.error.FileError.{FileError};
 ghost use Rattle.mold_session.specs.declared.journal.TheConstants.{MAX_MESSAGES};
+ghost use Rattle.mold_session.specs.declared.loading.FileHead.{FileHead};
 ghost use Rattle.mold_session.specs.Publisher.{IsPublisher, MayPublish, PublisherState, after_datagram, closed};
 ghost use Rattle.mold_session.specs.Publisher.{next_datagram, next_end, next_heartbeat, published};
 ghost use Rattle.mold_session.specs.Truthful.{MayAnswer, IsTrueDatagram};
-ghost use Rattle.mold_session.specs.Loading.{Refuses};
+ghost use Rattle.mold_session.specs.Loading.{Refuses, SpellsFile};
 ghost use Rattle.mold_session.specs.Reader.{EndsWith, HasRead, PassesBlocks, ReaderState, ReadsNext, RestFault};
 ghost use Rattle.mold_session.specs.Server.{ServerState, IsServer, IsAnswerable, checked_request, planning};
 
@@ -147,10 +149,10 @@ pub fn sending_law()
     true_packet_law();
 }
 
-/// Bytes are the file of at most one journal, and in only one of the two versions. The file has no fault if no message
+/// Bytes are the file of at most one journal, and in only one of the versions. The file has no fault if no message
 /// of the journal is longer than the maximum that `Journal::load` is given. So a file determines what `Journal::load`
 /// returns for it.
-#[tactic(auto, using(crate::proofs::FileLawLemmas::one_reading))]
+#[tactic(auto, using(crate::proofs::FileLawLemmas::one_reading, crate::proofs::RecordLawLemmas::one_record_reading))]
 pub fn one_file_law()
     ensures one_journal { (one other : Session) (messages others : List (List ℕ)) (bytes : List ℕ) →
         SpellsJournal one messages bytes → SpellsJournal other others bytes →
@@ -158,13 +160,26 @@ pub fn one_file_law()
     ensures one_journal_2 { (one other : Session) (messages others : List (List ℕ)) (closed shut : Bool)
         (bytes : List ℕ) → SpellsJournal2 one messages closed bytes → SpellsJournal2 other others shut bytes →
         (one ≡ other) × (messages ≡ others) × (closed ≡ shut) }
+    ensures one_journal_3 { (one other : Session) (messages others : List (List ℕ)) (closed shut : Bool)
+        (bytes : List ℕ) → SpellsJournal3 one messages closed bytes → SpellsJournal3 other others shut bytes →
+        (one ≡ other) × (messages ≡ others) × (closed ≡ shut) }
     ensures one_version { (one other : Session) (messages others : List (List ℕ)) (closed : Bool)
         (bytes : List ℕ) → SpellsJournal one messages bytes → ¬ SpellsJournal2 other others closed bytes }
+    ensures one_version_1 { (one other : Session) (messages others : List (List ℕ)) (closed : Bool)
+        (bytes : List ℕ) → SpellsJournal one messages bytes → ¬ SpellsJournal3 other others closed bytes }
+    ensures one_version_2 { (one other : Session) (messages others : List (List ℕ)) (closed shut : Bool)
+        (bytes : List ℕ) → SpellsJournal2 one messages closed bytes → ¬ SpellsJournal3 other others shut bytes }
+    ensures one_file { (head other : FileHead) (messages others : List (List ℕ)) (bytes : List ℕ) →
+        SpellsFile head messages head.version bytes → SpellsFile other others other.version bytes →
+        (head.session ≡ other.session) × (messages ≡ others) × (head.closed ≡ other.closed) }
     ensures no_fault { (most : ℕ) (session : Session) (messages : List (List ℕ)) (bytes : List ℕ)
         (error : FileError) → most ≤ MAX_MESSAGE → SpellsJournal session messages bytes →
         AllByRecursion (IsWithin most) messages → ¬ JournalFault most bytes error }
     ensures no_fault_2 { (most : ℕ) (session : Session) (messages : List (List ℕ)) (closed : Bool)
         (bytes : List ℕ) (error : FileError) → most ≤ MAX_MESSAGE → SpellsJournal2 session messages closed bytes →
+        AllByRecursion (IsWithin most) messages → ¬ JournalFault most bytes error }
+    ensures no_fault_3 { (most : ℕ) (session : Session) (messages : List (List ℕ)) (closed : Bool)
+        (bytes : List ℕ) (error : FileError) → most ≤ MAX_MESSAGE → SpellsJournal3 session messages closed bytes →
         AllByRecursion (IsWithin most) messages → ¬ JournalFault most bytes error }
 {}
 
@@ -191,12 +206,15 @@ pub fn reader_law()
     ensures blocks { (known left : Option (List ℕ)) (reader next : ReaderState) (limit : ℕ)
         (messages more : List (List ℕ)) → HasRead known (prepend_known reader.rest left) reader messages →
         PassesBlocks limit reader next more → HasRead known (prepend_known next.rest left) next (messages ++ more) }
-    ensures end { (known left : Option (List ℕ)) (reader : ReaderState) (messages : List (List ℕ)) →
-        HasRead known left reader messages → EndsWith left reader →
+    ensures end { (known left : Option (List ℕ)) (reader : ReaderState) (messages : List (List ℕ)) (head : FileHead) →
+        HasRead known left reader messages → EndsWith left reader head →
         IfSome known (λ bytes. Gives bytes messages None) }
+    ensures file { (known left : Option (List ℕ)) (reader : ReaderState) (messages : List (List ℕ)) (head : FileHead) →
+        HasRead known left reader messages → EndsWith left reader head →
+        IfSome known (λ bytes. SpellsFile head messages head.version bytes) }
     ensures refused { (known left : Option (List ℕ)) (reader : ReaderState) (messages : List (List ℕ))
         (error : FileError) → HasRead known left reader messages →
-        Refuses (RestFault reader.head.stated reader.count) left error →
+        Refuses (RestFault reader.head.version reader.count) left error →
         Refuses (λ bytes why. Gives bytes messages (Some why)) known error }
     ensures front { (known left : Option (List ℕ)) (reader : ReaderState) (messages : List (List ℕ)) →
         HasRead known left reader messages →

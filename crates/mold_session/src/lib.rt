@@ -4,6 +4,7 @@
 
 mod checking;
 mod error;
+mod file_version;
 mod journal;
 pub mod laws;
 mod loading;
@@ -14,6 +15,7 @@ mod plan;
 mod publisher;
 mod putting;
 mod reader;
+mod records;
 mod request_check;
 mod saving;
 mod server;
@@ -23,6 +25,7 @@ mod write_buffer;
 pub use error::{
     AnswerError, AppendError, FileError, PublisherError, ServerError, SessionError, Unsent,
 };
+pub use file_version::FileVersion;
 pub use journal::{Journal, MAX_MESSAGES};
 pub use loading::FileHead;
 pub use mold_devices::{

@@ -1,6 +1,6 @@
-//! Reads the file of a journal, of version 1 or 2.
+//! Reads the file of a journal, of version 1, 2 or 3.
 
-ghost use Rattle.std.specs.Prelude.{◌≡◌, ◌<◌, ◌≤◌, ◌^◌, ◌∷◌, ℕ, length, take, unwrap_or, IfOk, IfErr, IfSome, OnOk};
+ghost use Rattle.std.specs.Prelude.{◌≡◌, ◌<◌, ◌≤◌, ◌^◌, ◌∷◌, ℕ, false, length, take, IfOk, IfErr, IfSome, OnOk};
 ghost use Rattle.std.specs.Bool.{OnTrue, OnFalse};
 ghost use Rattle.std.specs.Io.KnownBytes.{Consumes, IsAtEnd, prepend_known};
 ghost use Rattle.mold_wire.specs.Block.{be64, blocks};
@@ -8,30 +8,34 @@ ghost use Rattle.mold_wire.specs.declared.limits.TheConstants.{MAX_NUMBER};
 ghost use Rattle.mold_devices.specs.Faults.{CountsRead};
 ghost use Rattle.mold_session.specs.FileFault.{BlockFault, BlocksFault, JournalFault};
 ghost use Rattle.mold_session.specs.Journal.{AreMessages};
-ghost use Rattle.mold_session.specs.Loading.{work_left, ReadsNumbers, NumbersFault, ReadsHead, SpellsFile};
+ghost use Rattle.mold_session.specs.Loading.{work_left, stated_count, ReadsNumbers, NumbersFault, ReadsHead};
+ghost use Rattle.mold_session.specs.Loading.{SpellsFile};
 ghost use Rattle.mold_session.specs.Loading.{TakesMessage, TakesBlock, Refuses, CountsLoad, IsOfHead};
 ghost use Rattle.mold_session.specs.Reader.{CountFault};
 ghost use Rattle.mold_session.specs.declared.journal.TheConstants.{MAX_MESSAGES};
 
 use crate::error::FileError;
+use crate::file_version::FileVersion;
 use crate::journal::MAX_MESSAGES;
-use crate::magic::{MAGIC_LENGTH, first_magic, second_magic};
+use crate::magic::{MAGIC_LENGTH, first_magic, second_magic, third_magic};
 use crate::piece::{Piece, has_more, next_byte};
+use crate::records::read_records;
 use byteorder::{BigEndian, ByteOrder};
 use mold_devices::{ReadFault, Source};
 use mold_messages::MessageList;
 use mold_wire::{SESSION_LENGTH, Session};
 use std::alloc::Global;
 
-/// The head of a file: what it states before the blocks.
+/// The head of a file: what precedes the messages.
 #[derive(Clone, Copy)]
 pub struct FileHead {
     /// The session of the messages.
     pub session: Session,
-    /// Whether the session is closed. It is false for a file of version 1.
+    /// Whether the session is closed. It is false for a file of version 1. Version 3 states it after the messages, so it
+    /// is false until these were read.
     pub closed: bool,
-    /// The number of messages that a file of version 2 states. It is `None` for version 1.
-    pub stated: Option<u64>,
+    /// The version of the file.
+    pub version: FileVersion,
 }
 
 // Fills `buffer` from the source, and returns how many bytes it filled. That is fewer than its length if the
@@ -90,8 +94,19 @@ fn read_numbers<S: Source>(
     Ok(FileHead {
         session,
         closed: byte == 1,
-        stated: Some(stated),
+        version: FileVersion::Two { count: stated },
     })
+}
+
+// A head that does not state that the session is closed.
+fn open_head(session: Session, version: FileVersion) -> FileHead
+    ensures { result ≡ record { session = session; closed = false; version = version } }
+{
+    FileHead {
+        session,
+        closed: false,
+        version,
+    }
 }
 
 /// Reads the head of a file.
@@ -112,11 +127,10 @@ pub fn read_head<S: Source>(piece: &mut Piece, source: &mut S) -> Result<FileHea
     let mut session = Session([0; SESSION_LENGTH]);
     session.0.copy_from_slice(name);
     if magic == first_magic().as_slice() {
-        return Ok(FileHead {
-            session,
-            closed: false,
-            stated: None,
-        });
+        return Ok(open_head(session, FileVersion::One));
+    }
+    if magic == third_magic().as_slice() {
+        return Ok(open_head(session, FileVersion::Three));
     }
     if magic != second_magic().as_slice() {
         return Err(FileError::BadMagic);
@@ -224,18 +238,19 @@ fn read_blocks<S: Source>(
 }
 
 /// Refuses a file that states another number of messages than were found.
-pub fn check_count(stated: Option<u64>, found: u64) -> Result<(), FileError>
-    ensures same { OnOk result (unwrap_or stated found ≡ found) }
-    ensures refused { IfErr result (CountFault stated found) }
+pub fn check_count(version: FileVersion, found: u64) -> Result<(), FileError>
+    ensures same { OnOk result (stated_count version found ≡ found) }
+    ensures refused { IfErr result (CountFault version found) }
 {
-    let count = stated.unwrap_or(found);
+    let count = version.stated_count(found);
     if count != found {
         return Err(FileError::CountDiffers { count, found });
     }
     Ok(())
 }
 
-/// Reads the file of a journal, of either version, whose messages have at most `most` bytes.
+/// Reads the file of a journal, of any version, whose messages have at most `most` bytes. The head that it returns
+/// states whether the session is closed.
 pub fn load_file<S: Source>(
     alloc: Global,
     most: u16,
@@ -243,14 +258,19 @@ pub fn load_file<S: Source>(
 ) -> Result<(FileHead, MessageList), FileError>
     ensures listed { IfOk result (λ loaded. AreMessages most loaded.1.messages) }
     ensures whole { IfOk result (λ loaded. IfSome (S.left source.old)
-        (λ bytes. SpellsFile loaded.0 loaded.1.messages loaded.0.stated bytes)) }
+        (λ bytes. SpellsFile loaded.0 loaded.1.messages loaded.0.version bytes)) }
     ensures spent { IfOk result (λ _. IsAtEnd (S.left source.new)) }
     ensures refused { IfErr result (λ error. Refuses (JournalFault most) (S.left source.old) error) }
     ensures failures { CountsLoad (S.failed source.old) (S.failed source.new) result }
 {
     let mut piece = Piece::new();
-    let head = read_head(&mut piece, source)?;
+    let mut head = read_head(&mut piece, source)?;
+    if head.version.has_records() {
+        let (list, closed) = read_records(alloc, most, &mut piece, source)?;
+        head.closed = closed;
+        return Ok((head, list));
+    }
     let list = read_blocks(alloc, most, &mut piece, source)?;
-    check_count(head.stated, list.len() as u64)?;
+    check_count(head.version, list.len() as u64)?;
     Ok((head, list))
 }

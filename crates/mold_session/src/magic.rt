@@ -2,6 +2,7 @@
 
 ghost use Rattle.std.specs.Prelude.{◌≡◌};
 ghost use Rattle.mold_session.specs.File.{magic_1, magic_2};
+ghost use Rattle.mold_session.specs.Records.{magic_3};
 
 /// The length of the magic bytes at the start of a file.
 pub const MAGIC_LENGTH: usize = 8;
@@ -20,4 +21,12 @@ pub fn second_magic() -> [u8; MAGIC_LENGTH]
     ensures { result ≡ magic_2 }
 {
     *b"MOLDJNL2"
+}
+
+/// The magic bytes of version 3.
+#[tactic(auto, unfolding(crate::specs::Records::magic_3))]
+pub fn third_magic() -> [u8; MAGIC_LENGTH]
+    ensures { result ≡ magic_3 }
+{
+    *b"MOLDJNL3"
 }

@@ -1,24 +1,66 @@
 //! Reads the file of a journal message by message.
 
-ghost use Rattle.std.specs.Prelude.{◌≡◌, ◌<◌, [], IfErr, IfOk, Some};
+ghost use Rattle.std.specs.Prelude.{◌≡◌, ◌<◌, ◌≤◌, [], IfErr, IfOk, Some};
 ghost use Rattle.std.specs.Bool.{OnFalse, OnTrue};
 ghost use Rattle.std.specs.Io.KnownBytes.{prepend_known};
 ghost use Rattle.mold_session.specs.Contents.{Gives};
-ghost use Rattle.mold_session.specs.Loading.{CountsLoad, Refuses, work_left};
-ghost use Rattle.mold_session.specs.Reader.{EndsWith, HasRead, ReadsNext, RestFault, TakesBlocks};
+ghost use Rattle.mold_session.specs.Loading.{CountsLoad, Refuses, has_records, work_left};
+ghost use Rattle.mold_session.specs.Reader.{EndsWith, HasRead, ReadsMessage, ReadsNext, RestFault, TakesBlocks};
+ghost use Rattle.mold_session.specs.declared.records.NextMessage.TheVariants.{Message};
+ghost use Rattle.mold_wire.specs.declared.limits.TheConstants.{MAX_NUMBER};
 
 use crate::checking::whole_blocks;
 use crate::error::FileError;
 use crate::journal::MAX_MESSAGES;
+use crate::file_version::FileVersion;
 use crate::loading::{FileHead, check_count, next_block, read_head};
 use crate::piece::Piece;
+use crate::records::{NextMessage, next_record};
 use mold_devices::Source;
 use mold_messages::MessageList;
 use mold_wire::MAX_MESSAGE;
 use std::alloc::Global;
 use std::marker::Model;
 
-/// Reads the file of a journal, of either version, message by message. It holds no more than the longest
+// Reads the next message of a file with this head as one more message of the list, or what ends the file. `count`
+// messages precede it.
+fn next_message<S: Source>(
+    list: &mut MessageList,
+    piece: &mut Piece,
+    source: &mut S,
+    head: FileHead,
+    count: u64,
+) -> Result<NextMessage, FileError>
+    requires { count < MAX_NUMBER }
+    ensures read { IfOk result (ReadsMessage head count (prepend_known piece.old (S.left source.old))
+        (prepend_known piece.new (S.left source.new)) list.old.messages list.new.messages) }
+    ensures refused { IfErr result (λ error. Refuses (RestFault head.version count)
+        (prepend_known piece.old (S.left source.old)) error) }
+    ensures work { IfOk result (λ next. next ≡ Message →
+        work_left (S.bound source.new) piece.new < work_left (S.bound source.old) piece.old) }
+    ensures failures { CountsLoad (S.failed source.old) (S.failed source.new) result }
+{
+    if head.version.has_records() {
+        return next_record(list, piece, source, MAX_MESSAGE, count);
+    }
+    if next_block(list, piece, source, MAX_MESSAGE, count)? {
+        return Ok(NextMessage::Message);
+    }
+    check_count(head.version, count)?;
+    Ok(NextMessage::End {
+        closed: head.closed,
+    })
+}
+
+// How many blocks may be taken at once: `limit`, but none of a file with records.
+fn blocks_at_once(version: FileVersion, limit: u64) -> u64
+    ensures few { result ≤ limit }
+    ensures blocks { 0 < result → has_records version ≡ false }
+{
+    if version.has_records() { 0 } else { limit }
+}
+
+/// Reads the file of a journal, of any version, message by message. It holds no more than the longest
 /// message so far and the bytes of one read, at most 4,096.
 ///
 /// It refuses the bytes that `Journal::load` refuses with a `max_message` of 65,535. The fault is the same, and
@@ -68,7 +110,7 @@ impl JournalReader {
         })
     }
 
-    /// Returns the head of the file.
+    /// Returns the head of the file. In version 3 it states that the session is closed once `advance` has returned false.
     pub fn head(&self) -> FileHead
         ensures { result ≡ self.now.head }
     {
@@ -92,7 +134,8 @@ impl JournalReader {
         }
     }
 
-    /// Reads the next message, or returns false if none remains, and then the whole file is valid.
+    /// Reads the next message, or returns false if none remains, and then the whole file is valid. The bytes after a shut
+    /// gate of version 3 are not read.
     ///
     /// It allocates only for a message that is longer than all before it. After an error the reader must not be used
     /// again.
@@ -101,35 +144,39 @@ impl JournalReader {
             (prepend_known self.old.rest (S.left source.old))
             (prepend_known self.new.rest (S.left source.new)) self.old self.new)) }
         ensures end { IfOk result (λ more. OnFalse more (EndsWith
-            (prepend_known self.old.rest (S.left source.old)) self.old)) }
-        ensures refused { IfErr result (λ error. Refuses (RestFault self.old.head.stated self.old.count)
+            (prepend_known self.old.rest (S.left source.old)) self.old self.new.head)) }
+        ensures refused { IfErr result (λ error. Refuses (RestFault self.old.head.version self.old.count)
             (prepend_known self.old.rest (S.left source.old)) error) }
         ensures work { IfOk result (λ more. OnTrue more
             (work_left (S.bound source.new) self.new.rest < work_left (S.bound source.old) self.old.rest)) }
         ensures failures { CountsLoad (S.failed source.old) (S.failed source.new) result }
     {
         self.last.clear();
-        if !next_block(
+        match next_message(
             &mut self.last,
             &mut self.piece,
             source,
-            MAX_MESSAGE,
+            self.head,
             self.count,
         )? {
-            check_count(self.head.stated, self.count)?;
-            return Ok(false);
+            NextMessage::Message => {
+                self.count += 1;
+                Ok(true)
+            }
+            NextMessage::End { closed } => {
+                self.head.closed = closed;
+                Ok(false)
+            }
         }
-        self.count += 1;
-        Ok(true)
     }
 
     /// Takes the next blocks, at most `limit` of them, and appends them to `out` as they are in the file. It reads
-    /// nothing, so it takes only blocks that the last read got whole. If an allocation fails, it takes none, and
-    /// `advance` still reads the next message.
+    /// nothing, so it takes only blocks that the last read got whole, and none of a file of version 3, which has records.
+    /// If an allocation fails, it takes none, and `advance` still reads the next message.
     pub fn take_blocks(&mut self, limit: u64, out: &mut Vec<u8>)
         ensures { TakesBlocks limit self.old self.new out.old.items out.new.items }
     {
-        let most = limit.min(MAX_MESSAGES - self.count);
+        let most = blocks_at_once(self.head.version, limit.min(MAX_MESSAGES - self.count));
         if most == 0 {
             return;
         }

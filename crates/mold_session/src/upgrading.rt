@@ -2,7 +2,7 @@
 
 ghost use Rattle.std.specs.Prelude.{◌≡◌, IfOk, IfErr};
 ghost use Rattle.mold_session.specs.Loading.{CountsLoad};
-ghost use Rattle.mold_session.specs.Upgrading.{version_of, Upgrades, RefusesUpgrade, CountsSave};
+ghost use Rattle.mold_session.specs.Upgrading.{Upgrades, RefusesUpgrade, CountsSave};
 ghost use Rattle.mold_session.specs.declared.error.FileError.{FileError};
 
 use crate::error::FileError;
@@ -19,21 +19,11 @@ pub struct Upgraded {
     pub messages: u64,
     /// Whether the new file states that the session is closed.
     pub closed: bool,
-    /// The version of the file that was read: 1 or 2.
+    /// The version of the file that was read: 1, 2 or 3.
     pub from: u8,
 }
 
-// The version of a file whose head states this number of messages.
-fn version(stated: Option<u64>) -> u8
-    ensures { result ≡ version_of stated }
-{
-    match stated {
-        None => 1,
-        Some(_) => 2,
-    }
-}
-
-/// Reads the file of a journal, of either version, and writes it in version 2. The new file is closed if the old one
+/// Reads the file of a journal, of any version, and writes it in version 2. The new file is closed if the old one
 /// was or if `close` is true.
 ///
 /// If the old file is refused, nothing is written; after `Write`, a prefix of the new file is.
@@ -60,6 +50,6 @@ pub fn upgrade<S: Source, K: Sink>(
     Ok(Upgraded {
         messages,
         closed,
-        from: version(head.stated),
+        from: head.version.number(),
     })
 }

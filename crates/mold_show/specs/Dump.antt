@@ -231,7 +231,7 @@ pub record ReadsEmpty (options : DumpOptions) (known left : Option (List ℕ)) (
 abbrev pub RefusesNext : DumpOptions → Option (List ℕ) → Option (List ℕ) → ReaderState → ReaderState → DumpFault →
     Type 0
 RefusesNext options known left old new (Empty number) = ReadsEmpty options known left old new number
-RefusesNext options known left old new (File error) = Refuses (RestFault old.head.stated old.count) known error
+RefusesNext options known left old new (File error) = Refuses (RestFault old.head.version old.count) known error
 
 -- The output reports how the dump ended. It doesn't if a read or an allocation failed.
 abbrev pub IsTold : Option DumpFault → Type 0

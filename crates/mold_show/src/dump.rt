@@ -130,9 +130,9 @@ fn dump_next<S: Source>(
         (text.new.items ≡ text.old.items ++ next_text options reader.old.count reader.new.message)) }
     ensures passes { IfOk result (λ more. OnTrue more (PassesNext options reader.old.count reader.new.message)) }
     ensures end { IfOk result (λ more. OnFalse more (EndsWith
-        (prepend_known reader.old.rest (S.left source.old)) reader.old)) }
+        (prepend_known reader.old.rest (S.left source.old)) reader.old reader.new.head)) }
     ensures mark { IfOk result (λ more. OnFalse more (text.new.items ≡ text.old.items
-        ++ last_text options.format None (reaches_end options reader.old.head.closed reader.old.count))) }
+        ++ last_text options.format None (reaches_end options reader.new.head.closed reader.old.count))) }
     ensures refused { IfErr result (λ fault. RefusesNext options
         (prepend_known reader.old.rest (S.left source.old))
         (prepend_known reader.new.rest (S.left source.new)) reader.old reader.new fault) }
@@ -142,9 +142,8 @@ fn dump_next<S: Source>(
     ensures failures { CountsNext (S.failed source.old) (S.failed source.new) result }
 {
     let before = reader.count();
-    let closed = reader.head().closed;
     if !reader.advance(source)? {
-        push_end(text, options, closed, before)?;
+        push_end(text, options, reader.head().closed, before)?;
         return Ok(false);
     }
     if is_dumped(options, before) {
@@ -340,7 +339,7 @@ fn end_dump<K: Sink, E: Sink>(
     }
 }
 
-/// Reads the file of a journal, of either version, and writes the messages that the options ask for to `sink`. Each is
+/// Reads the file of a journal, of any version, and writes the messages that the options ask for to `sink`. Each is
 /// a line of lower-case hexadecimal digits, or a message block.
 ///
 /// If the file isn't valid, the messages before the fault are written, and then a line with the fault. If the output

@@ -41,7 +41,7 @@ pub fn pack_lines_law()
 /// message. No line is refused.
 pub fn dump_law()
     ensures { (head : FileHead) (messages : List (List ℕ)) (bytes : List ℕ) (contents : FileContents bytes)
-        (limit count : ℕ) → IsBytes bytes → SpellsFile head messages head.stated bytes →
+        (limit count : ℕ) → IsBytes bytes → SpellsFile head messages head.version bytes →
         AllByRecursion (IsWithin (limit - MESSAGE_OVERHEAD)) messages → length messages ≤ count →
         lines_published (fresh_journal head.session (limit - MESSAGE_OVERHEAD))
         (lines_of (dump_text (record { from = 1; count = count; format = Lines }) contents))
@@ -58,14 +58,14 @@ pub fn dump_law()
 /// status is 0. The mark requires that no message is empty.
 pub fn dump_blocks_law()
     ensures blocks { (head : FileHead) (messages : List (List ℕ)) (bytes : List ℕ) (contents : FileContents bytes)
-        (count : ℕ) → SpellsFile head messages head.stated bytes → length messages ≤ count →
+        (count : ℕ) → SpellsFile head messages head.version bytes → length messages ≤ count →
         PrintsAll (record { from = 1; count = count; format = Blocks }) contents (blocks messages) }
     ensures closed { (head : FileHead) (messages : List (List ℕ)) (bytes : List ℕ) (contents : FileContents bytes)
-        (count : ℕ) → SpellsFile head messages head.stated bytes → length messages ≤ count →
+        (count : ℕ) → SpellsFile head messages head.version bytes → length messages ≤ count →
         list_any is_empty messages ≡ false → head.closed ≡ true →
         PrintsAll (record { from = 1; count = count; format = BlocksToEmpty }) contents (blocks messages ++ block []) }
     ensures open { (head : FileHead) (messages : List (List ℕ)) (bytes : List ℕ) (contents : FileContents bytes)
-        (count : ℕ) → SpellsFile head messages head.stated bytes → length messages ≤ count →
+        (count : ℕ) → SpellsFile head messages head.version bytes → length messages ≤ count →
         list_any is_empty messages ≡ false → head.closed ≡ false →
         PrintsAll (record { from = 1; count = count; format = BlocksToEmpty }) contents (blocks messages) }
 {

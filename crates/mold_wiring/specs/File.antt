@@ -6,15 +6,17 @@ use Rattle.mold_devices.specs.declared.fault.CommandFault.TheVariants as command
 use Rattle.mold_session.specs.File.{SpellsJournal, SpellsJournal2}
 use Rattle.mold_session.specs.FileFault.{JournalFault}
 use Rattle.mold_session.specs.Journal.{JournalState}
+use Rattle.mold_session.specs.Records.{SpellsJournal3}
 use Rattle.mold_session.specs.declared.error.FileError.{FileError}
 use Rattle.mold_session.specs.declared.error.FileError.TheVariants as file
 
--- The bytes are the file of the journal. A file of version 1 is that of an open journal; a file of version 2 may be of
--- an open or a closed one.
+-- The bytes are the file of the journal. A file of version 1 is that of an open journal; a file of version 2 or 3 may be
+-- of an open or a closed one.
 abbrev pub SpellsFile : JournalState → List ℕ → Type 0
 SpellsFile journal bytes =
     ((journal.closed ≡ false) × SpellsJournal journal.session journal.messages bytes)
-    ⊎ SpellsJournal2 journal.session journal.messages journal.closed bytes
+    ⊎ (SpellsJournal2 journal.session journal.messages journal.closed bytes
+    ⊎ SpellsJournal3 journal.session journal.messages journal.closed bytes)
 
 -- The error is one of the file itself, not of a device or an allocation. If the bytes of the file are known, they have
 -- that fault (`JournalFault`).

@@ -8,10 +8,18 @@ use mold_input::MessageFormat;
 use std::process::Abort;
 use std::test::Fail;
 
-// The journal of `AB` and a message without bytes: the file of version 1, and that of version 2, open.
+// The journal of `AB` and a message without bytes: the files of versions 1 and 2, open, and that of version 3, closed.
 const FILE_1: &[u8] = b"MOLDJNL1SESSION001\0\x02AB\0\0";
 
 const FILE_2: &[u8] = b"MOLDJNL2SESSION001\0\0\0\0\0\0\0\0\x02\0\x02AB\0\0";
+
+const FILE_3: &[u8] = b"MOLDJNL3SESSION001\x01\0\0\x02AB\x01\0\0\0\x01\x01\0";
+
+// The file of version 3, open, and two bytes that do not count.
+const OPEN_3: &[u8] = b"MOLDJNL3SESSION001\x01\0\0\x02AB\x01\0\0\0\x37\x01\x02";
+
+// The file of version 3 that ends within its second record.
+const CUT_FILE_3: &[u8] = b"MOLDJNL3SESSION001\x01\0\0\x02AB\x01\0\0";
 
 // The file of version 1 that ends within its second block.
 const CUT_FILE: &[u8] = b"MOLDJNL1SESSION001\0\x02AB\0";
@@ -75,9 +83,21 @@ const WHOLE_2: Dump = Dump {
     ..WHOLE_1
 };
 
+const WHOLE_3: Dump = Dump {
+    file: FILE_3,
+    len: FILE_3.len(),
+    ..WHOLE_1
+};
+
+const WHOLE_OPEN_3: Dump = Dump {
+    file: OPEN_3,
+    len: OPEN_3.len(),
+    ..WHOLE_1
+};
+
 #[test]
 fn journal_cuts_dumped(rt: HostRuntime) {
-    expect_all(&rt, &[WHOLE_2, WHOLE_1]);
+    expect_all(&rt, &[WHOLE_2, WHOLE_1, WHOLE_3, WHOLE_OPEN_3]);
 }
 
 // The file of version 1 has 24 bytes. Its first 18 and its first 22 bytes are journals too.
@@ -185,9 +205,107 @@ fn each_cut_of_version_2(rt: HostRuntime) {
     expect_all(&rt, CUTS_2);
 }
 
+const CUTS_3: &[Dump] = &[
+    Dump {
+        len: 17,
+        text: b"refused Short 17\n",
+        status: 2,
+        ..WHOLE_3
+    },
+    Dump {
+        len: 18,
+        text: b"refused Damaged 1\n",
+        status: 2,
+        ..WHOLE_3
+    },
+    Dump {
+        len: 19,
+        text: b"refused Damaged 1\n",
+        status: 2,
+        ..WHOLE_3
+    },
+    Dump {
+        len: 20,
+        text: b"refused Damaged 1\n",
+        status: 2,
+        ..WHOLE_3
+    },
+    Dump {
+        len: 21,
+        text: b"refused Damaged 1\n",
+        status: 2,
+        ..WHOLE_3
+    },
+    Dump {
+        len: 22,
+        text: b"refused Damaged 1\n",
+        status: 2,
+        ..WHOLE_3
+    },
+    Dump {
+        len: 23,
+        text: b"refused Damaged 1\n",
+        status: 2,
+        ..WHOLE_3
+    },
+    Dump {
+        len: 24,
+        text: b"4142\nrefused Damaged 2\n",
+        status: 2,
+        ..WHOLE_3
+    },
+    Dump {
+        len: 25,
+        text: b"4142\nrefused Damaged 2\n",
+        status: 2,
+        ..WHOLE_3
+    },
+    Dump {
+        len: 26,
+        text: b"4142\nrefused Damaged 2\n",
+        status: 2,
+        ..WHOLE_3
+    },
+    Dump {
+        len: 27,
+        text: b"4142\nrefused Damaged 2\n",
+        status: 2,
+        ..WHOLE_3
+    },
+    Dump {
+        len: 28,
+        text: b"4142\n\nrefused Damaged 3\n",
+        status: 2,
+        ..WHOLE_3
+    },
+    Dump {
+        len: 29,
+        text: b"4142\n\nrefused Damaged 3\n",
+        status: 2,
+        ..WHOLE_3
+    },
+    Dump {
+        len: 30,
+        text: b"4142\n\nrefused Damaged 3\n",
+        status: 2,
+        ..WHOLE_3
+    },
+];
+
+#[test]
+fn each_cut_of_version_3(rt: HostRuntime) {
+    expect_all(&rt, CUTS_3);
+}
+
 const OTHER_FILES: &[Dump] = &[
     Dump {
-        file: b"MOLDJNL3SESSION001",
+        file: b"MOLDJNL3SESSION001\x01\x02\0",
+        text: b"refused Damaged 1\n",
+        status: 2,
+        ..WHOLE_2
+    },
+    Dump {
+        file: b"MOLDJNL9SESSION001",
         text: b"refused BadMagic\n",
         status: 2,
         ..WHOLE_2
@@ -354,7 +472,41 @@ const CLOSED: &[u8] = b"MOLDJNL2SESSION001\x01\0\0\0\0\0\0\0\x02\0\x01A\0\x01B";
 
 const OPEN: &[u8] = b"MOLDJNL2SESSION001\0\0\0\0\0\0\0\0\x02\0\x01A\0\x01B";
 
+const CLOSED_3: &[u8] = b"MOLDJNL3SESSION001\x01\0\0\x01A\x01\0\0\x01B\x01\x01\0";
+
 const BLOCKS: &[Blocks] = &[
+    Blocks {
+        file: FILE_3,
+        part: (1, ALL),
+        format: MessageFormat::Blocks,
+        text: b"\0\x02AB\0\0",
+        errors: b"",
+        status: 0,
+    },
+    Blocks {
+        file: CUT_FILE_3,
+        part: (1, ALL),
+        format: MessageFormat::Blocks,
+        text: b"\0\x02AB",
+        errors: b"refused Damaged 2\n",
+        status: 2,
+    },
+    Blocks {
+        file: CLOSED_3,
+        part: (1, ALL),
+        format: MessageFormat::BlocksToEmpty,
+        text: b"\0\x01A\0\x01B\0\0",
+        errors: b"",
+        status: 0,
+    },
+    Blocks {
+        file: OPEN_3,
+        part: (1, 1),
+        format: MessageFormat::BlocksToEmpty,
+        text: b"\0\x02AB",
+        errors: b"",
+        status: 0,
+    },
     Blocks {
         file: FILE_2,
         part: (1, ALL),

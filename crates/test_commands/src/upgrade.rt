@@ -97,6 +97,18 @@ const UPGRADES: &[Case] = &[
         close: false,
         ..CLOSED
     },
+    Case {
+        file: b"MOLDJNL3SESSION001\x01\0\0\x02AB\x01\0\0\0\x01\x01\0",
+        close: false,
+        ..CLOSED
+    },
+    Case {
+        file: b"MOLDJNL3SESSION001\x01\0\0\x02AB\x01\0\0\0\0\x01\x01\0",
+        close: false,
+        journal: b"MOLDJNL2SESSION001\0\0\0\0\0\0\0\0\x02\0\x02AB\0\0",
+        text: b"upgraded 2 open\n",
+        ..CLOSED
+    },
 ];
 
 #[test]
@@ -111,6 +123,11 @@ const REFUSED: Case = Case {
 };
 
 const REFUSALS: &[Case] = &[
+    Case {
+        file: b"MOLDJNL3SESSION001\x01\0\0\x02AB\x01\0\0\0\x01\x01",
+        text: b"refused Damaged 3\n",
+        ..REFUSED
+    },
     Case {
         file: b"MOLDJNL2SESSION001\x01\0\0\0\0\0\0\0\x02\0\x02AB",
         text: b"refused CountDiffers 2 1\n",
@@ -127,7 +144,7 @@ const REFUSALS: &[Case] = &[
         ..REFUSED
     },
     Case {
-        file: b"MOLDJNL3SESSION001",
+        file: b"MOLDJNL9SESSION001",
         text: b"refused BadMagic\n",
         ..REFUSED
     },

@@ -31,7 +31,7 @@ fn same_saved(rt: &impl Abort, found: Result<(), FileError>, wanted: Result<(), 
 }
 
 /// How many messages a loaded journal has, and whether it is closed.
-type Loaded = Result<(u64, bool), FileError>;
+pub type Loaded = Result<(u64, bool), FileError>;
 
 fn append_two(journal: &mut Journal, one: &[u8], other: &[u8]) -> Result<(), AppendError> {
     journal.append(one)?;
@@ -153,17 +153,17 @@ fn long_messages_are_saved_in_few_writes(rt: HostRuntime) -> Result<(), Fail> {
     Ok(())
 }
 
-fn load<S: Source>(alloc: Global, max_message: u16, source: &mut S) -> Loaded {
+pub fn load<S: Source>(alloc: Global, max_message: u16, source: &mut S) -> Loaded {
     let journal = Journal::load(alloc, max_message, source)?;
     Ok((journal.next() - 1, journal.is_closed()))
 }
 
-fn same_loaded(rt: &impl Abort, len: usize, found: Loaded, wanted: Loaded) {
+pub fn same_loaded(rt: &impl Abort, len: usize, found: Loaded, wanted: Loaded) {
     assert!(rt; found == wanted, "another outcome of {len} bytes");
 }
 
 /// Loads the file by reads of one byte each. Read number `fails_at` fails, or none if it is 0.
-fn expect_loaded_by_bytes(
+pub fn expect_loaded_by_bytes(
     rt: &impl Abort,
     alloc: Global,
     max_message: u16,
@@ -185,7 +185,13 @@ fn checked(loaded: Loaded) -> Result<(), FileError> {
 }
 
 /// Loads the file at once, and byte by byte with the same result. A check of its bytes has that result too.
-fn expect_loaded(rt: &impl Abort, alloc: Global, max_message: u16, file: &[u8], wanted: Loaded) {
+pub fn expect_loaded(
+    rt: &impl Abort,
+    alloc: Global,
+    max_message: u16,
+    file: &[u8],
+    wanted: Loaded,
+) {
     let found = load(alloc, max_message, &mut MemorySource::new(file));
     same_loaded(rt, file.len(), found, wanted);
     same_saved(rt, Journal::check(max_message, file), checked(wanted));
@@ -200,7 +206,7 @@ const FILES: &[(&[u8], u16, Loaded)] = &[
         1,
         Err(FileError::TooLong { len: 2 }),
     ),
-    (b"MOLDJNL3SESSION001", 42, Err(FileError::BadMagic)),
+    (b"MOLDJNL9SESSION001", 42, Err(FileError::BadMagic)),
     (&OPEN, 42, Ok((2, false))),
     (
         b"MOLDJNL2SESSION001\x02\0\0\0\0\0\0\0\x02\0\x02AB\0\0",
@@ -306,7 +312,12 @@ fn load_two(rt: &impl Abort, alloc: Global, file: &[u8], closed: bool) -> Result
 }
 
 /// Loads the file of two messages. If an allocation fails, the file is loaded again from a new source.
-fn load_again(rt: &impl Abort, alloc: Global, file: &[u8], closed: bool) -> Result<(), FileError> {
+pub fn load_again(
+    rt: &impl Abort,
+    alloc: Global,
+    file: &[u8],
+    closed: bool,
+) -> Result<(), FileError> {
     if let Err(error) = load_two(rt, alloc, file, closed) {
         same_refusal(rt, error, FileError::Memory);
         load_two(rt, alloc, file, closed)?;

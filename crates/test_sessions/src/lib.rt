@@ -12,6 +12,8 @@ mod journal_file;
 #[cfg(test)]
 mod journal_reader;
 #[cfg(test)]
+mod journal_records;
+#[cfg(test)]
 mod publisher;
 #[cfg(test)]
 mod receiver;

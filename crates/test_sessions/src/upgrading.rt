@@ -2,6 +2,7 @@
 
 use crate::comparisons::same_bytes;
 use crate::journal_file::{CLOSED, FIRST, same_refusal};
+use crate::journal_records::THIRD;
 use mold_devices::{MemorySink, MemorySource, Sink};
 use mold_session::{FileError, Upgraded, upgrade};
 use std::alloc::Global;
@@ -35,11 +36,18 @@ const COPIED: Result<Upgraded, FileError> = Ok(Upgraded {
     from: 2,
 });
 
-/// `journal-cuts`: the file of version 1, upgraded. A closed file of version 2 stays closed.
+const CONVERTED: Result<Upgraded, FileError> = Ok(Upgraded {
+    messages: 2,
+    closed: true,
+    from: 3,
+});
+
+/// `journal-cuts`: the file of version 1, upgraded. A closed file of version 2 or 3 stays closed.
 #[test]
-fn files_of_both_versions_are_upgraded(rt: HostRuntime) {
+fn files_of_all_versions_are_upgraded(rt: HostRuntime) {
     expect_upgrade(&rt, rt.alloc(), &FIRST, true, UPGRADED, &CLOSED);
     expect_upgrade(&rt, rt.alloc(), &CLOSED, false, COPIED, &CLOSED);
+    expect_upgrade(&rt, rt.alloc(), &THIRD, false, CONVERTED, &CLOSED);
 }
 
 /// If the file is refused, nothing is written.
@@ -47,6 +55,8 @@ fn files_of_both_versions_are_upgraded(rt: HostRuntime) {
 fn a_refused_file_is_not_upgraded(rt: HostRuntime) {
     let refused = Err(FileError::CountDiffers { count: 2, found: 1 });
     expect_upgrade(&rt, rt.alloc(), &CLOSED[..31], true, refused, b"");
+    let damaged = Err(FileError::Damaged { number: 3 });
+    expect_upgrade(&rt, rt.alloc(), &THIRD[..30], true, damaged, b"");
 }
 
 /// Upgrades the file of version 1 into the sink, closed.

@@ -38,6 +38,7 @@ texts =
     text.BAD_FLAG.now ∷
     text.FILE_CUT.now ∷
     text.COUNT_DIFFERS.now ∷
+    text.DAMAGED.now ∷
     []
 
 -- The text for a number: that of the code with this number, or `unknown code` if there is no such code.

@@ -19,6 +19,7 @@ pub(crate) fn code_of_file_error(error: FileError) -> (u32, u64)
         FileError::TooLong { len } => (code::TOO_LONG, len as u64),
         FileError::BlockCut { number } => (code::FILE_CUT, number),
         FileError::CountDiffers { count: _, found } => (code::COUNT_DIFFERS, found),
+        FileError::Damaged { number } => (code::DAMAGED, number),
         FileError::Read | FileError::Write => (code::BROKEN, 0),
         FileError::Memory => (code::MEMORY, 0),
     }

@@ -5,7 +5,7 @@ ghost use Rattle.mold_ffi.specs.Code.Text.{text_of};
 
 use crate::code::{
     ABSENT, AHEAD, BAD_FLAG, BAD_MAGIC, BLOCK_CUT, BROKEN, BURST, CLOSED, CONFLICT, COUNT_DIFFERS,
-    DONE, EMPTY_REQUEST, END_BELOW, END_CONFLICT, FILE_CUT, FILE_SHORT, FULL, LIMIT, LINE, MEMORY,
+    DAMAGED, DONE, EMPTY_REQUEST, END_BELOW, END_CONFLICT, FILE_CUT, FILE_SHORT, FULL, LIMIT, LINE, MEMORY,
     NEXT_ZERO, NUMBERS, PAST_END, PAST_LAST, REQUEST_LENGTH, ROOM, SEQUENCE_ZERO, SHORT, TOO_LONG,
     TRAILING, UNSENT, WINDOW, WRONG_SESSION, texts,
 };
@@ -50,6 +50,7 @@ pub extern "C" fn mold_text(code: u32, text: &mut &'static [u8])
         BAD_FLAG => texts::BAD_FLAG,
         FILE_CUT => texts::FILE_CUT,
         COUNT_DIFFERS => texts::COUNT_DIFFERS,
+        DAMAGED => texts::DAMAGED,
         _ => texts::UNKNOWN,
     };
 }

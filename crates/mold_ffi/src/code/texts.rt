@@ -58,12 +58,14 @@ pub(crate) const BURST: &[u8] = b"a burst is 1 to 64 datagrams";
 
 pub(crate) const FILE_SHORT: &[u8] = b"too few bytes for a journal";
 
-pub(crate) const BAD_MAGIC: &[u8] = b"not a journal of version 1 or 2";
+pub(crate) const BAD_MAGIC: &[u8] = b"not a journal of version 1, 2 or 3";
 
 pub(crate) const BAD_FLAG: &[u8] = b"the journal's flag is neither open nor closed";
 
 pub(crate) const FILE_CUT: &[u8] = b"the journal ends within a message";
 
 pub(crate) const COUNT_DIFFERS: &[u8] = b"the journal does not have as many messages as it states";
+
+pub(crate) const DAMAGED: &[u8] = b"a record of the journal is damaged";
 
 pub(crate) const UNKNOWN: &[u8] = b"unknown code";

@@ -22,7 +22,7 @@ use crate::server::serving::{Serving, code_of_refusal};
 use mold_wire::{MAX_BURST, MAX_LIMIT, MESSAGE_OVERHEAD, MIN_LIMIT};
 use std::alloc::Global;
 
-/// Makes a server of the bytes of a journal file, of version 1 or 2. Its datagrams have at most `limit` bytes, 64 to
+/// Makes a server of the bytes of a journal file, of version 1, 2 or 3. Its datagrams have at most `limit` bytes, 64 to
 /// 65,507, and each message of the journal must have at most `limit` - 22. A request gets at most `burst` responses, 1
 /// to 64. The handle must be empty.
 ///

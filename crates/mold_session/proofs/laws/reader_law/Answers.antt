@@ -1,4 +1,4 @@
-use Rattle.mold_session.proofs.ReaderLemmas.{read_blocks, read_front, read_more, read_refused, read_whole}
+use Rattle.mold_session.proofs.ReaderLemmas.{read_blocks, read_file, read_front, read_more, read_refused, read_whole}
 use Rattle.mold_session.proofs.laws.reader_law.Goals as goal
 
 pub returns : goal.returns
@@ -6,6 +6,7 @@ returns c = record {
   next = read_more;
   blocks = read_blocks;
   end = read_whole;
+  file = read_file;
   refused = read_refused;
   front = read_front;
 }
