@@ -27,10 +27,10 @@ use Rattle.mold_session.proofs.FileLemmas.{as_blocks, as_records, behind_head, b
 
 -- ---- the head
 
-in_known : (known : Option (List ℕ)) (One Other : List ℕ → Type 0) → ((bytes : List ℕ) → One bytes → Other bytes) →
-    IfSome known One → IfSome known Other
-in_known None One Other same holds = tt
-in_known (Some bytes) One Other same holds = same bytes holds
+in_known : (known : Option (List ℕ)) (P Q : List ℕ → Type 0) → ((bytes : List ℕ) → P bytes → Q bytes) →
+    IfSome known P → IfSome known Q
+in_known None P Q same holds = tt
+in_known (Some bytes) P Q same holds = same bytes holds
 
 -- A file whose head is refused has no messages.
 pub head_refused : (known : Option (List ℕ)) (error : FileError) → IsOfHead error →
@@ -193,8 +193,8 @@ module _ (xs ys : List ℕ) (reader : ReaderState) (messages : List (List ℕ))
     refused_block : (error : FileError) → BlocksRestFault reader.head.version reader.count ys error →
         Gives xs messages (Some error)
     refused_block (CountDiffers count found) fault =
-        let whole = all_read fault.0 in (
-          count_refused (Some xs) (Some (all ++ ys)) reader.head 65535 messages count found read_head whole read.listed
+        let behind = all_read fault.0 in (
+          count_refused (Some xs) (Some (all ++ ys)) reader.head 65535 messages count found read_head behind read.listed
               (fault.1.states ∙ ap (stated_count reader.head.version) (sym fault.1.reads)) fault.1.differs
               (fault.1.reads ∙ read.counted),
           subst (HasBlocks xs messages) fault.0 has_blocks,

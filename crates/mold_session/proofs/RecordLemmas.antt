@@ -171,7 +171,7 @@ data FaultAt (most count : ℕ) (rest : List ℕ) (error : FileError) : Type 0 w
 
 fault_at : (most count : ℕ) (rest : List ℕ) (error : FileError) → RecordFault most count rest error →
     FaultAt most count rest error
-fault_at most count rest Full fault = full fault.1.0 refl fault.0 fault.1.1
+fault_at most count rest Full fault = full fault.1.more refl fault.0 fault.1.parts
 fault_at most count rest (TooLong len) fault = long len refl fault.0 fault.1
 fault_at most count rest (Damaged number) fault = damaged (ap (λ (n : ℕ). Damaged n) fault.0) fault.1
 fault_at most count rest (Short len) fault = absurd fault

@@ -316,7 +316,7 @@ split_records (suc fuel) base (suc zero ∷ zero ∷ more) short are few = ⊎_e
     (λ message behind within parts shorter bytes. next_records base message (suc zero ∷ zero ∷ more) behind within
     (ap (λ (t : List ℕ). 1 ∷ 0 ∷ t) parts)
     (split_records fuel (base + 1) behind (omega (arith, short, shorter)) bytes (omega (arith, left)))))
-    (λ none. fails base (suc zero ∷ zero ∷ more) few Full (none, (more, refl)))
+    (λ none. fails base (suc zero ∷ zero ∷ more) few Full (none, record { more = more; parts = refl }))
     (cases_lt base 18446744073709551614)
 
 module _ (session : Session) (bytes behind : List ℕ) (ten : length session.0 ≡ 10)

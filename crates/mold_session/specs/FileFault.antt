@@ -91,6 +91,12 @@ pub data IsDamaged (most count : ℕ) (rest : List ℕ) : Type 0 where
   cut_message : (more : List ℕ) → count < MAX_MESSAGES → rest ≡ 1 ∷ 0 ∷ more → EndsInBlock most more →
       IsDamaged most count rest
 
+-- The bytes begin the record of a message: an open gate, and the byte 0.
+pub record StartsMessage (rest : List ℕ) : Type 0 where
+  -- the bytes from the message's block on
+  pub more : List ℕ
+  pub parts : rest ≡ 1 ∷ 0 ∷ more
+
 -- The bytes begin with the record of a message whose length is `len`, which is above `most`.
 pub record IsLongRecord (most : ℕ) (rest : List ℕ) (len : ℕ) : Type 0 where
   -- the bytes from the message's block on
@@ -103,7 +109,7 @@ pub record IsLongRecord (most : ℕ) (rest : List ℕ) (len : ℕ) : Type 0 wher
 -- The fault of the bytes that follow the records of `count` messages: another message would have no number, or it is
 -- too long, or there is neither a whole record nor a shut gate.
 abbrev pub RecordFault : ℕ → ℕ → List ℕ → FileError → Type 0
-RecordFault most count rest Full = (MAX_MESSAGES ≤ count) × ((more : List ℕ) × (rest ≡ 1 ∷ 0 ∷ more))
+RecordFault most count rest Full = (MAX_MESSAGES ≤ count) × StartsMessage rest
 RecordFault most count rest (TooLong len) = (count < MAX_MESSAGES) × IsLongRecord most rest len
 RecordFault most count rest (Damaged number) = (number ≡ count + 1) × IsDamaged most count rest
 RecordFault most count rest _ = ⊥

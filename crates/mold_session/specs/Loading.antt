@@ -11,7 +11,8 @@ use Rattle.mold_session.specs.FileFault.{IsBadFlag}
 use Rattle.mold_session.specs.Journal.{IsWithin}
 use Rattle.mold_session.specs.Records.{head_3, record_of, records, EndsRecords, SpellsJournal3}
 use Rattle.mold_session.specs.declared.error.FileError.{FileError}
-use Rattle.mold_session.specs.declared.error.FileError.TheVariants.{Short, BadMagic, BadFlag, Read, Write, Memory}
+use Rattle.mold_session.specs.declared.error.FileError.TheVariants.{Short, BadMagic, BadFlag, BlockCut, Damaged, Read}
+use Rattle.mold_session.specs.declared.error.FileError.TheVariants.{Write, Memory}
 use Rattle.mold_session.specs.declared.file_version.FileVersion.{FileVersion}
 use Rattle.mold_session.specs.declared.file_version.FileVersion.TheVariants.{One, Two, Three}
 use Rattle.mold_session.specs.declared.journal.TheConstants.{MAX_MESSAGES}
@@ -126,6 +127,11 @@ TakesBlock most known left old new = TakesSpelled block most known left old new
 abbrev pub StartsRecord : Option (List ℕ) → Option (List ℕ) → NextMessage → Type 0
 StartsRecord known left Message = Consumes known left (1 ∷ 0 ∷ [])
 StartsRecord known left (End closed) = IfSome known (EndsRecords closed)
+
+-- The fault of a record whose block has this fault.
+abbrev pub in_record : FileError → FileError
+in_record (BlockCut number) = Damaged number
+in_record error = error
 
 -- The next record was read: that of a message, which was appended to the list. Otherwise the closing record or a shut
 -- gate follows, and the list is unchanged.

@@ -12,7 +12,7 @@ use crate::file_version::FileVersion;
 use crate::journal::MAX_MESSAGES;
 use crate::loading::check_count;
 use crate::magic::{MAGIC_LENGTH, first_magic, second_magic, third_magic};
-use crate::records::{CLOSING_KIND, MESSAGE_KIND, OPEN_GATE};
+use crate::records::{CLOSING_KIND, MESSAGE_KIND, OPEN_GATE, record_fault};
 use byteorder::{BigEndian, ByteOrder};
 use mold_wire::{LENGTH_BYTES, MAX_MESSAGE};
 
@@ -88,14 +88,12 @@ fn skip_record_block(most: u16, count: u64, rest: &[u8]) -> Result<&[u8], FileEr
     if count == MAX_MESSAGES {
         return Err(FileError::Full);
     }
-    let number = count + 1;
     if rest.is_empty() {
-        return Err(FileError::Damaged { number });
+        return Err(FileError::Damaged { number: count + 1 });
     }
     match skip_block(most, count, rest) {
         Ok(behind) => Ok(behind),
-        Err(FileError::BlockCut { .. }) => Err(FileError::Damaged { number }),
-        Err(error) => Err(error),
+        Err(error) => Err(record_fault(error)),
     }
 }
 
@@ -108,15 +106,29 @@ fn skip_record(most: u16, count: u64, rest: &[u8]) -> Result<Option<&[u8]>, File
     ensures few { IfOk result (λ found. IfSome found (λ _. count < MAX_MESSAGES)) }
     ensures refused { IfErr result (RecordFault most count rest.now) }
 {
-    match rest {
-        [OPEN_GATE, MESSAGE_KIND, block @ ..] => match skip_record_block(most, count, block) {
+    let damaged = FileError::Damaged { number: count + 1 };
+    let Some((gate, record)) = rest.split_first() else {
+        return Err(damaged);
+    };
+    if *gate != OPEN_GATE {
+        return Ok(None);
+    }
+    let Some((kind, body)) = record.split_first() else {
+        return Err(damaged);
+    };
+    if *kind == MESSAGE_KIND {
+        return match skip_record_block(most, count, body) {
             Ok(behind) => Ok(Some(behind)),
             Err(error) => Err(error),
-        },
-        [OPEN_GATE, CLOSING_KIND, _, ..] => Ok(None),
-        [] | [OPEN_GATE, ..] => Err(FileError::Damaged { number: count + 1 }),
-        _ => Ok(None),
+        };
     }
+    if *kind != CLOSING_KIND {
+        return Err(damaged);
+    }
+    if body.is_empty() {
+        return Err(damaged);
+    }
+    Ok(None)
 }
 
 // Checks that the bytes are records, and then what ends them.

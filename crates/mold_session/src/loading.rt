@@ -266,9 +266,9 @@ pub fn load_file<S: Source>(
     let mut piece = Piece::new();
     let mut head = read_head(&mut piece, source)?;
     if head.version.has_records() {
-        let (list, closed) = read_records(alloc, most, &mut piece, source)?;
+        let (records, closed) = read_records(alloc, most, &mut piece, source)?;
         head.closed = closed;
-        return Ok((head, list));
+        return Ok((head, records));
     }
     let list = read_blocks(alloc, most, &mut piece, source)?;
     check_count(head.version, list.len() as u64)?;

@@ -1,6 +1,6 @@
 //! Reads the file of a journal message by message.
 
-ghost use Rattle.std.specs.Prelude.{◌≡◌, ◌<◌, ◌≤◌, [], IfErr, IfOk, Some};
+ghost use Rattle.std.specs.Prelude.{◌≡◌, ◌<◌, ◌≤◌, false, [], IfErr, IfOk, Some};
 ghost use Rattle.std.specs.Bool.{OnFalse, OnTrue};
 ghost use Rattle.std.specs.Io.KnownBytes.{prepend_known};
 ghost use Rattle.mold_session.specs.Contents.{Gives};
@@ -11,8 +11,8 @@ ghost use Rattle.mold_wire.specs.declared.limits.TheConstants.{MAX_NUMBER};
 
 use crate::checking::whole_blocks;
 use crate::error::FileError;
-use crate::journal::MAX_MESSAGES;
 use crate::file_version::FileVersion;
+use crate::journal::MAX_MESSAGES;
 use crate::loading::{FileHead, check_count, next_block, read_head};
 use crate::piece::Piece;
 use crate::records::{NextMessage, next_record};

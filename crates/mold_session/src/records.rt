@@ -7,7 +7,7 @@ ghost use Rattle.mold_devices.specs.Faults.{CountsRead};
 ghost use Rattle.mold_session.specs.FileFault.{RecordFault, RecordsFault};
 ghost use Rattle.mold_session.specs.Journal.{AreMessages};
 ghost use Rattle.mold_session.specs.Loading.{work_left, AreRecords, CountsLoad, ReadsRecord, Refuses, StartsRecord};
-ghost use Rattle.mold_session.specs.Loading.{TakesBlock};
+ghost use Rattle.mold_session.specs.Loading.{TakesBlock, in_record};
 ghost use Rattle.mold_session.specs.declared.journal.TheConstants.{MAX_MESSAGES};
 ghost use Rattle.mold_session.specs.declared.records.NextMessage.TheVariants.{Message};
 
@@ -74,6 +74,16 @@ fn start_record<S: Source>(
     Ok(NextMessage::End { closed: true })
 }
 
+/// Returns the fault of a record whose block has this fault.
+pub fn record_fault(error: FileError) -> FileError
+    ensures { result ≡ in_record error }
+{
+    match error {
+        FileError::BlockCut { number } => FileError::Damaged { number },
+        error => error,
+    }
+}
+
 // Takes the block of a record as one more message of the list. `count` messages precede it.
 fn take_block<S: Source>(
     list: &mut MessageList,
@@ -98,10 +108,8 @@ fn take_block<S: Source>(
     }
     match next_block(list, piece, source, most, count) {
         Ok(true) => Ok(()),
-        Ok(false) | Err(FileError::BlockCut { .. }) => {
-            Err(FileError::Damaged { number: count + 1 })
-        }
-        Err(error) => Err(error),
+        Ok(false) => Err(FileError::Damaged { number: count + 1 }),
+        Err(error) => Err(record_fault(error)),
     }
 }
 
@@ -123,11 +131,13 @@ pub fn next_record<S: Source>(
         work_left (S.bound source.new) piece.new < work_left (S.bound source.old) piece.old) }
     ensures failures { CountsLoad (S.failed source.old) (S.failed source.new) result }
 {
-    let next = start_record(piece, source, count)?;
-    if let NextMessage::Message = next {
-        take_block(list, piece, source, most, count)?;
+    match start_record(piece, source, count)? {
+        NextMessage::Message => {
+            take_block(list, piece, source, most, count)?;
+            Ok(NextMessage::Message)
+        }
+        NextMessage::End { closed } => Ok(NextMessage::End { closed }),
     }
-    Ok(next)
 }
 
 // Reads on to the end of the source.

@@ -14,10 +14,13 @@ use Rattle.mold_session.specs.Contents.{FileContents}
 use Rattle.mold_session.specs.File.{head_1, head_2}
 use Rattle.mold_session.specs.Journal.{IsWithin, JournalState, append_refusal, appended, fresh_journal}
 use Rattle.mold_session.specs.Loading.{SpellsFile}
+use Rattle.mold_session.specs.Records.{head_3, record_of, records}
 use Rattle.mold_wire.specs.declared.limits.TheConstants.{MESSAGE_OVERHEAD}
 use Rattle.mold_session.specs.declared.error.AppendError.{AppendError}
 use Rattle.mold_session.specs.declared.error.AppendError.TheVariants.{Closed, TooLong, Full}
 use Rattle.mold_session.specs.declared.error.FileError.{FileError}
+use Rattle.mold_session.specs.declared.file_version.FileVersion.{FileVersion}
+use Rattle.mold_session.specs.declared.file_version.FileVersion.TheVariants.{One, Two, Three}
 use Rattle.mold_session.specs.declared.loading.FileHead.{FileHead}
 use Rattle.mold_input.specs.declared.input_kind.InputKind.TheVariants as kind
 use Rattle.mold_input.specs.declared.message_format.MessageFormat.{MessageFormat}
@@ -104,19 +107,30 @@ message_bytes (message ∷ messages) are = (
   message_bytes messages (back_bytes (block message) (blocks messages) are),
 )
 
-file_bytes : (bytes : List ℕ) (head : FileHead) (messages : List (List ℕ)) (stated : Option ℕ) → IsBytes bytes →
-    SpellsFile head messages stated bytes → AllByRecursion IsBytes messages
-file_bytes bytes head messages None are spelled =
+record_bytes : (messages : List (List ℕ)) → IsBytes (records messages) → AllByRecursion IsBytes messages
+record_bytes [] are = tt
+record_bytes (message ∷ messages) are = (
+  back_bytes (1 ∷ 0 ∷ be16 (length message)) message (front_bytes (record_of message) (records messages) are),
+  record_bytes messages (back_bytes (record_of message) (records messages) are),
+)
+
+file_bytes : (bytes : List ℕ) (head : FileHead) (messages : List (List ℕ)) (version : FileVersion) → IsBytes bytes →
+    SpellsFile head messages version bytes → AllByRecursion IsBytes messages
+file_bytes bytes head messages One are spelled =
     message_bytes messages (back_bytes (head_1 head.session.0) (blocks messages)
     (subst IsBytes spelled.1.spelled are))
-file_bytes bytes head messages (Some count) are spelled =
+file_bytes bytes head messages (Two count) are spelled =
     message_bytes messages (back_bytes (head_2 head.session.0 head.closed (length messages)) (blocks messages)
     (subst IsBytes spelled.spelled are))
+file_bytes bytes head messages Three are spelled =
+    record_bytes messages (front_bytes (records messages) spelled.rest
+    (back_bytes (head_3 head.session.0) (records messages ++ spelled.rest) (subst IsBytes spelled.spelled are)))
 
-file_few : (bytes : List ℕ) (head : FileHead) (messages : List (List ℕ)) (stated : Option ℕ) →
-    SpellsFile head messages stated bytes → length messages < 18446744073709551615
-file_few bytes head messages None spelled = spelled.1.listed.few
-file_few bytes head messages (Some count) spelled = spelled.listed.few
+file_few : (bytes : List ℕ) (head : FileHead) (messages : List (List ℕ)) (version : FileVersion) →
+    SpellsFile head messages version bytes → length messages < 18446744073709551615
+file_few bytes head messages One spelled = spelled.1.listed.few
+file_few bytes head messages (Two count) spelled = spelled.listed.few
+file_few bytes head messages Three spelled = spelled.listed.few
 
 -- ---- the messages that are published
 
@@ -174,13 +188,13 @@ dump_all count format = record { from = 1; count = count; format = format }
 
 -- The contents of the file of a journal.
 same_contents : OneContents → (head : FileHead) (messages : List (List ℕ)) (bytes : List ℕ)
-    (contents : FileContents bytes) → SpellsFile head messages head.stated bytes →
+    (contents : FileContents bytes) → SpellsFile head messages head.version bytes →
     (contents.messages ≡ messages) × (contents.fault ≡ None)
 same_contents law head messages bytes contents spelled =
     law bytes contents (record { messages = messages; fault = None; gives = (head, spelled) })
 
 lines_printed : OneContents → (head : FileHead) (messages : List (List ℕ)) (bytes : List ℕ)
-    (contents : FileContents bytes) (count : ℕ) → SpellsFile head messages head.stated bytes →
+    (contents : FileContents bytes) (count : ℕ) → SpellsFile head messages head.version bytes →
     length messages ≤ count → dump_text (dump_all count Lines) contents ≡ messages_text Lines messages
 lines_printed law head messages bytes contents count spelled all =
     let same = same_contents law head messages bytes contents spelled in
@@ -193,7 +207,7 @@ lines_printed law head messages bytes contents count spelled all =
     ∙ ap (messages_text Lines) (take_all count messages all)
 
 pub dump_published : OneContents → (head : FileHead) (messages : List (List ℕ)) (bytes : List ℕ)
-    (contents : FileContents bytes) (limit count : ℕ) → IsBytes bytes → SpellsFile head messages head.stated bytes →
+    (contents : FileContents bytes) (limit count : ℕ) → IsBytes bytes → SpellsFile head messages head.version bytes →
     AllByRecursion (IsWithin (limit - 22)) messages → length messages ≤ count →
     lines_published (fresh_journal head.session (limit - MESSAGE_OVERHEAD))
     (lines_of (dump_text (dump_all count Lines) contents))
@@ -202,13 +216,13 @@ dump_published law head messages bytes contents limit count are spelled within a
     ap (λ (t : List ℕ). lines_published (fresh_journal head.session (limit - MESSAGE_OVERHEAD)) (lines_of t))
     (lines_printed law head messages bytes contents count spelled all)
     ∙ ap (lines_published (fresh_journal head.session (limit - MESSAGE_OVERHEAD))) (printed_lines messages)
-    ∙ all_published messages (fresh_journal head.session (limit - MESSAGE_OVERHEAD)) refl (file_bytes bytes head messages head.stated are spelled) within
-    (omega (arith, file_few bytes head messages head.stated spelled))
+    ∙ all_published messages (fresh_journal head.session (limit - MESSAGE_OVERHEAD)) refl (file_bytes bytes head messages head.version are spelled) within
+    (omega (arith, file_few bytes head messages head.version spelled))
 
 -- ---- blocks
 
 module _ (law : OneContents) (head : FileHead) (messages : List (List ℕ)) (bytes : List ℕ)
-    (contents : FileContents bytes) (count : ℕ) (spelled : SpellsFile head messages head.stated bytes)
+    (contents : FileContents bytes) (count : ℕ) (spelled : SpellsFile head messages head.version bytes)
     (all : length messages ≤ count) where
   same_as_file : (contents.messages ≡ messages) × (contents.fault ≡ None)
   same_as_file = same_contents law head messages bytes contents spelled

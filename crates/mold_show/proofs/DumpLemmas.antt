@@ -8,10 +8,10 @@ use Rattle.std.proofs.KnownBytes.{Appends-nil, Appends-trans}
 use Rattle.mold_devices.specs.Devices.{AppendsPrefix}
 use Rattle.mold_devices.specs.Writing.{Moves}
 use Rattle.mold_session.specs.Contents.{FileContents, Gives, IsFront}
-use Rattle.mold_session.specs.File.{SpellsJournal, SpellsJournal2}
-use Rattle.mold_session.specs.Loading.{Refuses}
-use Rattle.mold_session.specs.Reader.{HasRead, PassesBlocks, ReaderState, ReadsNext, RestFault, TakesBlocks}
+use Rattle.mold_session.specs.Loading.{Refuses, SpellsFile}
+use Rattle.mold_session.specs.Reader.{EndsWith, HasRead, PassesBlocks, ReaderState, ReadsNext, RestFault, TakesBlocks}
 use Rattle.mold_session.specs.declared.error.FileError.{FileError}
+use Rattle.mold_session.specs.declared.loading.FileHead.{FileHead}
 use Rattle.mold_show.specs.Dump.{PassesNext, blocks_left, dump_errors}
 use Rattle.mold_show.specs.Dump.{dump_text, dumped}
 use Rattle.mold_show.specs.Dump.{ends_session, fault_of}
@@ -20,7 +20,6 @@ use Rattle.mold_show.specs.declared.dump_options.DumpOptions.{DumpOptions}
 use Rattle.mold_show.proofs.DumpedLemmas.{first_texts, no_texts, none_pass, passes_more, printed_blocks}
 use Rattle.mold_show.proofs.DumpedLemmas.{texts_more}
 use Rattle.mold_wire.specs.Block.{blocks}
-use Rattle.mold_wire.specs.declared.session.Session.{Session}
 
 -- ---- what was written so far
 
@@ -41,13 +40,11 @@ pub record Dumping (options : DumpOptions) (known left old now : Option (List �
   pub read : HasRead known left reader messages
   pub gathered : Gathered options known old now messages text
 
--- The laws of mold_session about whether a file states that its session is closed.
+-- The law of mold_session that bytes are the file of at most one journal.
 pub record FileLaws : Type 0 where
-  pub same_head : (one other : Session) (messages others : List (List ℕ)) (closed shut : Bool) (bytes : List ℕ) →
-      SpellsJournal2 one messages closed bytes → SpellsJournal2 other others shut bytes →
-      (one ≡ other) × (messages ≡ others) × (closed ≡ shut)
-  pub one_version : (one other : Session) (messages others : List (List ℕ)) (closed : Bool) (bytes : List ℕ) →
-      SpellsJournal one messages bytes → SpellsJournal2 other others closed bytes → ⊥
+  pub one_file : (head other : FileHead) (messages others : List (List ℕ)) (bytes : List ℕ) →
+      SpellsFile head messages head.version bytes → SpellsFile other others other.version bytes →
+      (head.session ≡ other.session) × (messages ≡ others) × (head.closed ≡ other.closed)
 
 -- The laws of mold_session about a reader and about files.
 pub record ReaderLaws : Type 0 where
@@ -61,11 +58,14 @@ pub record ReaderLaws : Type 0 where
       PassesBlocks limit reader next more → HasRead known (prepend_known next.rest left) next (messages ++ more)
   pub refused : (known left : Option (List ℕ)) (reader : ReaderState) (messages : List (List ℕ))
       (error : FileError) → HasRead known left reader messages →
-      Refuses (RestFault reader.head.stated reader.count) left error →
+      Refuses (RestFault reader.head.version reader.count) left error →
       Refuses (λ bytes why. Gives bytes messages (Some why)) known error
   pub front : (known left : Option (List ℕ)) (reader : ReaderState) (messages : List (List ℕ)) →
       HasRead known left reader messages →
       IfSome known (λ bytes. (contents : FileContents bytes) → IsFront messages contents.messages)
+  pub file : (known left : Option (List ℕ)) (reader : ReaderState) (messages : List (List ℕ)) (head : FileHead) →
+      HasRead known left reader messages → EndsWith left reader head →
+      IfSome known (λ bytes. SpellsFile head messages head.version bytes)
   pub files : FileLaws
 
 none_first : (known : Option (List ℕ)) →

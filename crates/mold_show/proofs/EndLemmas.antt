@@ -2,7 +2,7 @@
 use Rattle.std.proofs.Common.{◌≡◌, ◌⊎◌, ℕ, ◌+◌, Bool, true, false}
 use Rattle.std.proofs.Common.{List, [], ◌∷◌, ◌++◌, length, Option, None, Some}
 use Rattle.std.proofs.Common.{Result, Ok, Err, refl, sym, ap, subst, ◌∙◌, append_assoc, append-nil, inl, inr}
-use Rattle.std.specs.Prelude.{IfSome, IfOk, IsErrAnd, OnOk, if◌then◌else◌, option_map, unwrap_or}
+use Rattle.std.specs.Prelude.{IfSome, IfOk, IsErrAnd, OnOk, if◌then◌else◌, option_map}
 use Rattle.std.proofs.Common.{⊎_elim}
 use Rattle.std.proofs.lemmas.Option.{none-some}
 use Rattle.std.specs.Io.KnownBytes.{Appends}
@@ -14,12 +14,10 @@ use Rattle.mold_devices.specs.declared.fault.CommandFault.TheVariants as command
 use Rattle.mold_input.specs.declared.message_format.MessageFormat.{MessageFormat}
 use Rattle.mold_input.specs.declared.message_format.MessageFormat.TheVariants.{Lines, Blocks, BlocksToEmpty}
 use Rattle.mold_session.specs.Contents.{FileContents, Gives, IsFront}
-use Rattle.mold_session.specs.File.{head_2}
-use Rattle.mold_session.specs.Journal.{AreMessages}
-use Rattle.mold_session.specs.Loading.{IsStated, Refuses, SpellsFile, head_spelling}
-use Rattle.mold_session.specs.Reader.{ReaderState, HasRead, EndsWith}
+use Rattle.mold_session.specs.Loading.{Refuses, SpellsFile}
+use Rattle.mold_session.specs.Reader.{ReaderState, EndsWith}
 use Rattle.mold_session.specs.declared.error.FileError.{FileError}
-use Rattle.mold_session.specs.declared.error.FileError.TheVariants.{TooLong, Memory, BadMagic, Short, BlockCut, Read, Write, Full, CountDiffers, BadFlag}
+use Rattle.mold_session.specs.declared.error.FileError.TheVariants.{TooLong, Memory, BadMagic, Short, BlockCut, Read, Write, Full, CountDiffers, BadFlag, Damaged}
 use Rattle.mold_session.specs.declared.loading.FileHead.{FileHead}
 use Rattle.mold_show.specs.Dump.{CountsDump, CountsEither, CountsEnd}
 use Rattle.mold_show.specs.Dump.{HasContents, IsTold, dump_errors, dump_fault, dump_status, dump_text, dumped}
@@ -31,58 +29,14 @@ use Rattle.mold_show.specs.declared.dump_fault.DumpFault.TheVariants.{Empty, Fil
 use Rattle.mold_show.specs.declared.dump_options.DumpOptions.{DumpOptions}
 use Rattle.mold_show.proofs.DumpLemmas.{Dumping, FileLaws, Gathered, ReaderLaws, front_after, front_more, gathered_none, texts_front}
 use Rattle.mold_show.proofs.DumpedLemmas.{number_asked, printable_all, stopped}
-use Rattle.mold_wire.specs.Block.{blocks}
-use Rattle.mold_wire.specs.declared.block.TheConstants.{MAX_MESSAGE}
-
--- ---- a file that was read to its end
-
-spelled_by : (head : FileHead) (stated : Option ℕ) (messages : List (List ℕ)) (bytes : List ℕ) →
-    length head.session.0 ≡ 10 → IsStated head.closed stated → AreMessages MAX_MESSAGE messages →
-    bytes ≡ head_spelling head.session.0 head.closed stated ++ blocks messages →
-    unwrap_or stated (length messages) ≡ length messages → SpellsFile head messages stated bytes
-spelled_by head None messages bytes named said listed spelled states =
-    (said, record { named = named; listed = listed; spelled = spelled })
-spelled_by head (Some count) messages bytes named said listed spelled states = record {
-  named = named;
-  listed = listed;
-  spelled = spelled ∙ ap (λ (n : ℕ). head_2 head.session.0 head.closed n ++ blocks messages) states;
-}
-
-all_read : (bytes left : List ℕ) (reader : ReaderState) (messages : List (List ℕ)) →
-    HasRead (Some bytes) (Some left) reader messages → EndsWith (Some left) reader →
-    SpellsFile reader.head messages reader.head.stated bytes
-all_read bytes left reader messages read ends =
-    let head = reader.head in
-    let spelling = head_spelling head.session.0 head.closed head.stated ++ blocks messages in
-    spelled_by head head.stated messages bytes read.named read.said read.listed
-    (read.consumed ∙ ap (λ (t : List ℕ). spelling ++ t) ends.over ∙ append-nil spelling)
-    (subst (λ (n : ℕ). unwrap_or head.stated n ≡ n) read.counted ends.stated)
-
-file_read : (known left : Option (List ℕ)) (reader : ReaderState) (messages : List (List ℕ)) →
-    HasRead known left reader messages → EndsWith left reader →
-    IfSome known (λ bytes. SpellsFile reader.head messages reader.head.stated bytes)
-file_read None left reader messages read ends = tt
-file_read (Some bytes) None reader messages read ends = absurd read.consumed
-file_read (Some bytes) (Some left) reader messages read ends = all_read bytes left reader messages read ends
 
 -- ---- a file states in one way whether its session is closed
 
-one_closed : FileLaws → (head other : FileHead) (stated states : Option ℕ) (messages others : List (List ℕ))
-    (bytes : List ℕ) → SpellsFile head messages stated bytes → SpellsFile other others states bytes →
-    head.closed ≡ other.closed
-one_closed laws head other None None messages others bytes one two = one.0 ∙ sym two.0
-one_closed laws head other None (Some count) messages others bytes one two =
-    absurd (laws.one_version head.session other.session messages others other.closed bytes one.1 two)
-one_closed laws head other (Some count) None messages others bytes one two =
-    absurd (laws.one_version other.session head.session others messages head.closed bytes two.1 one)
-one_closed laws head other (Some count) (Some found) messages others bytes one two =
-    (laws.same_head head.session other.session messages others head.closed other.closed bytes one two).2
-
 pub closed_of : FileLaws → (head : FileHead) (messages : List (List ℕ)) (bytes : List ℕ) (others : List (List ℕ))
-    (fault : Option FileError) (gives : Gives bytes others fault) → SpellsFile head messages head.stated bytes →
+    (fault : Option FileError) (gives : Gives bytes others fault) → SpellsFile head messages head.version bytes →
     fault ≡ None → states_closed bytes others fault gives ≡ head.closed
 closed_of laws head messages bytes others None gives spelled none =
-    one_closed laws gives.0 head gives.0.stated head.stated others messages bytes gives.1 spelled
+    (laws.one_file gives.0 head others messages bytes gives.1 spelled).2
 closed_of laws head messages bytes others (Some error) gives spelled none = absurd (none-some error (sym none))
 
 -- ---- how a dump ended
@@ -91,7 +45,7 @@ closed_of laws head messages bytes others (Some error) gives spelled none = absu
 pub record EndsWhole (options : DumpOptions) (known : Option (List ℕ)) (messages : List (List ℕ)) (mark : List ℕ) :
     Type 0 where
   pub head : FileHead
-  pub spelled : IfSome known (λ bytes. SpellsFile head messages head.stated bytes)
+  pub spelled : IfSome known (λ bytes. SpellsFile head messages head.version bytes)
   pub marked : mark ≡ last_text options.format None (reaches_end options head.closed (length messages))
 
 -- An empty message that cannot be printed follows these messages.
@@ -131,6 +85,7 @@ line_told (Some (File Full)) told = refl
 line_told (Some (File (TooLong len))) told = refl
 line_told (Some (File (BlockCut number))) told = refl
 line_told (Some (File (CountDiffers count found))) told = refl
+line_told (Some (File (Damaged number))) told = refl
 
 errors_told : (format : MessageFormat) (ended : Option DumpFault) → IsTold ended →
     ended_errors format ended ≡ fault_text format ended
@@ -168,6 +123,7 @@ gives_told bytes messages Full refused told = refused
 gives_told bytes messages (TooLong len) refused told = refused
 gives_told bytes messages (BlockCut number) refused told = refused
 gives_told bytes messages (CountDiffers count found) refused told = refused
+gives_told bytes messages (Damaged number) refused told = refused
 
 -- If all messages asked for can be printed, the fault is that of the file.
 pub file_fault : (options : DumpOptions) (messages : List (List ℕ)) (fault : Option FileError) →
@@ -197,7 +153,7 @@ module _ (laws : ReaderLaws) (options : DumpOptions) (bytes : List ℕ) (content
       (ap (λ (ms : List (List ℕ)). has_unprintable options.format (dumped options ms)) same ∙ passes)
       ∙ ap (option_map File) is
 
-  finished_whole : (head : FileHead) → SpellsFile head messages head.stated bytes →
+  finished_whole : (head : FileHead) → SpellsFile head messages head.version bytes →
       mark ≡ last_text options.format None (reaches_end options head.closed (length messages)) →
       IsFinished options bytes contents messages mark None
   finished_whole head spelled marked =
@@ -302,6 +258,7 @@ is_told (Some (File Full)) = inl tt
 is_told (Some (File (TooLong len))) = inl tt
 is_told (Some (File (BlockCut number))) = inl tt
 is_told (Some (File (CountDiffers count found))) = inl tt
+is_told (Some (File (Damaged number))) = inl tt
 
 untold_text : (format : MessageFormat) (ended : Option DumpFault) → ended_line ended ≡ [] → ended_text format ended ≡ []
 untold_text Lines ended none = none
@@ -465,21 +422,22 @@ ending_head options known old text error none refused = record {
 }
 
 -- The file was read to its end.
-pub ending_whole : (options : DumpOptions) (known left old mid : Option (List ℕ)) (reader : ReaderState)
-    (text now : List ℕ) → Dumping options known left old mid reader text → EndsWith left reader →
-    now ≡ text ++ last_text options.format None (reaches_end options reader.head.closed reader.count) →
+pub ending_whole : ReaderLaws → (options : DumpOptions) (known left old mid : Option (List ℕ)) (reader : ReaderState)
+    (head : FileHead) (text now : List ℕ) → Dumping options known left old mid reader text →
+    EndsWith left reader head →
+    now ≡ text ++ last_text options.format None (reaches_end options head.closed reader.count) →
     Ending options known old mid now None
-ending_whole options known left old mid reader text now so_far ends is =
-    let mark = last_text options.format None (reaches_end options reader.head.closed reader.count) in
+ending_whole laws options known left old mid reader head text now so_far ends is =
+    let mark = last_text options.format None (reaches_end options head.closed reader.count) in
     record {
       messages = so_far.messages;
       text = text;
       mark = mark;
       gathered = so_far.gathered;
       ends = record {
-        head = reader.head;
-        spelled = file_read known left reader so_far.messages so_far.read ends;
-        marked = ap (λ (n : ℕ). last_text options.format None (reaches_end options reader.head.closed n))
+        head = head;
+        spelled = laws.file known left reader so_far.messages head so_far.read ends;
+        marked = ap (λ (n : ℕ). last_text options.format None (reaches_end options head.closed n))
             so_far.read.counted;
       };
       parts = is;

@@ -19,10 +19,8 @@ laws_of g c = record {
   blocks = c.reader_law.ensures.blocks;
   refused = c.reader_law.ensures.refused;
   front = c.reader_law.ensures.front;
-  files = record {
-    same_head = c.one_file_law.ensures.one_journal_2;
-    one_version = c.one_file_law.ensures.one_version;
-  };
+  file = c.reader_law.ensures.file;
+  files = record { one_file = c.one_file_law.ensures.one_file };
 }
 
 -- ---- a head that is refused
@@ -92,12 +90,13 @@ messages-init g c = record {
 
 -- ---- the end of the file
 
-ended : (g : Over) (c : In-Ok-false g) → Ending c.args.options (g.S.Source.left c.args.source.now)
+ended : (g : Over) (c : In-Ok-false g) → ReaderLaws → Ending c.args.options (g.S.Source.left c.args.source.now)
     (g.K.Sink.held c.args.sink.now) (g.K.Sink.held c.messages.sink) c.dump_next.new.text.items None
-ended g c =
-    ending_whole c.args.options (g.S.Source.left c.args.source.now)
+ended g c laws =
+    ending_whole laws c.args.options (g.S.Source.left c.args.source.now)
     (prepend_known c.messages.reader.rest (g.S.Source.left c.messages.source)) (g.K.Sink.held c.args.sink.now)
-    (g.K.Sink.held c.messages.sink) c.messages.reader c.messages.text.items c.dump_next.new.text.items
+    (g.K.Sink.held c.messages.sink) c.messages.reader c.dump_next.new.reader.head c.messages.text.items
+    c.dump_next.new.text.items
     c.messages.invariant.dumping (rw c.in-Ok-false.field-0-test at c.in-Ok-false.ensures.end)
     (rw c.in-Ok-false.field-0-test at c.in-Ok-false.ensures.mark)
 
@@ -105,21 +104,21 @@ pub returns-in-Ok-false-clause-contents : goal.returns-in-Ok-false-clause-conten
 returns-in-Ok-false-clause-contents g c =
     let at = goal.at.returns-in-Ok-false-clause-contents g c in
     ended_contents (laws_of g at.After-one_file_law) c.args.options (g.S.Source.left c.args.source.now) _ _ _
-    c.dump_next.new.text.items None c.end_dump-in-Ok-false.result (ended g at.In-Ok-false)
+    c.dump_next.new.text.items None c.end_dump-in-Ok-false.result (ended g at.In-Ok-false (laws_of g at.After-one_file_law))
     c.end_dump-in-Ok-false.ensures.told c.end_dump-in-Ok-false.ensures.whole
 
 pub returns-in-Ok-false-clause-whole : goal.returns-in-Ok-false-clause-whole
 returns-in-Ok-false-clause-whole g c =
     let at = goal.at.returns-in-Ok-false-clause-whole g c in
     ended_whole (laws_of g at.After-one_file_law) c.args.options (g.S.Source.left c.args.source.now) _ _ _
-    c.dump_next.new.text.items None c.end_dump-in-Ok-false.result (ended g at.In-Ok-false)
+    c.dump_next.new.text.items None c.end_dump-in-Ok-false.result (ended g at.In-Ok-false (laws_of g at.After-one_file_law))
     c.end_dump-in-Ok-false.ensures.told c.end_dump-in-Ok-false.ensures.whole
 
 pub returns-in-Ok-false-clause-report : goal.returns-in-Ok-false-clause-report
 returns-in-Ok-false-clause-report g c =
     let at = goal.at.returns-in-Ok-false-clause-report g c in
     ended_report (laws_of g at.After-one_file_law) c.args.options (g.S.Source.left c.args.source.now) _ _ _ _
-    c.dump_next.new.text.items None c.end_dump-in-Ok-false.result (ended g at.In-Ok-false)
+    c.dump_next.new.text.items None c.end_dump-in-Ok-false.result (ended g at.In-Ok-false (laws_of g at.After-one_file_law))
     c.end_dump-in-Ok-false.ensures.told (subst
     (λ (h : Option (List ℕ)).
     OnOk c.end_dump-in-Ok-false.result (Appends h (g.E.Sink.held c.end_dump-in-Ok-false.new.errors) (ended_errors c.args.options.format None)))
@@ -129,13 +128,13 @@ pub returns-in-Ok-false-clause-front : goal.returns-in-Ok-false-clause-front
 returns-in-Ok-false-clause-front g c =
     let at = goal.at.returns-in-Ok-false-clause-front g c in
     ended_front (laws_of g at.After-one_file_law) c.args.options (g.S.Source.left c.args.source.now) _ _ _
-    c.dump_next.new.text.items None (ended g at.In-Ok-false) c.end_dump-in-Ok-false.ensures.front
+    c.dump_next.new.text.items None (ended g at.In-Ok-false (laws_of g at.After-one_file_law)) c.end_dump-in-Ok-false.ensures.front
 
 pub returns-in-Ok-false-clause-errors : goal.returns-in-Ok-false-clause-errors
 returns-in-Ok-false-clause-errors g c =
     let at = goal.at.returns-in-Ok-false-clause-errors g c in
     ended_errors_front (laws_of g at.After-one_file_law) c.args.options (g.S.Source.left c.args.source.now) _ _ _ _
-    c.dump_next.new.text.items None (ended g at.In-Ok-false) (subst
+    c.dump_next.new.text.items None (ended g at.In-Ok-false (laws_of g at.After-one_file_law)) (subst
     (λ (h : Option (List ℕ)).
     AppendsPrefix h (g.E.Sink.held c.end_dump-in-Ok-false.new.errors) (ended_errors c.args.options.format None))
     c.messages.invariant.held c.end_dump-in-Ok-false.ensures.errors)

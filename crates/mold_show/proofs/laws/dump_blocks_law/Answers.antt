@@ -13,16 +13,14 @@ returns-clause-blocks c head messages bytes contents count spelled all =
 pub returns-clause-closed : goal.returns-clause-closed
 returns-clause-closed c head messages bytes contents count spelled all none is =
     let files : FileLaws = record {
-      same_head = c.one_file_law.ensures.one_journal_2;
-      one_version = c.one_file_law.ensures.one_version;
+      one_file = c.one_file_law.ensures.one_file;
     } in
     ended_printed c.contents_law.ensures.one head messages bytes contents count spelled all files true none is
 
 pub returns-clause-open : goal.returns-clause-open
 returns-clause-open c head messages bytes contents count spelled all none is =
     let files : FileLaws = record {
-      same_head = c.one_file_law.ensures.one_journal_2;
-      one_version = c.one_file_law.ensures.one_version;
+      one_file = c.one_file_law.ensures.one_file;
     } in
     subst (PrintsAll (dump_all count BlocksToEmpty) contents) (append-nil (blocks messages))
     (ended_printed c.contents_law.ensures.one head messages bytes contents count spelled all files false none is)
