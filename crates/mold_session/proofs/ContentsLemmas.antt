@@ -1,5 +1,5 @@
 -- A file has one list of messages and one fault, and blocks that were read are a prefix of its messages.
-use Rattle.std.proofs.Common.{◌≡◌, ℕ, ◌+◌, ◌<◌, ◌≤◌, List, [], ◌∷◌, ◌++◌, length, length-append, Option, None, Some}
+use Rattle.std.proofs.Common.{◌≡◌, ℕ, ◌+◌, ◌<◌, ◌≤◌, List, [], ◌∷◌, ◌++◌, length, Option, None, Some}
 use Rattle.std.proofs.Common.{refl, sym, ap, subst, ◌∙◌, append_assoc, append-nil, inl, inr, arith, ⊎_elim}
 use Rattle.std.specs.List.{AllByRecursion}
 use Rattle.mold_wire.specs.Block.{block, blocks}

@@ -1,5 +1,5 @@
 -- The contents of a file, given the messages that were read of it.
-use Rattle.std.proofs.Common.{◌≡◌, ℕ, ◌<◌, ◌≤◌, Bool, true, false, true≢false, List, [], ◌∷◌, ◌++◌, length, length-append, Option}
+use Rattle.std.proofs.Common.{◌≡◌, ℕ, ◌<◌, ◌≤◌, true, false, true≢false, List, [], ◌∷◌, ◌++◌, length, length-append, Option}
 use Rattle.std.proofs.Common.{None, Some, refl, sym, ap, subst, ◌∙◌, append_assoc, append-nil, inl, inr, arith}
 use Rattle.std.specs.Prelude.{IfSome}
 use Rattle.std.specs.Io.KnownBytes.{Consumes, prepend_known}
@@ -13,9 +13,8 @@ use Rattle.mold_session.specs.FileFault.{IsBody3, BlockFault, HasRecords, Journa
 use Rattle.mold_session.specs.Journal.{IsWithin}
 use Rattle.mold_session.specs.Loading.{head_spelling, has_records, message_spelling, messages_spelling, stated_count}
 use Rattle.mold_session.specs.Loading.{IsOfHead, IsStated, ReadsHead, Refuses, SpellsFile}
-use Rattle.mold_session.specs.Reader.{BlocksRestFault, EndsFile, EndsWith, HasRead, PassesBlocks, ReaderState, ReadsNext}
+use Rattle.mold_session.specs.Reader.{BlocksRestFault, EndsWith, HasRead, PassesBlocks, ReaderState, ReadsNext}
 use Rattle.mold_session.specs.Reader.{RestFault, head_at_end}
-use Rattle.mold_session.specs.Records.{records}
 use Rattle.mold_session.specs.declared.error.FileError.{FileError}
 use Rattle.mold_session.specs.declared.error.FileError.TheVariants.{TooLong, Memory, BadMagic, Short, BlockCut, Read, Write, Full, CountDiffers, BadFlag, Damaged}
 use Rattle.mold_session.specs.declared.file_version.FileVersion.{FileVersion}

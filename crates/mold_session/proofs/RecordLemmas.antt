@@ -1,5 +1,5 @@
 -- Records: the messages, the rest and the fault of bytes that have records are unique.
-use Rattle.std.proofs.Common.{◌≡◌, ◌⊎◌, ℕ, ◌+◌, ◌<◌, ◌≤◌, Bool, true, false, List, [], ◌∷◌, ◌++◌, length, length-append}
+use Rattle.std.proofs.Common.{◌≡◌, ℕ, ◌+◌, ◌<◌, ◌≤◌, Bool, true, false, List, [], ◌∷◌, ◌++◌, length, length-append}
 use Rattle.std.proofs.Common.{drop, get_or, refl, sym, ap, subst, ◌∙◌, append_assoc, append-nil, inl, inr, arith}
 use Rattle.std.proofs.lemmas.List.{append_cancel_left}
 use Rattle.std.specs.List.{AllByRecursion}
@@ -7,7 +7,7 @@ use Rattle.byteorder.specs.Endian.{big_number}
 use Rattle.mold_wire.specs.Block.{block}
 use Rattle.mold_session.specs.Contents.{IsFront}
 use Rattle.mold_session.specs.FileFault.{EndsInBlock, IsDamaged, no_gate, no_kind, bad_kind, cut_closing, cut_message}
-use Rattle.mold_session.specs.FileFault.{IsLongRecord, RecordFault, HasRecords, PrecedeRecord, RecordsFault, FaultInRecords}
+use Rattle.mold_session.specs.FileFault.{IsLongRecord, RecordFault, HasRecords, RecordsFault}
 use Rattle.mold_session.specs.Journal.{IsWithin}
 use Rattle.mold_session.specs.Records.{record_of, records, IsShut, IsClosing, EndsRecords}
 use Rattle.mold_session.specs.declared.error.FileError.{FileError}

@@ -1,6 +1,6 @@
 -- How the next record is read, and the records that were read so far.
-use Rattle.std.proofs.Common.{◌≡◌, ℕ, ◌+◌, ◌<◌, ◌≤◌, Bool, true, false, List, [], ◌∷◌, ◌++◌, length, length-append}
-use Rattle.std.proofs.Common.{append-nil, Option, None, Some, refl, sym, ap, subst, ◌∙◌, inl, inr, arith}
+use Rattle.std.proofs.Common.{◌≡◌, ℕ, ◌+◌, ◌<◌, Bool, true, false, List, [], ◌∷◌, ◌++◌, length, length-append}
+use Rattle.std.proofs.Common.{append-nil, Option, None, Some, refl, sym, ap, subst, ◌∙◌, inl, arith}
 use Rattle.std.specs.Prelude.{IfSome}
 use Rattle.std.specs.Io.KnownBytes.{Consumes, IsAtEnd, prepend_known}
 use Rattle.std.specs.List.{AllByRecursion}
@@ -10,7 +10,7 @@ use Rattle.mold_wire.specs.Block.{block}
 use Rattle.mold_session.specs.Checking.{IsEnd}
 use Rattle.mold_session.specs.FileFault.{BlockFault, IsDamaged, RecordFault, RecordsFault}
 use Rattle.mold_session.specs.FileFault.{no_gate, no_kind, bad_kind, cut_closing, cut_message}
-use Rattle.mold_session.specs.Journal.{AreMessages, IsWithin}
+use Rattle.mold_session.specs.Journal.{IsWithin}
 use Rattle.mold_session.specs.Loading.{AreRecords, CountsLoadFault, Refuses, TakesBlock, TakesSpelled, in_record}
 use Rattle.mold_session.specs.Records.{record_of, records, EndsRecords}
 use Rattle.mold_session.specs.declared.error.FileError.{FileError}

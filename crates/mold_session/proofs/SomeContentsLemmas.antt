@@ -1,6 +1,6 @@
 -- All bytes have contents as a file.
 use Rattle.std.proofs.Common.{◌≡◌, ◌⊎◌, ℕ, zero, suc, ◌+◌, ◌<◌, ◌≤◌, ◌^◌, eqb, Bool, true, false, List, [], ◌∷◌}
-use Rattle.std.proofs.Common.{◌++◌, length, length-drop, take, drop, get_or, take-append-drop, Option, None}
+use Rattle.std.proofs.Common.{◌++◌, length, length-drop, take, drop, get_or, take-append-drop, None}
 use Rattle.std.proofs.Common.{Some, refl, sym, ap, subst, ◌∙◌, append_assoc, inl, inr, arith, ⊎_elim}
 use Rattle.std.proofs.lemmas.Bool.{cases_eq, cases_lt}
 use Rattle.std.proofs.Common.{true≢false, drop-drop}
@@ -13,11 +13,11 @@ use Rattle.mold_wire.specs.Block.{IsBytes, be16, be64, block, blocks}
 use Rattle.mold_wire.specs.declared.session.Session.{Session}
 use Rattle.mold_session.specs.Contents.{FileContents, Gives}
 use Rattle.mold_session.specs.File.{magic_1, magic_2, closed_byte}
-use Rattle.mold_session.specs.FileFault.{EndsInBlock, BlockFault, IsDamaged, RecordFault}
+use Rattle.mold_session.specs.FileFault.{EndsInBlock, BlockFault, RecordFault}
 use Rattle.mold_session.specs.FileFault.{no_gate, no_kind, bad_kind, cut_closing, cut_message}
 use Rattle.mold_session.specs.Journal.{IsWithin}
 use Rattle.mold_session.specs.Loading.{IsStated, has_records, head_spelling, messages_spelling, stated_count}
-use Rattle.mold_session.specs.Reader.{BlocksRestFault, EndsFile, HasRead, ReaderState, RestFault, head_at_end}
+use Rattle.mold_session.specs.Reader.{BlocksRestFault, HasRead, ReaderState, RestFault, head_at_end}
 use Rattle.mold_session.specs.Records.{magic_3, head_3, record_of, records, IsShut, EndsRecords}
 use Rattle.mold_session.specs.declared.error.FileError.{FileError}
 use Rattle.mold_session.specs.declared.error.FileError.TheVariants.{TooLong, Memory, BadMagic, Short, BlockCut, Read, Write, Full, CountDiffers, BadFlag, Damaged}

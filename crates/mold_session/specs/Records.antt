@@ -1,5 +1,5 @@
 -- The file of a journal in version 3: records, one for each message, and one if the session is closed.
-use Rattle.std.specs.Prelude.{◌≡◌, ℕ, Bool, true, false, List, [], ◌∷◌, ◌++◌, length, codes}
+use Rattle.std.specs.Prelude.{◌≡◌, ℕ, Bool, true, false, List, ◌∷◌, ◌++◌, length, codes}
 use Rattle.std.specs.List.{flat_map}
 use Rattle.mold_wire.specs.Block.{block}
 use Rattle.mold_wire.specs.declared.block.TheConstants.{MAX_MESSAGE}

@@ -3,6 +3,7 @@ use Rattle.std.specs.Prelude.{◌≡◌, ◌⊎◌, ℕ, ◌-◌, false, List, O
 use Rattle.mold_session.specs.File.{SpellsJournal, SpellsJournal2}
 use Rattle.mold_session.specs.FileFault.{JournalFault}
 use Rattle.mold_session.specs.Journal.{IsJournal}
+use Rattle.mold_session.specs.Records.{SpellsJournal3}
 use Rattle.mold_session.specs.Server.{ServerState, fresh_server}
 use Rattle.mold_session.specs.declared.error.FileError.{FileError}
 use Rattle.mold_wire.specs.declared.limits.TheConstants.{MESSAGE_OVERHEAD}
@@ -23,7 +24,8 @@ pub record IsOfFile (limit burst : ℕ) (bytes : List ℕ) (serving : Serving) :
   pub listed : IsJournal serving.journal
   pub spelled : ((serving.journal.closed ≡ false)
       × SpellsJournal serving.journal.session serving.journal.messages bytes)
-      ⊎ SpellsJournal2 serving.journal.session serving.journal.messages serving.journal.closed bytes
+      ⊎ (SpellsJournal2 serving.journal.session serving.journal.messages serving.journal.closed bytes
+      ⊎ SpellsJournal3 serving.journal.session serving.journal.messages serving.journal.closed bytes)
 
 -- The bytes are not the file of a journal whose messages have at most `most` bytes, for the reason that `code` and
 -- `number` give.

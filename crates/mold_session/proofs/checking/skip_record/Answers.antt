@@ -1,4 +1,4 @@
-use Rattle.std.proofs.Common.{◌∷◌, List, ℕ, length, refl, subst, sym, ◌∙◌, arith}
+use Rattle.std.proofs.Common.{List, ℕ, length, refl, subst, sym, ◌∙◌, arith}
 use Rattle.std.proofs.lemmas.Bool.{eqb-true, eqb-false}
 use Rattle.mold_session.specs.FileFault.{RecordFault}
 use Rattle.mold_session.proofs.RecordReadingLemmas.{closing_damaged, closing_ends, closing_starts, kind_damaged, message_starts}

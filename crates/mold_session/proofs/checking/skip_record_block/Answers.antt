@@ -1,4 +1,4 @@
-use Rattle.std.proofs.Common.{ℕ, List, ◌∷◌, length, refl, inl, subst, sym, ◌∙◌, arith}
+use Rattle.std.proofs.Common.{◌∷◌, length, refl, inl, subst, sym, ◌∙◌, arith}
 use Rattle.std.proofs.lemmas.Bool.{eqb-true}
 use Rattle.mold_session.specs.FileFault.{RecordFault, cut_message}
 use Rattle.mold_session.specs.declared.error.FileError.{FileError}

@@ -1,4 +1,4 @@
-use Rattle.std.proofs.Common.{◌∷◌, List, ℕ, arith, subst, sym}
+use Rattle.std.proofs.Common.{◌∷◌, arith, subst, sym}
 use Rattle.std.specs.Io.KnownBytes.{prepend_known}
 use Rattle.mold_session.specs.FileFault.{RecordFault}
 use Rattle.mold_session.specs.Loading.{Refuses}
