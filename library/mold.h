@@ -32,11 +32,12 @@
  * SLICES. A mold_bytes that a listener returns is a slice of the listener's memory. It is valid until the next call on
  * that handle, and the caller never frees it. If its length is 0, its address may no longer be valid: do not read it or
  * compute with it. All other results are written to memory of the caller. The library keeps copies, so whatever is
- * passed to a call may be freed when the call returns. The exception is a packer's buffer, which the packer keeps.
+ * passed to a call may be freed when the call returns. There are two exceptions: a packer keeps its buffer, and the
+ * messages that mold_listener_hear does not copy are in the datagram.
  *
  * CODES. A call that can be refused returns a code. The code is 0 if the call succeeded. Otherwise it is that of the
  * first reason that applies, in the order in which the call lists them. After a code other than 0 the handle holds what
- * it held before, except that a line's report counts a refused datagram.
+ * it held before, except that a line's report counts a refused datagram, and that mold_listener_hear empties the batch.
  * If a call has an output for a number, it then writes the number that goes with the refusal, or 0 if there is none.
  * All other outputs keep their values. A call that returns MOLD_BROKEN or MOLD_LINE writes nothing at all. Other codes
  * of which this is true are listed with "writes nothing".
@@ -235,6 +236,17 @@ typedef struct mold_told {
     uint32_t unused; /* padding, which is never written */
 } mold_told;
 
+/* What a datagram delivers without a copy. After a refusal all fields except `detail` are 0. */
+typedef struct mold_heard {
+    uint64_t detail; /* the number that goes with a refusal; otherwise 0 */
+    size_t offset;   /* the offset in the datagram at which the blocks of its delivered messages begin. They are its last
+                        bytes. A block is the message's length in two bytes, high byte first, and then the message */
+    uint32_t own;    /* the number of these messages */
+    uint32_t stored; /* the number of stored messages that are delivered after them: all messages of the batch */
+    uint32_t kept;   /* the number of its messages that were stored above a gap */
+    uint32_t beyond; /* the number of its messages above the window: they are dropped and must be received again */
+} mold_heard;
+
 /* What was received on a line. Both counts stop at 18446744073709551615. */
 typedef struct mold_report {
     uint64_t datagrams; /* the number of datagrams that were taken */
@@ -283,8 +295,20 @@ uint32_t mold_listener_new(mold_listener *listener, const uint8_t session[10], u
 uint32_t mold_listener_take(mold_listener *listener, uint32_t line, const uint8_t *bytes, size_t length,
                             mold_told *told);
 
+/* Takes a datagram as mold_listener_take does, but does not copy the messages that the datagram itself delivers. They
+ * are in the datagram, from `heard->offset` on. First the batch is emptied, so slices of it are no longer valid. Then it
+ * gets the stored messages that are delivered after those of the datagram. The number of the first delivered message is
+ * what mold_listener_next returned before the call.
+ *
+ * The codes are those of mold_listener_take, with `heard->detail` as the number. MOLD_MEMORY is only possible if
+ * messages have to be stored, or stored ones delivered. After a refusal the batch is empty, and otherwise the listener
+ * is as after a refusal of mold_listener_take. With MOLD_BROKEN and MOLD_LINE nothing is written, and the batch keeps
+ * its messages. */
+uint32_t mold_listener_hear(mold_listener *listener, uint32_t line, const uint8_t *bytes, size_t length,
+                            mold_heard *heard);
+
 /* The batch: the messages that were delivered since the last mold_listener_clear, in order. Read it after each datagram
- * or after many. It is in the listener's memory, and grows until it is cleared. */
+ * or after many. It is in the listener's memory, and grows until it is cleared. mold_listener_hear empties it too. */
 
 /* Returns the number of messages of the batch. */
 size_t mold_listener_count(mold_listener *listener);
@@ -591,6 +615,14 @@ MOLD_FIELD_(mold_told, handed, 8);
 MOLD_FIELD_(mold_told, kept, 12);
 MOLD_FIELD_(mold_told, beyond, 16);
 MOLD_FIELD_(mold_told, unused, 20);
+
+MOLD_SIZE_(mold_heard, 32);
+MOLD_FIELD_(mold_heard, detail, 0);
+MOLD_FIELD_(mold_heard, offset, 8);
+MOLD_FIELD_(mold_heard, own, 16);
+MOLD_FIELD_(mold_heard, stored, 20);
+MOLD_FIELD_(mold_heard, kept, 24);
+MOLD_FIELD_(mold_heard, beyond, 28);
 
 MOLD_SIZE_(mold_report, 24);
 MOLD_FIELD_(mold_report, datagrams, 0);

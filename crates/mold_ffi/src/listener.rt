@@ -2,6 +2,8 @@
 pub(crate) mod batch;
 pub(crate) mod batched_arbiter;
 pub(crate) mod calls;
+pub(crate) mod hearing;
+pub(crate) mod mold_heard;
 pub(crate) mod mold_report;
 pub(crate) mod mold_told;
 mod origin;

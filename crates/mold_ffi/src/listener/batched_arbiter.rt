@@ -1,12 +1,14 @@
 //! What a listener is made of: an arbiter, and the batch of the messages that it delivered.
 
-ghost use Rattle.std.specs.Prelude.{◌≡◌, ◌<◌, IfOk, IfErr, OnOk};
+ghost use Rattle.std.specs.Prelude.{◌≡◌, ◌<◌, [], IfErr, IfNone, IfOk, IfSome, OnErr, OnOk, Some};
 ghost use Rattle.mold_ffi.specs.Listener.BatchedArbiter.{HasReceived, begun, cleared};
+ghost use Rattle.mold_receiver.specs.Origin.{line_of};
+ghost use Rattle.mold_receiver.specs.Own.{HasArbitratedOwn, HasRefusedOwn};
 ghost use Rattle.mold_receiver.specs.View.{IsWellFormed, IsWideWindow};
 ghost use Rattle.mold_receiver.specs.declared.error.ReceiverError.TheVariants.{NextZero, Window, Memory};
 
 use mold_receiver::laws::{followed_law, taken_law};
-use mold_receiver::{Arbiter, Batch, Origin, Receiver, ReceiverError, Refusal, Taken};
+use mold_receiver::{Arbiter, Batch, Heard, Line, Origin, Receiver, ReceiverError, Refusal, Taken};
 use mold_wire::Session;
 use std::alloc::Global;
 use std::marker::Model;
@@ -69,6 +71,32 @@ impl BatchedArbiter {
                 .arbiter
                 .take_from(Origin::Response, bytes, &mut self.batch),
         }
+    }
+
+    /// Takes a datagram without copying the messages that it delivers itself. The batch is emptied first, and gets the
+    /// stored messages that follow them.
+    pub(crate) fn hear<'a>(&mut self, origin: Origin, bytes: &'a [u8]) -> Result<Heard<'a>, Refusal>
+        ensures heard { IfOk result (λ heard. HasArbitratedOwn (line_of origin) self.old.arbitration bytes.now
+            self.new.arbitration heard.own self.new.batch heard.taken) }
+        ensures refused { IfErr result (λ refused. HasRefusedOwn (line_of origin) self.old.arbitration bytes.now
+            self.new.arbitration refused) }
+        ensures batch { OnErr result (self.new.batch ≡ record { first = 0; messages = [] }) }
+    {
+        taken_law();
+        self.arbiter.hear(origin, bytes, &mut self.batch)
+    }
+
+    /// Takes a usual datagram of a line as `hear` does, but faster. For other datagrams the result is `None`, and nothing
+    /// changes.
+    // Inlined for the same reason as `Arbiter::hear_quickly`.
+    #[inline(always)]
+    pub(crate) fn hear_quickly<'a>(&mut self, line: Line, bytes: &'a [u8]) -> Option<Heard<'a>>
+        ensures heard { IfSome result (λ heard. HasArbitratedOwn (Some line) self.old.arbitration bytes.now
+            self.new.arbitration heard.own self.new.batch heard.taken) }
+        ensures same { IfNone result (self.new ≡ self.old) }
+    {
+        taken_law();
+        self.arbiter.hear_quickly(line, bytes, &mut self.batch)
     }
 
     /// The arbiter.
