@@ -149,6 +149,28 @@ public:
         return mold_listener_take(&handle_, line, datagram.data(), datagram.size(), &told);
     }
 
+    /// Takes a datagram as `take` does, but copies none of the messages that the datagram itself delivers. Calls
+    /// `deliver` with each delivered message as `Bytes`, in order: first those of the datagram, and then stored ones. The
+    /// function must not call this listener. The first message has the number that `next` returned before the call.
+    template <class Deliver>
+    [[nodiscard]] std::uint32_t hear(std::uint32_t line, Bytes datagram, mold_heard &heard, Deliver &&deliver) {
+        const std::uint32_t code =
+            mold_listener_hear(&handle_, line, datagram.data(), datagram.size(), &heard);
+        if (code != MOLD_DONE)
+            return code;
+        const std::uint8_t *at = datagram.data() + heard.offset;
+        for (std::uint32_t i = 0; i < heard.own; i++) {
+            const std::size_t length = static_cast<std::size_t>(at[0]) << 8 | at[1];
+            deliver(Bytes(at + 2, length));
+            at += 2 + length;
+        }
+        if (heard.stored > few)
+            deliver_batch<many>(heard.stored, deliver);
+        else if (heard.stored > 0)
+            deliver_batch<few>(heard.stored, deliver);
+        return code;
+    }
+
     /// The number of messages of the batch, and the sequence number of the first.
     std::size_t count() noexcept { return mold_listener_count(&handle_); }
     std::uint64_t first() noexcept { return mold_listener_first(&handle_); }
@@ -183,6 +205,24 @@ public:
     }
 
     std::uint32_t clear() noexcept { return mold_listener_clear(&handle_); }
+
+private:
+    static constexpr std::size_t few = 16, many = 256;
+
+    /// Calls `deliver` with each message of the batch, which has `count` of them. One call returns slices of the first
+    /// `at_once` messages. That is faster than a call for each, but such an array has to be initialized.
+    template <std::size_t at_once, class Deliver>
+    void deliver_batch(std::size_t count, Deliver &deliver) {
+        mold_bytes lent[at_once] = {};
+        const std::size_t first = messages(lent, at_once);
+        for (std::size_t i = 0; i < first; i++)
+            deliver(Bytes(lent[i]));
+        for (std::size_t i = first; i < count; i++) {
+            Bytes next;
+            if (message(i, next) == MOLD_DONE)
+                deliver(next);
+        }
+    }
 };
 
 /// A re-request server, which responds to requests. It belongs to a Server or to a Publisher.

@@ -1,6 +1,7 @@
-// Measures the library's listener against a plain receiver in C++ that does the same checks. The plain receiver is
-// measured in two forms. In the first it is inlined into its caller, and passes each message to a function without a
-// copy. In the second it has the calls of the library, and copies the messages into a batch.
+// Measures the library's listener against a plain receiver in C++ that does the same checks. Both are measured in two
+// forms. In the first they pass each message to a function without a copy; the plain receiver is inlined into its
+// caller, and the listener has the call `hear`. In the second they copy the messages into a batch, and have the same
+// calls.
 //
 //     c++ -O2 -std=c++17 library/bench/bench.cpp library/out/libmold.a -pthread -o bench && ./bench
 //
@@ -12,6 +13,7 @@
 // The second table has the datagrams a second of one, two and four threads, each with its own listener. They are
 // measured by the clock, which needs an idle machine, and by the processor time of the threads.
 #include "bench.hpp"
+#include "../mold.hpp"
 #include "plain.hpp"
 
 #include <atomic>
@@ -152,6 +154,20 @@ double by_function(const Work &work, Sum &sum) {
     return since(began);
 }
 
+/// The time of a round in which the library's listener passes messages to a function.
+double by_hearing(const Work &work, Sum &sum) {
+    mold::Listener listener;
+    if (listener.open(mold::Session("BENCH"), 1, work.window) != MOLD_DONE)
+        stop("the listener cannot be made");
+    mold_heard heard{};
+    const Clock::time_point began = Clock::now();
+    for (const Arrival &arrival : work.arrivals)
+        if (listener.hear(arrival.line, arrival.bytes, heard,
+                          [&sum](mold::Bytes message) { sum.add(message.data(), message.size()); }) != MOLD_DONE)
+            stop("a datagram was refused");
+    return since(began);
+}
+
 /// The library's listener, with the method names of the plain one.
 class Library {
 public:
@@ -214,13 +230,13 @@ double by_batch(const Work &work, Sum &sum) {
 
 void run_row(const Work &work, int rounds) {
     using Round = double (*)(const Work &, Sum &);
-    const Round rounds_of[] = {by_function<true>, by_function<false>, by_batch<Plain<true>>, by_batch<Plain<false>>,
-                               by_batch<Library>};
-    const std::size_t columns[] = {0, 0, 1, 1, 2};
-    double least[] = {1e18, 1e18, 1e18};
+    const Round rounds_of[] = {by_function<true>,      by_function<false>, by_hearing, by_batch<Plain<true>>,
+                               by_batch<Plain<false>>, by_batch<Library>};
+    const std::size_t columns[] = {0, 0, 1, 2, 2, 3};
+    double least[] = {1e18, 1e18, 1e18, 1e18};
     for (int round = 0; round < rounds; round++) {
-        Sum sums[5];
-        for (std::size_t who = 0; who < 5; who++) {
+        Sum sums[6];
+        for (std::size_t who = 0; who < 6; who++) {
             double &best = least[columns[who]];
             best = std::min(best, rounds_of[who](work, sums[who]));
             if (!(sums[who] == sums[0]))
@@ -228,8 +244,8 @@ void run_row(const Work &work, int rounds) {
         }
     }
     const double count = static_cast<double>(work.arrivals.size());
-    std::printf("%-36s %10.1f %10.1f %10.1f %10.2f\n", work.name.c_str(), least[0] / count, least[1] / count,
-                least[2] / count, least[2] / least[1]);
+    std::printf("%-36s %9.1f %9.1f %7.2f %9.1f %9.1f %7.2f\n", work.name.c_str(), least[0] / count, least[1] / count,
+                least[1] / least[0], least[2] / count, least[3] / count, least[3] / least[2]);
     std::fflush(stdout);
 }
 
@@ -301,9 +317,9 @@ void run_threads(int runs) {
 int main(int count, char **words) {
     const bool brief = count > 1 && std::string(words[1]) == "--brief";
     const int rounds = brief ? 3 : 500;
-    const char *const line = "%-36s %10s %10s %10s %10s\n";
-    std::printf(line, "nanoseconds a datagram", "plain,", "plain,", "", "library /");
-    std::printf(line, "", "function", "copied", "library", "copied");
+    const char *const line = "%-36s %9s %9s %7s %9s %9s %7s\n";
+    std::printf(line, "nanoseconds a datagram", "function,", "function,", "library", "copied,", "copied,", "library");
+    std::printf(line, "", "plain", "library", "/ plain", "plain", "library", "/ plain");
     for (const Work &work : {heartbeats(), in_order(1), in_order(10), in_order(30), in_order_at_once(1), repeated(),
                              two_lines(), stored(), never_empty(), never_empty_behind(), far_ahead(1024), far_ahead(65536)})
         run_row(work, rounds);

@@ -126,6 +126,19 @@ static inline uint32_t take(mold_listener *listener, uint32_t line, datagram giv
     return code;
 }
 
+/* Passes a datagram to a listener without a copy, and frees it. */
+static inline uint32_t hear(mold_listener *listener, uint32_t line, datagram given, mold_heard *heard) {
+    uint32_t code = mold_listener_hear(listener, line, given.at, given.length, heard);
+    free(given.at);
+    return code;
+}
+
+static inline bool is_heard(const mold_heard *heard, size_t offset, uint32_t own, uint32_t stored, uint32_t kept,
+                            uint32_t beyond) {
+    return heard->detail == 0 && heard->offset == offset && heard->own == own && heard->stored == stored &&
+           heard->kept == kept && heard->beyond == beyond;
+}
+
 static inline mold_listener listener_at(uint64_t next, uint32_t window) {
     mold_listener made = MOLD_EMPTY;
     CODE(mold_listener_new(&made, session, next, window), MOLD_DONE);

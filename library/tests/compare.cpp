@@ -7,6 +7,7 @@
 // random session. The others are true and wrong end packets, packets with invalid sequence numbers, and datagrams that
 // were truncated, extended or changed.
 #include "../bench/plain.hpp"
+#include "../mold.hpp"
 
 #include <cstdio>
 #include <cstdlib>
@@ -93,11 +94,12 @@ Bytes draw(Chance &chance, std::uint64_t next, std::uint64_t messages) {
     }
 }
 
-/// A listener and a plain receiver that receive the same session.
+/// A listener and a plain receiver that receive the same session. A second listener copies no messages.
 class Pair {
 public:
     Pair(std::uint64_t next, std::uint32_t window) : plain_(session, next, window) {
         check(mold_listener_new(&listener_, session, next, window) == MOLD_DONE, "a listener cannot be made", 0);
+        check(hearing_.open(mold::Session("COMPARE"), next, window) == MOLD_DONE, "a listener cannot be made", 0);
     }
 
     Pair(const Pair &) = delete;
@@ -116,13 +118,31 @@ public:
         check(code == wanted && told.detail == other.detail, "the codes or their numbers differ", place);
         check(told.handed == other.handed && told.kept == other.kept && told.beyond == other.beyond,
               "the counts differ", place);
+        hear(line, bytes, told, code, batch, place);
         compare_batch(batch, first, place);
-        compare_state(place);
+        compare_state(listener_, place);
+        compare_state(*hearing_.get(), place);
     }
 
     std::uint64_t next() { return mold_listener_next(&listener_); }
 
 private:
+    void hear(std::uint32_t line, const Bytes &bytes, const mold_told &told, std::uint32_t wanted,
+              const plain::Batch &batch, unsigned long place) {
+        mold_heard heard{};
+        std::size_t i = 0;
+        const std::uint32_t code = hearing_.hear(line, bytes, heard, [&](mold::Bytes message) {
+            check(i < batch.size() && message.size() == batch[i].length &&
+                      (message.empty() || std::memcmp(message.data(), batch[i].at, message.size()) == 0),
+                  "a message that was not copied differs", place);
+            i++;
+        });
+        check(code == wanted && heard.detail == told.detail, "the codes without copies differ", place);
+        check(i == batch.size() && heard.own + heard.stored == told.handed && heard.kept == told.kept &&
+                  heard.beyond == told.beyond && hearing_.count() == heard.stored,
+              "the counts without copies differ", place);
+    }
+
     void compare_batch(const plain::Batch &batch, std::uint64_t first, unsigned long place) {
         const std::size_t count = mold_listener_count(&listener_);
         check(count == batch.size() && mold_listener_first(&listener_) == (count > 0 ? first : 0), "the batches differ",
@@ -137,20 +157,21 @@ private:
         check(mold_listener_clear(&listener_) == MOLD_DONE, "the batch cannot be cleared", place);
     }
 
-    void compare_state(unsigned long place) {
-        check(mold_listener_next(&listener_) == plain_.next() && mold_listener_known(&listener_) == plain_.known() &&
-                  mold_listener_finished(&listener_) == plain_.finished(),
+    void compare_state(mold_listener &listener, unsigned long place) {
+        check(mold_listener_next(&listener) == plain_.next() && mold_listener_known(&listener) == plain_.known() &&
+                  mold_listener_finished(&listener) == plain_.finished(),
               "the progress differs", place);
         for (std::uint32_t line = 0; line < 2; line++) {
             mold_report report{};
             const plain::Report &other = plain_.report(line);
-            check(mold_listener_report(&listener_, line, &report) == MOLD_DONE && report.datagrams == other.datagrams &&
+            check(mold_listener_report(&listener, line, &report) == MOLD_DONE && report.datagrams == other.datagrams &&
                       report.refused == other.refused && report.front == other.front,
                   "the reports of a line differ", place);
         }
     }
 
     mold_listener listener_ = MOLD_EMPTY;
+    mold::Listener hearing_;
     plain::Receiver<true> plain_;
 };
 

@@ -138,6 +138,19 @@ static uint32_t try_take(mold_listener *listener, datagram given, mold_told *tol
     return code;
 }
 
+/* The same without a copy. The batch is empty before, since a refusal empties it. */
+static uint32_t try_hear(mold_listener *listener, datagram given, mold_heard *heard) {
+    unsigned long before = refused;
+    CHECK(mold_listener_clear(listener) == MOLD_DONE);
+    uint64_t sum = sum_of_listener(listener);
+    uint32_t code = mold_listener_hear(listener, MOLD_LINE_A, given.at, given.length, heard);
+    CHECK(code != MOLD_MEMORY || (sum == sum_of_listener(listener) && heard->own == 0 && heard->stored == 0));
+    if (again(code, before))
+        code = mold_listener_hear(listener, MOLD_LINE_A, given.at, given.length, heard);
+    free(given.at);
+    return code;
+}
+
 static uint32_t try_publish(mold_publisher *publisher, int value, size_t length) {
     unsigned long before = refused;
     uint64_t number = 0, sum = sum_of_publisher(publisher);
@@ -203,6 +216,28 @@ static void run_listener(void) {
         CHECK(mold_listener_clear(&listener) == MOLD_DONE);
         done(try_take(&listener, varied(mold_listener_next(&listener), 3), &told));
         CHECK(all_fail || mold_listener_count(&listener) == 3);
+    }
+    mold_free(&listener);
+}
+
+/* The same datagrams, which are not copied. Those without a gap take no memory. */
+static void run_without_copies(void) {
+    mold_listener listener = MOLD_EMPTY;
+    mold_heard heard = {0, 0, 0, 0, 0, 0};
+    if (done(try_listener(&listener))) {
+        for (uint64_t number = 40; number > 3; number -= 2)
+            done(try_hear(&listener, varied(number, 2), &heard));
+        done(try_hear(&listener, varied(2, 1), &heard));
+        done(try_hear(&listener, varied(1, 3), &heard));
+        CHECK(all_fail || (mold_listener_next(&listener) == 42 && heard.own == 3 && heard.stored == 38));
+        done(try_hear(&listener, varied(30, 20), &heard));
+        CHECK(all_fail || (mold_listener_next(&listener) == 50 && heard.own == 8 && heard.stored == 0));
+        uint64_t next = mold_listener_next(&listener);
+        if (mold_listener_known(&listener) == next) {
+            unsigned long before = refused;
+            CHECK(try_hear(&listener, varied(next, 3), &heard) == MOLD_DONE && heard.own == 3 && refused == before);
+        }
+        CHECK(try_hear(&listener, packet_of(90, 0, 0), &heard) == MOLD_DONE);
     }
     mold_free(&listener);
 }
@@ -315,6 +350,7 @@ static void each_in_turn(const char *name, void (*run)(void)) {
 
 int main(void) {
     each_in_turn("listener", run_listener);
+    each_in_turn("listener without copies", run_without_copies);
     each_in_turn("publisher", run_publisher);
     each_in_turn("server", run_server);
     each_in_turn("checker", run_checker);

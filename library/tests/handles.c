@@ -89,12 +89,16 @@ static void captures_are_refused(void) {
 /* Checks each call of a listener on a handle that does not hold a listener. */
 static void no_listener(mold_listener *handle) {
     mold_told told = {9, 9, 9, 9, 9};
+    mold_heard heard = {9, 9, 9, 9, 9, 9};
     mold_report report = {9, 9, 9};
     mold_bytes bytes = MOLD_NO_BYTES;
     uint8_t room[64] = {7};
     size_t size = 99;
     CODE(take(handle, MOLD_LINE_A, packet_of(1, 1, 1), &told), MOLD_BROKEN);
     CODE(take(handle, 9, packet_of(1, 1, 1), &told), MOLD_BROKEN);
+    CODE(hear(handle, MOLD_LINE_A, packet_of(1, 1, 1), &heard), MOLD_BROKEN);
+    CODE(hear(handle, 9, packet_of(1, 1, 1), &heard), MOLD_BROKEN);
+    CHECK(heard.detail == 9 && heard.offset == 9 && heard.beyond == 9);
     CHECK(mold_listener_count(handle) == 0 && mold_listener_first(handle) == 0);
     CODE(mold_listener_message(handle, 0, &bytes), MOLD_BROKEN);
     CHECK(mold_listener_messages(handle, &bytes, 1) == 0 && bytes.at == NULL);

@@ -217,6 +217,69 @@ static void another_message_is_refused(void) {
     mold_free(&listener);
 }
 
+/* Messages 2 and 3 are stored, then 5. Messages 1 to 3 and then 1 to 6 arrive: what is new of them is delivered from the
+ * datagram, and what is stored after them from the batch. */
+static void messages_are_not_copied(void) {
+    mold_listener listener = listener_at(1, 8);
+    mold_told told = {0, 9, 9, 9, 0};
+    mold_heard heard = {9, 9, 9, 9, 9, 9};
+    CODE(take(&listener, MOLD_LINE_A, packet_of(1, 1, 5), &told), MOLD_DONE);
+    CHECK(mold_listener_count(&listener) == 1);
+    CODE(hear(&listener, MOLD_LINE_A, packet_of(2, 0, 0), &heard), MOLD_DONE);
+    CHECK(is_heard(&heard, 20, 0, 0, 0, 0) && mold_listener_count(&listener) == 0);
+    CODE(hear(&listener, MOLD_LINE_A, packet_of(2, 2, 3), &heard), MOLD_DONE);
+    CHECK(is_heard(&heard, 20, 2, 0, 0, 0) && mold_listener_next(&listener) == 4);
+    CODE(hear(&listener, MOLD_LINE_B, packet_of(2, 2, 3), &heard), MOLD_DONE);
+    CHECK(is_heard(&heard, 30, 0, 0, 0, 0) && mold_listener_next(&listener) == 4);
+    CODE(hear(&listener, MOLD_LINE_B, packet_of(6, 9, 1), &heard), MOLD_DONE);
+    CHECK(is_heard(&heard, 47, 0, 0, 6, 3) && mold_listener_known(&listener) == 15);
+    CODE(hear(&listener, MOLD_ANSWER, packet_of(2, 4, 3), &heard), MOLD_DONE);
+    CHECK(is_heard(&heard, 30, 2, 6, 0, 0) && mold_listener_next(&listener) == 12);
+    CHECK(mold_listener_count(&listener) == 6 && mold_listener_first(&listener) == 6);
+    CHECK(is_message(&listener, 0, 6, 1) && is_message(&listener, 5, 11, 1));
+    CODE(hear(&listener, MOLD_LINE_A, packet_of(10, 4, 0), &heard), MOLD_DONE);
+    CHECK(is_heard(&heard, 24, 2, 0, 0, 0) && mold_listener_count(&listener) == 0);
+    CODE(take(&listener, MOLD_LINE_A, packet_of(14, 1, 2), &told), MOLD_DONE);
+    CHECK(is_told(&told, 1, 0, 0) && mold_listener_first(&listener) == 14);
+    CHECK(is_report(&listener, MOLD_LINE_A, 5, 0, 15) && is_report(&listener, MOLD_LINE_B, 2, 0, 15));
+    mold_free(&listener);
+}
+
+/* The datagrams that are refused when they are not copied. Each refusal empties the batch. */
+static void datagrams_are_not_heard(void) {
+    mold_listener listener = listener_at(1, 4);
+    mold_told told = {0, 0, 0, 0, 0};
+    mold_heard heard = {9, 9, 9, 9, 9, 9};
+    datagram other = packet_of(2, 1, 1);
+    CODE(take(&listener, MOLD_LINE_A, packet_of(1, 1, 1), &told), MOLD_DONE);
+    CODE(hear(&listener, 3, packet_of(2, 1, 1), &heard), MOLD_LINE);
+    CODE(hear(&listener, UINT32_MAX, of_length(3), &heard), MOLD_LINE);
+    CHECK(heard.detail == 9 && heard.offset == 9 && heard.own == 9 && mold_listener_count(&listener) == 1);
+    CODE(mold_listener_hear(&listener, MOLD_LINE_A, NULL, 0, &heard), MOLD_SHORT);
+    CHECK(is_heard(&heard, 0, 0, 0, 0, 0) && mold_listener_count(&listener) == 0);
+    CODE(hear(&listener, MOLD_ANSWER, of_length(19), &heard), MOLD_SHORT);
+    CHECK(heard.detail == 19 && heard.offset == 0);
+    CODE(mold_listener_hear(&listener, MOLD_LINE_A, other.at, 22, &heard), MOLD_BLOCK_CUT);
+    CODE(hear(&listener, MOLD_LINE_A, of_hex(SESSION_HEX "0000000000000003ffff00"), &heard), MOLD_TRAILING);
+    CHECK(heard.detail == 20);
+    other.at[9] = '2';
+    CODE(hear(&listener, MOLD_LINE_A, other, &heard), MOLD_WRONG_SESSION);
+    CODE(hear(&listener, MOLD_LINE_A, packet_of(0, 1, 1), &heard), MOLD_SEQUENCE_ZERO);
+    CODE(hear(&listener, MOLD_LINE_A, packet_of(UINT64_MAX, 1, 1), &heard), MOLD_PAST_LAST);
+    CODE(hear(&listener, MOLD_LINE_A, packet_of(3, 1, 1), &heard), MOLD_DONE);
+    CODE(hear(&listener, MOLD_LINE_B, packet_of(3, 1, 2), &heard), MOLD_CONFLICT);
+    CHECK(heard.detail == 3 && heard.own == 0 && mold_listener_next(&listener) == 2);
+    CODE(hear(&listener, MOLD_LINE_B, end_of(3), &heard), MOLD_END_BELOW);
+    CHECK(heard.detail == 4);
+    CODE(hear(&listener, MOLD_LINE_B, end_of(4), &heard), MOLD_DONE);
+    CODE(hear(&listener, MOLD_LINE_B, end_of(5), &heard), MOLD_END_CONFLICT);
+    CODE(hear(&listener, MOLD_LINE_B, packet_of(2, 3, 1), &heard), MOLD_PAST_END);
+    CODE(hear(&listener, MOLD_ANSWER, packet_of(2, 1, 1), &heard), MOLD_DONE);
+    CHECK(is_heard(&heard, 20, 1, 1, 0, 0) && mold_listener_finished(&listener));
+    CHECK(is_report(&listener, MOLD_LINE_A, 2, 6, 4) && is_report(&listener, MOLD_LINE_B, 1, 4, 4));
+    mold_free(&listener);
+}
+
 void test_listener(void) {
     listeners_that_cannot_be();
     messages_come_backwards();
@@ -228,4 +291,6 @@ void test_listener(void) {
     datagrams_are_refused();
     ends_are_taken_and_refused();
     another_message_is_refused();
+    messages_are_not_copied();
+    datagrams_are_not_heard();
 }

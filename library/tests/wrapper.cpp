@@ -85,6 +85,22 @@ void a_listener_listens() {
     CHECK(!listener && listener.next() == 0 && listener.open(name, 7, 1) == MOLD_DONE && listener.next() == 7);
 }
 
+void a_listener_copies_nothing() {
+    mold::Publisher publisher;
+    const std::vector<Datagram> sent = session_of(publisher, {"first", "", "third and longest of them all", "fourth"});
+    mold::Listener listener;
+    mold_heard heard{};
+    std::vector<std::string> delivered;
+    const auto deliver = [&delivered](mold::Bytes message) { delivered.emplace_back(message.begin(), message.end()); };
+    CHECK(listener.hear(MOLD_LINE_A, sent[0], heard, deliver) == MOLD_BROKEN && delivered.empty());
+    CHECK(listener.open(name) == MOLD_DONE && listener.hear(MOLD_LINE_A, sent[1], heard, deliver) == MOLD_DONE);
+    CHECK(delivered.empty() && heard.kept > 0 && listener.hear(9, sent[0], heard, deliver) == MOLD_LINE);
+    CHECK(listener.hear(MOLD_ANSWER, sent[0], heard, deliver) == MOLD_DONE && heard.own + heard.stored == 4);
+    CHECK(delivered.size() == 4 && delivered[0] == "first" && delivered[1].empty() && delivered[3] == "fourth");
+    CHECK(listener.hear(MOLD_LINE_B, sent[2], heard, deliver) == MOLD_DONE && listener.finished());
+    CHECK(delivered.size() == 4 && listener.count() == 0);
+}
+
 void servers_serve() {
     mold::Publisher publisher;
     session_of(publisher, {"first", "second"});
@@ -169,6 +185,7 @@ void texts_are_printed() {
 
 int main() {
     a_listener_listens();
+    a_listener_copies_nothing();
     servers_serve();
     a_checker_checks();
     what_is_moved();

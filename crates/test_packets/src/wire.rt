@@ -3,6 +3,7 @@
 use crate::comparisons::{same_bytes, same_message, same_number, same_size};
 use mold_wire::{
     Blocks, Body, DecodeError, Packer, PackerError, Packet, Request, RequestError, Session, decode,
+    decode_plain,
 };
 use std::process::Abort;
 use std::test::Fail;
@@ -88,6 +89,36 @@ fn expect_two_messages(rt: &impl Abort, packet: &Packet<'_>) {
 fn messages_are_lent_in_order(rt: HostRuntime) -> Result<(), Fail> {
     let packet = decode(TWO_MESSAGES)?;
     expect_two_messages(&rt, &packet);
+    Ok(())
+}
+
+// The messages after the first one, with their blocks.
+fn expect_second(rt: &impl Abort, blocks: &Blocks<'_>) {
+    let mut rest = blocks.iter_from(1);
+    same_number(rt, u64::from(rest.len()), 1);
+    same_bytes(rt, rest.bytes(), b"\0\0");
+    same_message(rt, 1, rest.next(), Some(b""));
+    assert!(rt;
+        rest.is_empty() && blocks.iter_from(3).is_empty(),
+        "more messages"
+    );
+}
+
+#[test]
+fn packets_of_one_session_are_read(rt: HostRuntime) -> Result<(), Fail> {
+    for bytes in [TWO_MESSAGES, HEARTBEAT] {
+        assert!(rt;
+            decode_plain(&SESSION, bytes) == Some(decode(bytes)?),
+            "{bytes:?}"
+        );
+    }
+    for bytes in [END_1, b"", b"SESSION002\0\0\0\0\0\0\0\x01\0\0"] {
+        assert!(rt; decode_plain(&SESSION, bytes).is_none(), "{bytes:?}");
+    }
+    let packet = decode(TWO_MESSAGES)?;
+    if let Body::Data(blocks) = &packet.body {
+        expect_second(&rt, blocks);
+    }
     Ok(())
 }
 

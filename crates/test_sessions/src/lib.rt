@@ -8,6 +8,8 @@ mod capture;
 #[cfg(test)]
 mod comparisons;
 #[cfg(test)]
+mod hearing;
+#[cfg(test)]
 mod journal_file;
 #[cfg(test)]
 mod journal_reader;
