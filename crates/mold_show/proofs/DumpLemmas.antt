@@ -1,5 +1,5 @@
 -- What was written of the messages of a file.
-use Rattle.std.proofs.Common.{◌≡◌, ℕ, ◌≤◌, Bool, false, length}
+use Rattle.std.proofs.Common.{◌≡◌, ℕ, ◌≤◌, false, length}
 use Rattle.std.proofs.Common.{List, [], ◌∷◌, ◌++◌, Option, None, Some}
 use Rattle.std.proofs.Common.{refl, sym, ap, subst, ◌∙◌, append_assoc}
 use Rattle.std.specs.Prelude.{IfSome}

@@ -499,6 +499,7 @@ other_refusal (TooLong len) no_read no_memory = record { told = tt; line = refl;
 other_refusal (BlockCut number) no_read no_memory = record { told = tt; line = refl; counts = λ old new counts. counts }
 other_refusal (CountDiffers count found) no_read no_memory =
     record { told = tt; line = refl; counts = λ old new counts. counts }
+other_refusal (Damaged number) no_read no_memory = record { told = tt; line = refl; counts = λ old new counts. counts }
 
 -- ---- counts of failures
 
@@ -536,6 +537,7 @@ counts_end old new (Some (File Full)) counts = inl counts
 counts_end old new (Some (File (TooLong len))) counts = inl counts
 counts_end old new (Some (File (BlockCut number))) counts = inl counts
 counts_end old new (Some (File (CountDiffers count found))) counts = inl counts
+counts_end old new (Some (File (Damaged number))) counts = inl counts
 
 -- The output failed before anything was written to the errors.
 pub counts_unsent : (old new : ℕ) (ended : Option DumpFault) (before after errors : ℕ) → CountsEnd old new ended →

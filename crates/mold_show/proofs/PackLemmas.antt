@@ -4,7 +4,6 @@ use Rattle.std.proofs.Common.{ap, refl, sym}
 use Rattle.std.proofs.Common.{append_assoc, subst}
 use Rattle.std.proofs.lemmas.List.{append-nil}
 use Rattle.mold_wire.specs.declared.packet.Packet.{Packet}
-use Rattle.std.specs.Io.KnownBytes.{prepend_known}
 use Rattle.mold_input.specs.Entries.{Entry, InputEntries, known_input}
 use Rattle.mold_input.specs.declared.input_kind.InputKind.{InputKind}
 use Rattle.mold_input.specs.declared.input_kind.InputKind.TheVariants.{Lines, Blocks}
