@@ -207,7 +207,7 @@ public:
     std::uint32_t clear() noexcept { return mold_listener_clear(&handle_); }
 
 private:
-    static constexpr std::size_t few = 16, many = 256;
+    static constexpr std::size_t few = 4, many = 256;
 
     /// Calls `deliver` with each message of the batch, which has `count` of them. One call returns slices of the first
     /// `at_once` messages. That is faster than a call for each, but such an array has to be initialized.
