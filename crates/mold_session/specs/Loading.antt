@@ -110,7 +110,7 @@ pub record TakesMessage (len : ℕ) (known left : Option (List ℕ)) (old new : 
   pub added : new ≡ old ++ message ∷ []
   pub consumed : Consumes known left message
 
--- A message was read as the file spells it, and appended to the list. It has at most `most` bytes.
+-- A message was read in the encoding of the file, and appended to the list. It has at most `most` bytes.
 pub record TakesSpelled (spelling : List ℕ → List ℕ) (most : ℕ) (known left : Option (List ℕ))
     (old new : List (List ℕ)) : Type 0 where
   pub message : List ℕ

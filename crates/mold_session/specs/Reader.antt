@@ -46,8 +46,8 @@ pub record ReadsNext (known left : Option (List ℕ)) (old new : ReaderState) : 
   pub within : IsWithin MAX_MESSAGE new.message
   pub consumed : Consumes known left (message_spelling old.head.version new.message)
 
--- The messages were at the start of the unused bytes, as the file spells them, and they were taken: `next` is the reader
--- after them. There are at most `limit` of them.
+-- The messages were at the start of the unused bytes, in the encoding of the file, and they were taken: `next` is the
+-- reader after them. There are at most `limit` of them.
 pub record PassesBlocks (limit : ℕ) (reader next : ReaderState) (messages : List (List ℕ)) : Type 0 where
   pub same : next.head ≡ reader.head
   pub last : next.message ≡ reader.message
@@ -71,7 +71,7 @@ EndsFile One read said closed rest = (rest ≡ []) × (closed ≡ said)
 EndsFile (Two count) read said closed rest = (rest ≡ []) × (closed ≡ said) × (count ≡ read)
 EndsFile Three read said closed rest = EndsRecords closed rest
 
--- The next message was read as the file spells it, and appended to the list. Otherwise the file ends.
+-- The next message was read in the encoding of the file, and appended to the list. Otherwise the file ends.
 abbrev pub ReadsMessage : FileHead → ℕ → Option (List ℕ) → Option (List ℕ) → List (List ℕ) → List (List ℕ) →
     NextMessage → Type 0
 ReadsMessage head count known left old new Message =
