@@ -1,0 +1,7 @@
+mod CommitLemmas
+mod FileLemmas
+mod GateLemmas
+mod GroupLemmas
+mod HeadLemmas
+mod MomentLemmas
+mod RecordLemmas

@@ -1,0 +1,5 @@
+pub mod DurableJournal
+pub mod Gate
+pub mod Group
+pub mod Head
+pub mod Storage

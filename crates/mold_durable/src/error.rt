@@ -1,0 +1,78 @@
+//! The errors of this crate.
+
+use mold_session::AppendError;
+use std::alloc::AllocError;
+use thiserror::Error;
+
+/// Why a message is not appended. If both reasons apply, `Broken` is returned.
+#[derive(Clone, Copy, Debug, PartialEq, Eq, Error)]
+pub enum WaitingError {
+    /// A call of the storage failed before. The journal has to be opened again.
+    #[error("the journal has to be opened again")]
+    Broken,
+    /// The message does not fit the journal, or an allocation failed.
+    #[error("{0}")]
+    Append(AppendError),
+}
+
+/// Why messages are not committed. If both reasons apply, `Broken` is returned.
+#[derive(Clone, Copy, Debug, PartialEq, Eq, Error)]
+pub enum CommitError {
+    /// A call of the storage failed before. The journal has to be opened again.
+    #[error("the journal has to be opened again")]
+    Broken,
+    /// The storage failed. From now on the journal is broken. Once it is opened again, it has all of the messages that
+    /// waited or none of them.
+    #[error("the journal can't be written")]
+    Write,
+}
+
+/// Why a journal is not created or opened. The bytes of a storage have at most one of the first five faults.
+#[derive(Clone, Copy, Debug, PartialEq, Eq, Error)]
+pub enum OpenError {
+    /// The storage has fewer bytes than the head of a journal, which has 18. `len` is their number.
+    #[error("{len} bytes are too short for a journal")]
+    Short { len: usize },
+    /// The first eight bytes are not the magic bytes of version 3.
+    #[error("not a journal of version 3")]
+    BadMagic,
+    /// The record of a message follows message `MAX_MESSAGES`, the last one that can have a sequence number.
+    #[error("the journal has messages after the greatest number")]
+    Full,
+    /// A message is longer than `max_message`. `len` is its length in bytes.
+    #[error("a message of {len} bytes is too long")]
+    TooLong { len: usize },
+    /// Neither a whole record nor a shut gate follows the messages before message `number`.
+    #[error("the file is damaged where message {number} has to be")]
+    Damaged { number: u64 },
+    /// A read of the storage failed.
+    #[error("the journal can't be read")]
+    Read,
+    /// A write or a sync of the storage failed.
+    #[error("the journal can't be written")]
+    Write,
+    /// An allocation failed.
+    #[error("out of memory")]
+    Memory,
+}
+
+impl From<AllocError> for OpenError {
+    ghost use Rattle.std.specs.Prelude.{◌≡◌};
+    ghost use Rattle.mold_durable.specs.declared.error.OpenError.TheVariants.{Memory};
+
+    ghost from_gives = { λ _ error. error ≡ Memory };
+
+    /// Returns `Memory`, the error for a failed allocation.
+    fn from(_error: AllocError) -> OpenError {
+        OpenError::Memory
+    }
+}
+
+/// A journal that is not created or opened: why, and its storage.
+#[derive(Debug, Drop)]
+pub struct NotOpened<S> {
+    /// Why it is not opened.
+    pub error: OpenError,
+    /// The storage.
+    pub storage: S,
+}

@@ -1,0 +1,14 @@
+//! A journal in a storage that outlives the process. After a crash at any moment it continues with all messages that
+//! were committed.
+#![tactic(auto)]
+
+mod durable_journal;
+mod error;
+mod gate;
+mod group;
+mod head;
+mod storage;
+
+pub use durable_journal::DurableJournal;
+pub use error::{CommitError, NotOpened, OpenError, WaitingError};
+pub use storage::Storage;
