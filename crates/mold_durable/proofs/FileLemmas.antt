@@ -76,7 +76,7 @@ opened_file session messages waiting closes text bytes named listed is_text begi
       ends = ends_so closes begins.rest;
     }
 
--- The records end where the text ends, but for its last byte, which is the gate.
+-- The records end before the last byte of the text, which is the gate.
 pub prefix_longer :
     (session : Session) (messages waiting : List (List ℕ)) (closes : Bool) (text : List ℕ) →
     1 ∷ text ≡ records waiting ++ (closing closes ++ 0 ∷ []) →

@@ -17,7 +17,8 @@ pub record GroupState : Type 0 where
 unfoldable pub messages_in : ℕ → List ℕ → List (List ℕ)
 messages_in zero bytes = []
 messages_in (suc count) bytes =
-    take (big_number 2 (drop 2 bytes)) (drop 4 bytes) ∷ messages_in count (drop (big_number 2 (drop 2 bytes)) (drop 4 bytes))
+    take (big_number 2 (drop 2 bytes)) (drop 4 bytes)
+    ∷ messages_in count (drop (big_number 2 (drop 2 bytes)) (drop 4 bytes))
 
 -- The closing record without its last byte, or nothing if the session is not closed.
 abbrev pub closing : Bool → List ℕ

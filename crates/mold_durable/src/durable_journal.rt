@@ -201,8 +201,8 @@ impl<S: Storage> DurableJournal<S> {
         }
     }
 
-    /// Makes the waiting messages durable. If none waits, it does nothing; otherwise it writes twice and syncs twice. It
-    /// allocates nothing and reads nothing.
+    /// Makes the waiting messages durable. If none waits, it does nothing; otherwise it writes twice and syncs twice.
+    /// It allocates nothing and reads nothing.
     ///
     /// A crash at any moment of the call leaves the messages before it, with all that waited or with none of them. Once
     /// it succeeded, every crash leaves all of them.
