@@ -4,4 +4,6 @@ mod GateLemmas
 mod GroupLemmas
 mod HeadLemmas
 mod MomentLemmas
+mod OpenLemmas
+mod ReadingLemmas
 mod RecordLemmas

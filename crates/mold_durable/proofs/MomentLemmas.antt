@@ -1,6 +1,6 @@
 -- How a run of calls of a storage goes on.
 use Rattle.std.proofs.Common.{inl, inr, ⊎_elim, ℕ, List, refl, arith}
-use Rattle.mold_durable.specs.Storage.{Elapses, Follows, IsTornOf, LeavesOnly, MayTear, Torn}
+use Rattle.mold_durable.specs.Storage.{AreSame, Elapses, Follows, IsTornOf, IsWithin, LeavesOnly, MayTear, OnlyReads, Torn}
 
 module _ {S : Type 0} (moment : S → ℕ) (left_since : S → ℕ → List ℕ → Type 0) where
   -- Before the first call.
@@ -64,3 +64,53 @@ pub torn_step :
 torn_step old new at count follows bytes left =
     let from = follows bytes left in
     record { before = from.0; left = from.1; torn = from.2 }
+
+-- A storage that is only read or synced.
+module _ {S : Type 0} (shows may_leave : S → List ℕ → Type 0) (moment : S → ℕ) (left_since : S → ℕ → List ℕ → Type 0) where
+  -- Before the first call.
+  pub reads_none :
+      (old : S) → ((bytes : List ℕ) → left_since old (moment old) bytes → may_leave old bytes) →
+      OnlyReads shows may_leave moment left_since old old
+  reads_none old here = record {
+    shown = (λ bytes now. now, λ bytes now. now);
+    crash = λ bytes now. now;
+    any_moment = started moment left_since old (may_leave old) here;
+  }
+
+  -- One more call.
+  pub reads_more :
+      (old mid new : S) → OnlyReads shows may_leave moment left_since old mid → AreSame (shows mid) (shows new) →
+      IsWithin (may_leave mid) (may_leave new) →
+      Elapses (moment mid) (moment new) (left_since mid) (left_since new) (may_leave new) →
+      OnlyReads shows may_leave moment left_since old new
+  reads_more old mid new so_far same within time = record {
+    shown = (
+      λ bytes now. so_far.shown.0 bytes (same.0 bytes now),
+      λ bytes now. same.1 bytes (so_far.shown.1 bytes now),
+    );
+    crash = λ bytes now. so_far.crash bytes (within bytes now);
+    any_moment = goes_on moment left_since old mid new (may_leave old) (may_leave new) so_far.any_moment time
+        (λ bytes now. so_far.crash bytes (within bytes now));
+  }
+
+  -- Two runs, one after the other.
+  pub reads_joined :
+      (old mid new : S) → OnlyReads shows may_leave moment left_since old mid →
+      OnlyReads shows may_leave moment left_since mid new → OnlyReads shows may_leave moment left_since old new
+  reads_joined old mid new first second = record {
+    shown = (
+      λ bytes now. first.shown.0 bytes (second.shown.0 bytes now),
+      λ bytes now. second.shown.1 bytes (first.shown.1 bytes now),
+    );
+    crash = λ bytes now. first.crash bytes (second.crash bytes now);
+    any_moment = joined moment left_since old mid new (may_leave old) first.any_moment
+        (weaker moment left_since mid new (may_leave mid) (may_leave old) second.any_moment first.crash);
+  }
+
+  -- One call.
+  pub reads_one :
+      (old new : S) → ((bytes : List ℕ) → left_since old (moment old) bytes → may_leave old bytes) →
+      AreSame (shows old) (shows new) → IsWithin (may_leave old) (may_leave new) →
+      Elapses (moment old) (moment new) (left_since old) (left_since new) (may_leave new) →
+      OnlyReads shows may_leave moment left_since old new
+  reads_one old new here same within time = reads_more old old new (reads_none old here) same within time

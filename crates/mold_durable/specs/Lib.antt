@@ -2,4 +2,5 @@ pub mod DurableJournal
 pub mod Gate
 pub mod Group
 pub mod Head
+pub mod Reading
 pub mod Storage

@@ -57,6 +57,14 @@ pub record LeavesOnly {S : Type 0} (moment : S → ℕ) (left_since : S → ℕ 
   pub before : (earlier : ℕ) (bytes : List ℕ) → earlier ≤ moment old → left_since new earlier bytes →
       left_since old earlier bytes ⊎ P bytes
 
+-- The storage was read or synced, and nothing was written: the same bytes are shown, and a crash at any moment leaves only
+-- what it might have left before.
+pub record OnlyReads {S : Type 0} (shows may_leave : S → List ℕ → Type 0) (moment : S → ℕ)
+    (left_since : S → ℕ → List ℕ → Type 0) (old new : S) : Type 0 where
+  pub shown : AreSame (shows old) (shows new)
+  pub crash : IsWithin (may_leave old) (may_leave new)
+  pub any_moment : LeavesOnly moment left_since old new (may_leave old)
+
 -- Whatever a read may return and whatever a crash may leave has P.
 pub record IsKept (shows may_leave : List ℕ → Type 0) (P : List ℕ → Type 0) : Type 0 where
   pub shown : (bytes : List ℕ) → shows bytes → P bytes

@@ -7,6 +7,7 @@ ghost use Rattle.mold_session.specs.declared.error.AppendError.{AppendError};
 ghost use Rattle.mold_durable.specs.DurableJournal.{CountsCommit, CountsOpened, IsBeforeOrAfter, IsEmpty};
 ghost use Rattle.mold_durable.specs.DurableJournal.{IsSettled, storage_of, waiting_refusal};
 ghost use Rattle.mold_durable.specs.Head.{IsNoneOrEmpty};
+ghost use Rattle.mold_durable.specs.Reading.{IsOpened, OpenFault};
 ghost use Rattle.mold_durable.specs.Storage.{AreSame, LeavesOnly};
 ghost use Rattle.mold_durable.specs.declared.error.CommitError.{CommitError};
 ghost use Rattle.mold_durable.specs.declared.error.OpenError.{OpenError};
@@ -16,6 +17,7 @@ use crate::error::{CommitError, NotOpened, OpenError, WaitingError};
 use crate::gate::put_after_gate;
 use crate::group::Group;
 use crate::head::{HEAD_LENGTH, write_head};
+use crate::recovery::recover;
 use crate::storage::Storage;
 use mold_session::{AppendError, MAX_MESSAGES};
 use mold_wire::Session;
@@ -111,6 +113,56 @@ impl<S: Storage> DurableJournal<S> {
                 error: OpenError::Write,
                 storage,
             }),
+        }
+    }
+
+    /// Opens the journal that a storage has. It reads all records, and then syncs. It writes nothing, and holds no
+    /// message that was read.
+    ///
+    /// A crash at any moment of the call leaves only what a crash before it could leave. Once the journal is open, every
+    /// crash leaves the messages that were found. `Memory` is returned only if an allocation failed.
+    // The sync is necessary: if the process that wrote the records died before its sync, a crash could still lose them.
+    pub fn open(
+        alloc: Global,
+        max_message: u16,
+        storage: S,
+    ) -> Result<DurableJournal<S>, NotOpened<S>>
+        ensures settled { IfOk result (IsOpened S.shows S.may_leave) }
+        ensures any_moment { LeavesOnly S.moment S.left_since storage (storage_of result) (S.may_leave storage) }
+        ensures shown { AreSame (S.shows storage) (S.shows (storage_of result)) }
+        ensures fresh { IfOk result (λ journal. journal ≡ record {
+          storage = journal.storage;
+          session = journal.session;
+          max_message = max_message;
+          committed = journal.committed;
+          end = journal.end;
+          closed = journal.closed;
+          waiting = [];
+          broken = false;
+        }) }
+        ensures refused { IfErr result (λ fault. (bytes : List ℕ) → S.shows storage bytes →
+            OpenFault max_message bytes fault.error) }
+        ensures cause { CountsOpened S.failed storage result }
+    {
+        let mut storage = storage;
+        let Ok(group) = Group::new(alloc) else {
+            return Err(NotOpened {
+                error: OpenError::Memory,
+                storage,
+            });
+        };
+        match recover(alloc, &mut storage, max_message) {
+            Ok(found) => Ok(DurableJournal {
+                storage,
+                session: found.session,
+                max_message,
+                committed: found.records.count,
+                end: found.records.end,
+                closed: found.records.closed,
+                group,
+                broken: false,
+            }),
+            Err(error) => Err(NotOpened { error, storage }),
         }
     }
 

@@ -11,10 +11,10 @@ use std::alloc::{AllocError, Global};
 use std::marker::Model;
 
 /// The byte after the gate of a message's record.
-const MESSAGE: u8 = 0;
+pub const MESSAGE: u8 = 0;
 
 /// The byte after the gate of the closing record.
-const CLOSING: u8 = 1;
+pub const CLOSING: u8 = 1;
 
 /// The bytes of a record before its message: the gate, the byte that states what the record is, and the message's
 /// length.

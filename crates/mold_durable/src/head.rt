@@ -3,9 +3,11 @@
 ghost use Rattle.std.specs.Prelude.{◌≡◌, ◌<◌, ◌≤◌, ◌++◌, ◌∷◌, [], ℕ, List, false, length, take, IfOk, IfErr, OnOk};
 ghost use Rattle.mold_devices.specs.Devices.{Counts};
 ghost use Rattle.mold_durable.specs.Head.{IsNoneOrEmpty};
+ghost use Rattle.mold_durable.specs.Reading.{HeadFault};
 ghost use Rattle.mold_session.specs.Records.{SpellsJournal3, head_3, magic_3};
 ghost use Rattle.mold_durable.specs.Storage.{AreSame, IsKept, IsWithin, LeavesOnly};
 
+use crate::error::OpenError;
 use crate::gate::SHUT_GATE;
 use crate::storage::{Storage, write_synced};
 use mold_devices::DeviceFault;
@@ -53,4 +55,24 @@ pub fn write_head<S: Storage>(storage: &mut S, session: Session) -> Result<(), D
     write_synced(storage, MAGIC_LENGTH as u64, &name_and_gate(session))?;
     write_synced(storage, 0, &magic())?;
     Ok(())
+}
+
+/// Returns the session of a head. The bytes are the first ones of a storage, at most as many as a head has.
+pub fn split_head(bytes: &[u8]) -> Result<Session, OpenError>
+    requires { length bytes.now ≤ 18 }
+    ensures named { IfOk result (λ session. length session.0 ≡ 10) }
+    ensures head { IfOk result (λ session. bytes.now ≡ head_3 session.0) }
+    ensures refused { IfErr result (HeadFault bytes.now) }
+{
+    let len = bytes.len();
+    if len < HEAD_LENGTH {
+        return Err(OpenError::Short { len });
+    }
+    let (start, name) = bytes.split_at(MAGIC_LENGTH);
+    if start != magic().as_slice() {
+        return Err(OpenError::BadMagic);
+    }
+    let mut session = Session([0; SESSION_LENGTH]);
+    session.0.copy_from_slice(name);
+    Ok(session)
 }

@@ -7,6 +7,8 @@ mod error;
 mod gate;
 mod group;
 mod head;
+mod records;
+mod recovery;
 mod storage;
 
 pub use durable_journal::DurableJournal;

@@ -1,0 +1,123 @@
+//! Reads the records of bytes in memory.
+
+ghost use Rattle.std.specs.Prelude.{◌<◌, ◌≤◌, ◌∷◌, length, drop, IfOk, IfErr, OnOk};
+ghost use Rattle.mold_wire.specs.declared.limits.TheConstants.{MAX_NUMBER};
+ghost use Rattle.mold_session.specs.Checking.{HasBlock};
+ghost use Rattle.mold_session.specs.FileFault.{RecordFault};
+ghost use Rattle.mold_session.specs.declared.journal.TheConstants.{MAX_MESSAGES};
+ghost use Rattle.mold_durable.specs.Reading.{IsNextRecord, SkipsRecords, file_error};
+
+use crate::error::OpenError;
+use crate::gate::OPEN_GATE;
+use crate::group::{CLOSING, MESSAGE};
+use byteorder::{BigEndian, ByteOrder};
+use mold_session::MAX_MESSAGES;
+use mold_wire::LENGTH_BYTES;
+
+/// What follows in a journal.
+#[derive(Clone, Copy)]
+pub enum NextRecord {
+    /// The record of a message. It takes `len` bytes.
+    Message { len: usize },
+    /// The closing record if the session is closed, otherwise a shut gate.
+    End { closed: bool },
+}
+
+/// The whole records at the start of some bytes, and what follows them.
+#[derive(Clone, Copy)]
+pub struct Skipped {
+    /// The number of messages, with those before these bytes.
+    pub count: u64,
+    /// The length of the records, in bytes.
+    pub len: usize,
+    /// Whether the session is closed if the records end, otherwise why no record follows.
+    pub stop: Result<bool, OpenError>,
+}
+
+// Returns the length of the block at the start of the bytes, which follow the first two bytes of a record. `count`
+// messages precede it.
+fn block_length(most: u16, count: u64, body: &[u8]) -> Result<usize, OpenError>
+    requires { count < MAX_NUMBER }
+    ensures block { IfOk result (λ len. HasBlock most body.now (drop len body.now)) }
+    ensures within { IfOk result (λ len. len ≤ length body.now) }
+    ensures few { OnOk result (count < MAX_MESSAGES) }
+    ensures refused { IfErr result (λ error. RecordFault most count (1 ∷ 0 ∷ body.now) (file_error error)) }
+{
+    if count == MAX_MESSAGES {
+        return Err(OpenError::Full);
+    }
+    let number = count + 1;
+    if body.len() < LENGTH_BYTES {
+        return Err(OpenError::Damaged { number });
+    }
+    let (head, rest) = body.split_at(LENGTH_BYTES);
+    let len = usize::from(BigEndian::read_u16(head));
+    if len > usize::from(most) {
+        return Err(OpenError::TooLong { len });
+    }
+    if rest.len() < len {
+        return Err(OpenError::Damaged { number });
+    }
+    Ok(LENGTH_BYTES + len)
+}
+
+// Reads the record at the start of the bytes. `count` messages precede it.
+fn next_record(most: u16, count: u64, rest: &[u8]) -> Result<NextRecord, OpenError>
+    requires { count < MAX_NUMBER }
+    ensures next { IfOk result (IsNextRecord most count rest.now) }
+    ensures refused { IfErr result (λ error. RecordFault most count rest.now (file_error error)) }
+{
+    let damaged = OpenError::Damaged { number: count + 1 };
+    let Some((gate, record)) = rest.split_first() else {
+        return Err(damaged);
+    };
+    if *gate != OPEN_GATE {
+        return Ok(NextRecord::End { closed: false });
+    }
+    let Some((kind, body)) = record.split_first() else {
+        return Err(damaged);
+    };
+    if *kind == MESSAGE {
+        return match block_length(most, count, body) {
+            Ok(len) => Ok(NextRecord::Message { len: 2 + len }),
+            Err(error) => Err(error),
+        };
+    }
+    if *kind != CLOSING {
+        return Err(damaged);
+    }
+    if body.is_empty() {
+        return Err(damaged);
+    }
+    Ok(NextRecord::End { closed: true })
+}
+
+/// Reads the whole records at the start of the bytes, and what follows them. `start` messages precede them.
+pub fn skip_records(most: u16, start: u64, bytes: &[u8]) -> Skipped
+    requires { start < MAX_NUMBER }
+    ensures { SkipsRecords most start bytes.now result }
+{
+    let mut count = start;
+    let mut at = 0;
+    'records: loop {
+        let (_, rest) = bytes.split_at(at);
+        match next_record(most, count, rest) {
+            Ok(NextRecord::Message { len }) => at += len,
+            Ok(NextRecord::End { closed }) => {
+                return Skipped {
+                    count,
+                    len: at,
+                    stop: Ok(closed),
+                };
+            }
+            Err(error) => {
+                return Skipped {
+                    count,
+                    len: at,
+                    stop: Err(error),
+                };
+            }
+        }
+        count += 1;
+    }
+}

@@ -1,0 +1,159 @@
+//! Reads a journal's storage when the journal is opened. It writes nothing.
+
+ghost use Rattle.std.specs.Prelude.{◌≡◌, ◌⊎◌, ◌+◌, ◌<◌, ◌≤◌, ◌^◌, ℕ, List, length, take, IfOk, IfErr};
+ghost use Rattle.mold_wire.specs.declared.limits.TheConstants.{MAX_NUMBER};
+ghost use Rattle.mold_devices.specs.Devices.{Counts};
+ghost use Rattle.mold_session.specs.Records.{head_3};
+ghost use Rattle.mold_durable.specs.Reading.{CountsOpen, HasReadAll, HeadFault, IsOfDevice, IsRecordsError, OpenFault};
+ghost use Rattle.mold_durable.specs.Reading.{ReadsPiece};
+ghost use Rattle.mold_durable.specs.Storage.{IsWithin, OnlyReads};
+
+use crate::error::OpenError;
+use crate::head::{HEAD_LENGTH, split_head};
+use crate::records::{Skipped, skip_records};
+use crate::storage::Storage;
+use mold_devices::DeviceFault;
+use mold_wire::Session;
+use std::alloc::Global;
+
+/// The number of bytes that one read asks for. The longest record has 65,539.
+const PIECE: usize = 1 << 17;
+
+/// What the storage of a journal has.
+#[derive(Clone, Copy)]
+pub struct Recovered {
+    /// The session that the messages belong to.
+    pub session: Session,
+    /// Its records.
+    pub records: Records,
+}
+
+/// The records of a journal.
+#[derive(Clone, Copy)]
+pub struct Records {
+    /// The number of messages.
+    pub count: u64,
+    /// The offset of the shut gate, or of the last byte of the closing record.
+    pub end: u64,
+    /// Whether the session is closed.
+    pub closed: bool,
+}
+
+// Reads the head.
+fn read_head<S: Storage>(storage: &mut S) -> Result<Session, OpenError>
+    ensures read { OnlyReads S.shows S.may_leave S.moment S.left_since storage.old storage.new }
+    ensures named { IfOk result (λ session. length session.0 ≡ 10) }
+    ensures head { IfOk result (λ session. (bytes : List ℕ) → S.shows storage.old bytes →
+        take 18 bytes ≡ head_3 session.0) }
+    ensures refused { IfErr result (λ error. (error ≡ OpenError.Read) ⊎ ((bytes : List ℕ) → S.shows storage.old bytes →
+        HeadFault bytes error)) }
+    ensures failures { CountsOpen (S.failed storage.old) (S.failed storage.new) result }
+{
+    let mut head = [0; HEAD_LENGTH];
+    match storage.read_at(0, &mut head) {
+        Ok(count) => split_head(&head[..count]),
+        Err(_) => Err(OpenError::Read),
+    }
+}
+
+// Reads a piece from offset `at` on, and the whole records in it. `start` messages precede them.
+fn read_piece<S: Storage>(
+    storage: &mut S,
+    buffer: &mut [u8],
+    most: u16,
+    at: u64,
+    start: u64,
+) -> Result<Skipped, DeviceFault>
+    requires { start < MAX_NUMBER }
+    ensures read { OnlyReads S.shows S.may_leave S.moment S.left_since storage.old storage.new }
+    ensures found { IfOk result (ReadsPiece (S.shows storage.old) most start at (length buffer.new)) }
+    ensures failures { Counts (S.failed storage.old) (S.failed storage.new) result }
+{
+    match storage.read_at(at, buffer) {
+        Ok(count) => Ok(skip_records(most, start, &buffer[..count])),
+        Err(fault) => Err(fault),
+    }
+}
+
+// Reads all records. A fault counts only at the start of a piece, where it can't be the end of the piece.
+fn read_records<S: Storage>(
+    storage: &mut S,
+    buffer: &mut [u8],
+    most: u16,
+) -> Result<Records, OpenError>
+    requires { 65539 ≤ length buffer.old }
+    ensures read { OnlyReads S.shows S.may_leave S.moment S.left_since storage.old storage.new }
+    ensures near { IfOk result (λ found. found.end < 2 ^ 63) }
+    ensures found { IfOk result (λ found.
+        HasReadAll (S.shows storage.old) most found.count found.end found.closed) }
+    ensures refused { IfErr result (IsRecordsError most (S.shows storage.old)) }
+    ensures failures { CountsOpen (S.failed storage.old) (S.failed storage.new) result }
+{
+    let mut count = 0;
+    let mut end = HEAD_LENGTH as u64;
+    'pieces: loop {
+        let skipped = match read_piece(storage, buffer, most, end, count) {
+            Ok(skipped) => skipped,
+            Err(_) => return Err(OpenError::Read),
+        };
+        count = skipped.count;
+        end += skipped.len as u64;
+        match skipped.stop {
+            Ok(true) => {
+                return Ok(Records {
+                    count,
+                    end: end + 2,
+                    closed: true,
+                });
+            }
+            Ok(false) => {
+                return Ok(Records {
+                    count,
+                    end,
+                    closed: false,
+                });
+            }
+            Err(error) => {
+                if skipped.len == 0 {
+                    return Err(error);
+                }
+            }
+        }
+    }
+}
+
+/// Reads the storage of a journal whose messages have at most `most` bytes, and then syncs it. So a crash leaves all
+/// messages that were read, also if the process that wrote them died before its sync.
+pub fn recover<S: Storage>(
+    alloc: Global,
+    storage: &mut S,
+    most: u16,
+) -> Result<Recovered, OpenError>
+    ensures read { OnlyReads S.shows S.may_leave S.moment S.left_since storage.old storage.new }
+    ensures durable { IfOk result (λ _. IsWithin (S.shows storage.old) (S.may_leave storage.new)) }
+    ensures named { IfOk result (λ found. length found.session.0 ≡ 10) }
+    ensures head { IfOk result (λ found. (bytes : List ℕ) → S.shows storage.old bytes →
+        take 18 bytes ≡ head_3 found.session.0) }
+    ensures near { IfOk result (λ found. found.records.end < 2 ^ 63) }
+    ensures found { IfOk result (λ found. HasReadAll (S.shows storage.old) most
+        found.records.count found.records.end found.records.closed) }
+    ensures refused { IfErr result (λ error. (bytes : List ℕ) → S.shows storage.old bytes →
+        OpenFault most bytes error) }
+    ensures failures { CountsOpen (S.failed storage.old) (S.failed storage.new) result }
+{
+    let session = match read_head(storage) {
+        Ok(session) => session,
+        Err(error) => return Err(error),
+    };
+    let Ok(mut buffer) = vec![in alloc; 0; PIECE] else {
+        return Err(OpenError::Memory);
+    };
+    let records = match read_records(storage, &mut buffer, most) {
+        Ok(records) => records,
+        Err(error) => return Err(error),
+    };
+    match storage.sync() {
+        Ok(()) => Ok(Recovered { session, records }),
+        Err(_) => Err(OpenError::Write),
+    }
+}
