@@ -1,4 +1,6 @@
 mod CommitLemmas
+mod CrashLemmas
+mod FaultLemmas
 mod FileLemmas
 mod GateLemmas
 mod GroupLemmas

@@ -1,3 +1,4 @@
+pub mod Crash
 pub mod DurableJournal
 pub mod Gate
 pub mod Group
