@@ -5,6 +5,7 @@ mod FileLemmas
 mod GateLemmas
 mod GroupLemmas
 mod HeadLemmas
+mod LifeLemmas
 mod MomentLemmas
 mod OpenLemmas
 mod ReadingLemmas

@@ -7,6 +7,8 @@ ghost use Rattle.mold_session.specs.declared.error.AppendError.{AppendError};
 ghost use Rattle.mold_durable.specs.DurableJournal.{CountsCommit, CountsOpened, IsBeforeOrAfter, IsEmpty};
 ghost use Rattle.mold_durable.specs.DurableJournal.{IsSettled, storage_of, waiting_refusal};
 ghost use Rattle.mold_durable.specs.Head.{IsNoneOrEmpty};
+ghost use Rattle.mold_durable.specs.Life.{IsFileAround, IsFileOf, Life, Lives, MayHappen, after, born};
+ghost use Rattle.mold_durable.specs.Life.Moment.{Append, Close, Commit, Crash};
 ghost use Rattle.mold_durable.specs.Reading.{IsOpened, OpenFault};
 ghost use Rattle.mold_durable.specs.Storage.{AreSame, LeavesOnly};
 ghost use Rattle.mold_durable.specs.declared.error.CommitError.{CommitError};
@@ -17,6 +19,7 @@ use crate::error::{CommitError, NotOpened, OpenError, WaitingError};
 use crate::gate::put_after_gate;
 use crate::group::Group;
 use crate::head::{HEAD_LENGTH, write_head};
+use crate::laws::one_session_law;
 use crate::recovery::recover;
 use crate::storage::Storage;
 use mold_session::{AppendError, MAX_MESSAGES};
@@ -74,7 +77,7 @@ impl<S: Storage> DurableJournal<S> {
         storage: S,
     ) -> Result<DurableJournal<S>, NotOpened<S>>
         ensures settled { IsEmpty S.shows S.may_leave storage →
-            IfOk result (λ journal. IsSettled S.shows S.may_leave journal []) }
+            IfOk result (λ journal. Lives S.shows S.may_leave journal (born session)) }
         ensures any_moment { IsEmpty S.shows S.may_leave storage →
             LeavesOnly S.moment S.left_since storage (storage_of result) (IsNoneOrEmpty session) }
         ensures fresh { IfOk result (λ journal. journal ≡ record {
@@ -128,6 +131,8 @@ impl<S: Storage> DurableJournal<S> {
         storage: S,
     ) -> Result<DurableJournal<S>, NotOpened<S>>
         ensures settled { IfOk result (IsOpened S.shows S.may_leave) }
+        ensures recovered { (life : Life) (bytes : List ℕ) → S.shows storage bytes → IsFileOf life bytes →
+            IfOk result (λ journal. Lives S.shows S.may_leave journal (after life Crash)) }
         ensures any_moment { LeavesOnly S.moment S.left_since storage (storage_of result) (S.may_leave storage) }
         ensures shown { AreSame (S.shows storage) (S.shows (storage_of result)) }
         ensures fresh { IfOk result (λ journal. journal ≡ record {
@@ -144,6 +149,7 @@ impl<S: Storage> DurableJournal<S> {
             OpenFault max_message bytes fault.error) }
         ensures cause { CountsOpened S.failed storage result }
     {
+        one_session_law();
         let mut storage = storage;
         let Ok(group) = Group::new(alloc) else {
             return Err(NotOpened {
@@ -229,6 +235,8 @@ impl<S: Storage> DurableJournal<S> {
         ensures added { OnOk result (self.new ≡ record self.old {
           waiting = self.old.waiting ++ message.now ∷ [];
         }) }
+        ensures appended { (life : Life) → Lives S.shows S.may_leave self.old life → OnOk result
+            (MayHappen life (Append message.now) × Lives S.shows S.may_leave self.new (after life (Append message.now))) }
         ensures broken { self.old.broken ≡ true → IfErr result (λ error. error ≡ waiting.Broken) }
         ensures refused { self.old.broken ≡ false → IfErr result (λ error.
             error ≡ waiting.Append (unwrap_or (waiting_refusal self.old message.now) AppendError.Memory)) }
@@ -259,12 +267,10 @@ impl<S: Storage> DurableJournal<S> {
     /// A crash at any moment of the call leaves the messages before it, with all that waited or with none of them. Once
     /// it succeeded, every crash leaves all of them.
     pub fn commit(&mut self) -> Result<(), CommitError>
-        ensures acknowledged { (messages : List (List ℕ)) → IsSettled S.shows S.may_leave self.old messages →
-            OnOk result (IsSettled S.shows S.may_leave self.new (messages ++ self.old.waiting)) }
-        ensures any_moment { (messages : List (List ℕ)) → IsSettled S.shows S.may_leave self.old messages →
-            LeavesOnly S.moment S.left_since self.old.storage self.new.storage
-            (IsBeforeOrAfter self.old.session messages self.old.closed
-            (messages ++ self.old.waiting) self.old.closed) }
+        ensures acknowledged { (life : Life) → Lives S.shows S.may_leave self.old life →
+            OnOk result (Lives S.shows S.may_leave self.new (after life Commit)) }
+        ensures any_moment { (life : Life) → Lives S.shows S.may_leave self.old life →
+            LeavesOnly S.moment S.left_since self.old.storage self.new.storage (IsFileAround life Commit) }
         ensures done { OnOk result (self.new ≡ record self.old {
           storage = self.new.storage;
           committed = self.old.committed + length self.old.waiting;
@@ -293,12 +299,10 @@ impl<S: Storage> DurableJournal<S> {
     ///
     /// A crash at any moment of the call leaves the messages before it, or the closed session with all messages.
     pub fn close(&mut self) -> Result<(), CommitError>
-        ensures acknowledged { (messages : List (List ℕ)) → IsSettled S.shows S.may_leave self.old messages →
-            OnOk result (IsSettled S.shows S.may_leave self.new (messages ++ self.old.waiting)) }
-        ensures any_moment { (messages : List (List ℕ)) → IsSettled S.shows S.may_leave self.old messages →
-            LeavesOnly S.moment S.left_since self.old.storage self.new.storage
-            (IsBeforeOrAfter self.old.session messages self.old.closed
-            (messages ++ self.old.waiting) true) }
+        ensures acknowledged { (life : Life) → Lives S.shows S.may_leave self.old life →
+            OnOk result (Lives S.shows S.may_leave self.new (after life Close)) }
+        ensures any_moment { (life : Life) → Lives S.shows S.may_leave self.old life →
+            LeavesOnly S.moment S.left_since self.old.storage self.new.storage (IsFileAround life Close) }
         ensures done { OnOk result (self.new ≡ record self.old {
           storage = self.new.storage;
           committed = self.old.committed + length self.old.waiting;

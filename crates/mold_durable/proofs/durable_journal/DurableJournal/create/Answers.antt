@@ -1,4 +1,5 @@
-use Rattle.std.proofs.Common.{ℕ, List, [], length, inl, refl, arith, ap, length-append}
+use Rattle.std.proofs.Common.{ℕ, List, [], length, inl, refl, sym, arith, ap, length-append}
+use Rattle.mold_durable.specs.Group.{GroupState}
 use Rattle.mold_durable.specs.Head.{IsNoneOrEmpty}
 use Rattle.mold_session.specs.Records.{head_3}
 use Rattle.mold_durable.proofs.HeadLemmas.{length-head_3, none_short}
@@ -15,9 +16,14 @@ pub returns-in-Ok-write_head-clause-settled : goal.returns-in-Ok-write_head-clau
 returns-in-Ok-write_head-clause-settled g c = λ empty.
     let named = c.in-Ok-write_head.ensures.named in
     record {
-      kept = c.in-Ok-write_head.ensures.kept empty;
-      ends = omega (arith, length-append (head_3 c.args.session.0) [], length-head_3 c.args.session.0 named);
-      counted = refl;
-      named = named;
-      listed = record { few = omega arith; each = tt };
+      settled = record {
+        kept = c.in-Ok-write_head.ensures.kept empty;
+        ends = omega (arith, length-append (head_3 c.args.session.0) [], length-head_3 c.args.session.0 named);
+        counted = refl;
+        named = named;
+        listed = record { few = omega arith; each = tt };
+      };
+      session = refl;
+      closed = refl;
+      waiting = sym (ap (λ (s : GroupState). s.messages) c.in-Ok.ensures);
     }

@@ -1,4 +1,6 @@
-use Rattle.std.proofs.Common.{false, arith}
+use Rattle.std.proofs.Common.{false, sym, ap, arith}
+use Rattle.mold_durable.specs.Group.{GroupState}
+use Rattle.mold_durable.proofs.LifeLemmas.{reopened}
 use Rattle.mold_durable.proofs.OpenLemmas.{opened}
 use Rattle.mold_durable.proofs.durable_journal.DurableJournal.open.Goals as goal
 
@@ -16,3 +18,9 @@ returns-in-Ok-recover-clause-settled g c =
       broken = false;
     }) c.in-Ok-recover.ensures.named c.in-Ok-recover.ensures.head (omega (arith, c.ranges.max_message.fits))
     c.in-Ok-recover.ensures.found c.recover.ensures.read.shown.0 c.in-Ok-recover.ensures.durable
+
+pub returns-in-Ok-recover-clause-recovered : goal.returns-in-Ok-recover-clause-recovered
+returns-in-Ok-recover-clause-recovered g c = λ life bytes shown file.
+    reopened g.S.Storage.shows g.S.Storage.may_leave c.one_session_law.ensures.session _ life bytes
+    (returns-in-Ok-recover-clause-settled g c) (ap (λ (s : GroupState). s.messages) c.in-Ok.ensures)
+    (c.recover.ensures.read.shown.1 bytes shown) file

@@ -1,0 +1,56 @@
+//! The law of the durable journal. A law is a function that does nothing: its contract is a theorem.
+
+ghost use Rattle.std.specs.Prelude.{◌≡◌, ℕ, Bool, List, true};
+ghost use Rattle.mold_durable.specs.Life.{IsFileOf, Life, Moment, after as after_moment, born};
+ghost use Rattle.mold_durable_law.specs.History.{AllMayHappen, History, Event, after_all, after_event, all_steps, begun};
+ghost use Rattle.mold_durable_law.specs.History.{life_of};
+ghost use Rattle.mold_durable_law.specs.History.Event.{Writes};
+ghost use Rattle.mold_session.specs.Records.{SpellsJournal3};
+ghost use Rattle.mold_wire.specs.declared.session.Session.{Session};
+ghost use Rattle.mold_world.specs.Headline.{HasAll, IsPrefix};
+ghost use Rattle.mold_world.specs.Machine.{AreAllowed, run, start};
+
+use mold_session::laws::one_file_law;
+use mold_world::laws::safety_law;
+
+/// States the headline for a publisher that keeps its session in a durable journal and may crash at any moment.
+///
+/// The contracts of `DurableJournal` state which moment of the journal's life a call is, and that a crash within a
+/// call leaves a file of the life before that moment or after it. A history has the moments of the publisher's journal,
+/// and the other steps of the machine of `mold_world`: datagrams that are sent, delivered or lost, and receivers that
+/// restart. A datagram is sent only if it is true of the committed messages.
+///
+/// - `begins`, `life`: the committed messages of the journal are the published messages of the machine.
+/// - `steps`, `run`: each history is a run of the machine, in which messages are published by commits. A message that a
+///   crash loses is not published, and a crash is no step.
+/// - `books`, `whole`: so each receiver's book is a prefix of the committed messages, and a receiver that reports the
+///   end has the whole closed session.
+/// - `recovered`, `recovered_whole`: each book is a prefix of the messages of any file that a crash leaves. If a
+///   receiver reports the end, the file is closed, and the book has exactly its messages.
+pub fn durable_law()
+    ensures begins { (session : Session) → life_of (begun session) ≡ born session }
+    ensures life { (history : History) (moment : Moment) →
+        life_of (after_event history (Writes moment)) ≡ after_moment (life_of history) moment }
+    ensures steps { (session : Session) (events : List Event) → AllMayHappen (begun session) events →
+        AreAllowed (start session) (all_steps (begun session) events) }
+    ensures run { (session : Session) (events : List Event) →
+        (after_all (begun session) events).machine ≡ run (start session) (all_steps (begun session) events) }
+    ensures books { (session : Session) (events : List Event) (receiver : ℕ) → AllMayHappen (begun session) events →
+        IsPrefix ((after_all (begun session) events).machine.logs receiver).book
+        (life_of (after_all (begun session) events)).committed }
+    ensures whole { (session : Session) (events : List Event) (receiver : ℕ) → AllMayHappen (begun session) events →
+        ((after_all (begun session) events).machine.logs receiver).ended ≡ true →
+        HasAll (after_all (begun session) events).machine receiver }
+    ensures recovered { (session other : Session) (events : List Event) (receiver : ℕ) (bytes : List ℕ)
+        (messages : List (List ℕ)) (closed : Bool) → AllMayHappen (begun session) events →
+        IsFileOf (life_of (after_all (begun session) events)) bytes → SpellsJournal3 other messages closed bytes →
+        IsPrefix ((after_all (begun session) events).machine.logs receiver).book messages }
+    ensures recovered_whole { (session other : Session) (events : List Event) (receiver : ℕ) (bytes : List ℕ)
+        (messages : List (List ℕ)) (closed : Bool) → AllMayHappen (begun session) events →
+        ((after_all (begun session) events).machine.logs receiver).ended ≡ true →
+        IsFileOf (life_of (after_all (begun session) events)) bytes → SpellsJournal3 other messages closed bytes →
+        (closed ≡ true) × (((after_all (begun session) events).machine.logs receiver).book ≡ messages) }
+{
+    safety_law();
+    one_file_law();
+}
