@@ -1,6 +1,7 @@
 //! The patience that adapts: how long after one line the other line brings the same datagram.
 
-ghost use Rattle.std.specs.Prelude.{◌≡◌, ◌≤◌, ◌<◌, ℕ, List, [], length, vec_capacity, IfOk};
+ghost use Rattle.std.specs.Prelude.{◌≡◌, ◌≤◌, ◌<◌, ◌+◌, ◌++◌, ◌∷◌, ℕ, List, [], length, nat_lt, vec_capacity, IfOk};
+ghost use Rattle.std.specs.Prelude.{if◌then◌else◌};
 ghost use Rattle.mold_pacing.specs.Delays.{delay_on, greatest_of, greatest_on, index_after, no_arrivals, patience_for};
 ghost use Rattle.mold_pacing.specs.Delays.{pushed};
 ghost use Rattle.mold_pacing.specs.declared.delays.TheConstants.{DELAYS};
@@ -55,6 +56,7 @@ pub struct Delays {
 }
 
 // Returns the greatest of the delays, or 0 without a delay.
+#[inline(never)]
 fn greatest_in(delays: &[u64]) -> u64
     ensures { result ≡ greatest_of delays.now }
 {
@@ -85,6 +87,7 @@ fn greatest_on(delays: &[u64], lines: &[u32], line: u32) -> u64
 }
 
 // Returns the greatest of the delays, after `delay` took the place of `left`. `greatest` was the greatest one before.
+#[inline(always)]
 fn next_greatest(delays: &[u64], greatest: u64, left: u64, delay: u64) -> u64
     requires new { greatest ≤ delay → greatest_of delays.now ≡ delay }
     requires kept { left < greatest → delay < greatest → greatest_of delays.now ≡ greatest }
@@ -97,6 +100,15 @@ fn next_greatest(delays: &[u64], greatest: u64, left: u64, delay: u64) -> u64
         return greatest;
     }
     greatest_in(delays)
+}
+
+// Returns the index of the delay that is replaced after the one at this index.
+#[inline(always)]
+fn next_index(index: usize) -> usize
+    requires { index < DELAYS }
+    ensures { result ≡ (if nat_lt (index + 1) DELAYS then index + 1 else 0) }
+{
+    if index + 1 < DELAYS { index + 1 } else { 0 }
 }
 
 // Returns the patience if this is the greatest delay.
@@ -129,7 +141,24 @@ impl Delays {
         })
     }
 
-    // Adds a delay of this line. The greatest one is looked for only if it left.
+    // Adds a delay of this line, while fewer than `DELAYS` count.
+    #[inline(never)]
+    fn add(&mut self, delay: u64, line: u32)
+        requires { length self.old.recent.items < DELAYS }
+        ensures arrivals { self.new.arrivals.items ≡ self.old.arrivals.items }
+        ensures recent { self.new.recent.items ≡ self.old.recent.items ++ delay ∷ [] }
+        ensures lines { self.new.lines.items ≡ self.old.lines.items ++ line ∷ [] }
+        ensures next { self.new.next ≡ self.old.next }
+    {
+        self.recent.push_reserved(delay);
+        self.lines.push_reserved(line);
+        self.greatest = self.greatest.max(delay);
+        self.patience = patience_after(self.greatest);
+    }
+
+    // Adds a delay of this line. The greatest one is looked for only if it left, and the patience changes only with it.
+    // For the optimizer: a receiver calls it for each datagram that both lines brought.
+    #[inline(always)]
     fn push(&mut self, delay: u64, line: u32)
         ensures arrivals { self.new.arrivals.items ≡ self.old.arrivals.items }
         ensures recent { self.new.recent.items ≡ pushed delay self.old.next self.old.recent.items }
@@ -137,22 +166,19 @@ impl Delays {
         ensures next { self.new.next ≡ index_after self.old.next self.old.recent.items }
     {
         if self.recent.len() < DELAYS {
-            self.recent.push_reserved(delay);
-            self.lines.push_reserved(line);
-            self.greatest = self.greatest.max(delay);
-            self.patience = patience_after(self.greatest);
+            self.add(delay, line);
             return;
         }
         let left = self.recent[self.next];
         self.recent[self.next] = delay;
         self.lines[self.next] = line;
-        self.greatest = next_greatest(&self.recent, self.greatest, left, delay);
-        self.patience = patience_after(self.greatest);
-        self.next = if self.next + 1 < DELAYS {
-            self.next + 1
-        } else {
-            0
-        };
+        self.next = next_index(self.next);
+        let greatest = next_greatest(&self.recent, self.greatest, left, delay);
+        if greatest == self.greatest {
+            return;
+        }
+        self.greatest = greatest;
+        self.patience = patience_after(greatest);
     }
 
     /// Takes an arrival on one of two lines. If the other line brought the datagram before, the time since then is a

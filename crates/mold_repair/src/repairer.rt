@@ -112,6 +112,8 @@ impl Repairer {
     }
 
     // Reports to the pacer what a datagram brought that was accepted.
+    // For the optimizer: if it is inlined, `take` takes up to a tenth longer, also for datagrams in order.
+    #[inline(never)]
     fn note(&mut self, origin: RepairOrigin, datagram: &[u8])
         ensures noted { HasLearned self.old.pacer self.new.pacer (noted origin datagram.now self.old.arbiter.view
             self.old.pacer.state.now self.old.pacer.flights.items) }
@@ -141,7 +143,11 @@ impl Repairer {
         ensures audit { self.new.audit ≡ self.old.audit }
     {
         if is_missing {
-            self.note(origin, datagram);
+            // For the optimizer: the call takes the address of an origin that exists only here, not of the argument.
+            match origin {
+                RepairOrigin::Line(line) => self.note(RepairOrigin::Line(line), datagram),
+                RepairOrigin::Server(server) => self.note(RepairOrigin::Server(server), datagram),
+            }
         }
     }
 

@@ -1,47 +1,19 @@
-use Rattle.std.proofs.Common.{◌≡◌, ◌<◌, ◌∙◌, ℕ, ◌∷◌, [], Some, arith, ap, length, length-append, slice_get, sym}
+use Rattle.std.proofs.Common.{◌≡◌, ◌<◌, ◌∙◌, ℕ, Some, arith, ap, length, slice_get, sym}
 use Rattle.std.proofs.lemmas.Option.{slice_get-get_or}
 use Rattle.mold_pacing.specs.Delays.{greatest_of}
-use Rattle.mold_pacing.proofs.DelayLemmas.{greatest_append, greatest_kept, greatest_new}
+use Rattle.mold_pacing.proofs.DelayLemmas.{greatest_kept, greatest_new}
 use Rattle.mold_pacing.proofs.delays.Delays.push.Goals as goal
 
-pub invariant_of-self-clause-most : goal.invariant_of-self-clause-most
-invariant_of-self-clause-most c =
-    let old = c.args.self.now in
-    omega (
-      arith,
-      c.max-self.ensures,
-      old.most,
-      greatest_append old.recent.items c.args.delay,
-      ap greatest_of c.push_reserved.ensures.items,
-    )
-
-pub invariant_of-self-clause-fits : goal.invariant_of-self-clause-fits
-invariant_of-self-clause-fits c =
-    let old = c.args.self.now in
-    c.patience_after-self.ensures c.push_reserved.new.self.items
-    (omega (
-      arith,
-      ap length c.push_reserved.ensures.items,
-      length-append old.recent.items (c.args.delay ∷ []),
-    ))
-    (omega (
-      arith,
-      c.max-self.ensures,
-      old.most,
-      greatest_append old.recent.items c.args.delay,
-      ap greatest_of c.push_reserved.ensures.items,
-    ))
-
-pub next_greatest-self-requires-clause-new : goal.next_greatest-self-requires-clause-new
-next_greatest-self-requires-clause-new c =
+pub next_greatest-greatest-requires-clause-new : goal.next_greatest-greatest-requires-clause-new
+next_greatest-greatest-requires-clause-new c =
     let old = c.args.self.now in
     let within : old.next < length old.recent.items =
     omega (arith, old.within, c.if-len-lt-DELAYS.false, c.len.ensures, old.recent.ok.0) in
     λ above. ap greatest_of c.deref.ensures.value
     ∙ greatest_new old.recent.items old.next c.args.delay within (omega (arith, above, old.most))
 
-pub next_greatest-self-requires-clause-kept : goal.next_greatest-self-requires-clause-kept
-next_greatest-self-requires-clause-kept c =
+pub next_greatest-greatest-requires-clause-kept : goal.next_greatest-greatest-requires-clause-kept
+next_greatest-greatest-requires-clause-kept c =
     let old = c.args.self.now in
     let left = c.index-left.result.now in
     let within : old.next < length old.recent.items =
