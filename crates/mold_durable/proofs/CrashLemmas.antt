@@ -1,6 +1,6 @@
 -- What each call leaves of a journal whose messages were committed.
 use Rattle.std.proofs.Common.{◌≡◌, inl, inr, ℕ, ◌≤◌, Bool, true, List, [], ◌++◌, Result, Ok, Err}
-use Rattle.std.proofs.Common.{refl, sym, ap, subst, ◌∙◌, append_assoc, append-nil, arith}
+use Rattle.std.proofs.Common.{refl, sym, ap, subst, ◌∙◌, append_assoc, append-nil}
 use Rattle.std.specs.Prelude.{IfErr, IfOk, OnOk, OnErr}
 use Rattle.std.specs.List.{AllByRecursion}
 use Rattle.mold_wire.specs.declared.block.TheConstants.{MAX_MESSAGE}
@@ -8,12 +8,13 @@ use Rattle.mold_wire.specs.declared.session.Session.{Session}
 use Rattle.mold_session.specs.Journal.{IsWithin}
 use Rattle.mold_session.specs.Records.{SpellsJournal3}
 use Rattle.mold_durable.specs.Crash.{Continues, goes_on, stopped, HasPrefix, IsLaterFile, IsLive}
-use Rattle.mold_durable.specs.DurableJournal.{DurableState, IsBeforeOrAfter, IsSettled, storage_of}
-use Rattle.mold_durable.specs.Reading.{IsOfDevice, IsOpened, OpenFault}
-use Rattle.mold_durable.specs.Storage.{AreSame, LeavesOnly}
+use Rattle.mold_durable.specs.DurableJournal.{DurableState, IsBeforeOrAfter, IsSettled}
+use Rattle.mold_durable.specs.Life.{IsFileOf, Life, Lives, after as after_moment}
+use Rattle.mold_durable.specs.Life.Moment.{Crash}
+use Rattle.mold_durable.specs.Reading.{IsOfDevice}
+use Rattle.mold_durable.specs.Storage.{LeavesOnly}
 use Rattle.mold_durable.specs.declared.error.CommitError.{CommitError}
 use Rattle.mold_durable.specs.declared.error.NotOpened.{NotOpened}
-use Rattle.mold_durable.specs.declared.error.OpenError.{OpenError}
 use Rattle.mold_durable.specs.declared.error.WaitingError.{WaitingError}
 use Rattle.mold_durable.proofs.MomentLemmas.{started, weaker}
 
@@ -153,39 +154,25 @@ module _ {S : Type 0} (shows may_leave : S → List ℕ → Type 0) (session : S
             state = state_after live.state;
           }
 
--- Bytes are the file of one session.
-abbrev pub IsOnce : Type 0
-IsOnce = (one other : Session) (ms others : List (List ℕ)) (closed shut : Bool) (b : List ℕ) →
-    SpellsJournal3 one ms closed b → SpellsJournal3 other others shut b →
-    (one ≡ other) × (ms ≡ others) × (closed ≡ shut)
-
--- A file of version 3 has no fault.
-abbrev pub HasNoFault : Type 0
-HasNoFault = (most : ℕ) (s : Session) (ms : List (List ℕ)) (closed : Bool) (b : List ℕ) (error : OpenError) →
-    most ≤ MAX_MESSAGE → SpellsJournal3 s ms closed b → AllByRecursion (IsWithin most) ms → OpenFault most b error →
-    IsOfDevice error
-
 module _ {D : Type 0} (shows may_leave : D → List ℕ → Type 0) (disk : D) (session : Session) (messages : List (List ℕ))
     (bytes : List ℕ) (later : IsLaterFile session messages bytes) (now : shows disk bytes) where
+  -- The life of the journal whose file this is.
+  abbrev pub left_life : Life
+  left_life =
+      record { session = session; committed = messages ++ later.more; closed = later.closed; waiting = [] }
+
   -- The opened journal begins with the messages, since the disk shows a file that begins with them.
-  pub opened_prefix : (result : Result (DurableState D) (NotOpened D)) → IsOnce →
-      AreSame (shows disk) (shows (storage_of result)) → IfOk result (IsOpened shows may_leave) →
+  pub opened_prefix : (result : Result (DurableState D) (NotOpened D)) →
+      ((life : Life) (b : List ℕ) → shows disk b → IsFileOf life b →
+      IfOk result (λ journal. Lives shows may_leave journal (after_moment life Crash))) →
       IfOk result (HasPrefix shows may_leave session messages)
-  opened_prefix (Ok journal) once same opened =
-      let is = once journal.session session opened.messages (messages ++ later.more) journal.closed later.closed bytes
-      (opened.settled.kept.shown bytes (same.1 bytes now)) later.file in
-      record {
-        named = is.0;
-        more = later.more;
-        settled = subst (IsSettled shows may_leave journal) is.1 opened.settled;
-      }
-  opened_prefix (Err fault) once same opened = tt
+  opened_prefix (Ok journal) found =
+      let is = found left_life bytes now later.file in
+      record { named = sym is.session; more = later.more; settled = is.settled }
+  opened_prefix (Err fault) found = tt
 
   -- And it is not refused.
-  pub not_refused : (result : Result (DurableState D) (NotOpened D)) → HasNoFault →
-      IfErr result (λ fault. (b : List ℕ) → shows disk b → OpenFault MAX_MESSAGE b fault.error) →
-      IfErr result (λ fault. IsOfDevice fault.error)
-  not_refused (Ok journal) none refused = tt
-  not_refused (Err fault) none refused =
-      none MAX_MESSAGE session (messages ++ later.more) later.closed bytes fault.error (omega arith) later.file
-      later.file.listed.each (refused bytes now)
+  pub not_refused : (result : Result (DurableState D) (NotOpened D)) →
+      ((life : Life) (b : List ℕ) → shows disk b → IsFileOf life b → AllByRecursion (IsWithin MAX_MESSAGE) life.committed →
+      IfErr result (λ fault. IsOfDevice fault.error)) → IfErr result (λ fault. IsOfDevice fault.error)
+  not_refused result accepted = accepted left_life bytes now later.file later.file.listed.each

@@ -12,7 +12,8 @@ pub record IsLaterFile (session : Session) (messages : List (List ℕ)) (bytes :
   pub file : SpellsJournal3 session (messages ++ more) closed bytes
 
 -- After some calls the journal is broken, or the committed messages begin with these.
-pub data Continues {S : Type 0} (shows may_leave : S → List ℕ → Type 0) (messages : List (List ℕ)) (journal : DurableState S) : Type 0 where
+pub data Continues {S : Type 0} (shows may_leave : S → List ℕ → Type 0) (messages : List (List ℕ))
+    (journal : DurableState S) : Type 0 where
   stopped : journal.broken ≡ true → Continues shows may_leave messages journal
   goes_on : (more : List (List ℕ)) → IsSettled shows may_leave journal (messages ++ more) →
       Continues shows may_leave messages journal

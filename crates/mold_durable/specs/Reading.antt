@@ -1,5 +1,6 @@
 -- How a journal's storage is read when the journal is opened, and why it is refused.
-use Rattle.std.specs.Prelude.{◌≡◌, ◌⊎◌, ℕ, ◌+◌, ◌<◌, ◌≤◌, ◌^◌, ⊤, Bool, List, [], ◌++◌, length, take, drop, Result, Ok, Err}
+use Rattle.std.specs.Prelude.{◌≡◌, ◌⊎◌, ℕ, ◌+◌, ◌<◌, ◌≤◌, ◌^◌, ⊤, Bool, List, [], ◌++◌, length, take, drop}
+use Rattle.std.specs.Prelude.{Result, Ok, Err}
 use Rattle.std.specs.List.{AllByRecursion}
 use Rattle.mold_wire.specs.declared.limits.TheConstants.{MAX_NUMBER}
 use Rattle.mold_session.specs.Checking.{HasRecord}
@@ -13,8 +14,8 @@ use Rattle.mold_session.specs.declared.journal.TheConstants.{MAX_MESSAGES}
 use Rattle.mold_durable.specs.DurableJournal.{CountsOpenError, DurableState, IsSettled}
 use Rattle.mold_durable.specs.Group.{closing}
 use Rattle.mold_durable.specs.declared.error.OpenError.{OpenError}
-use Rattle.mold_durable.specs.declared.error.OpenError.TheVariants.{Short, BadMagic, Full, TooLong, Damaged, Read, Write}
-use Rattle.mold_durable.specs.declared.error.OpenError.TheVariants.{Memory}
+use Rattle.mold_durable.specs.declared.error.OpenError.TheVariants.{Short, BadMagic, Full, TooLong, Damaged}
+use Rattle.mold_durable.specs.declared.error.OpenError.TheVariants.{Read, Write, Memory}
 use Rattle.mold_durable.specs.declared.records.NextRecord.{NextRecord}
 use Rattle.mold_durable.specs.declared.records.NextRecord.TheVariants.{Message, End}
 use Rattle.mold_durable.specs.declared.records.Skipped.{Skipped}

@@ -57,8 +57,8 @@ pub record LeavesOnly {S : Type 0} (moment : S → ℕ) (left_since : S → ℕ 
   pub before : (earlier : ℕ) (bytes : List ℕ) → earlier ≤ moment old → left_since new earlier bytes →
       left_since old earlier bytes ⊎ P bytes
 
--- The storage was read or synced, and nothing was written: the same bytes are shown, and a crash at any moment leaves only
--- what it might have left before.
+-- The storage was read or synced, and nothing was written: the same bytes are shown, and a crash at any moment leaves
+-- only what it might have left before.
 pub record OnlyReads {S : Type 0} (shows may_leave : S → List ℕ → Type 0) (moment : S → ℕ)
     (left_since : S → ℕ → List ℕ → Type 0) (old new : S) : Type 0 where
   pub shown : AreSame (shows old) (shows new)

@@ -1,6 +1,6 @@
 //! The theorem about crashes: what was committed is in every journal that is opened after a crash at any later moment.
 
-ghost use Rattle.std.specs.Prelude.{◌≡◌, ℕ, List, IfOk, IfErr};
+ghost use Rattle.std.specs.Prelude.{ℕ, List, IfOk, IfErr};
 ghost use Rattle.mold_wire.specs.declared.session.Session.{Session};
 ghost use Rattle.mold_durable.specs.Crash.{HasPrefix, IsLaterFile, IsLive};
 ghost use Rattle.mold_durable.specs.DurableJournal.{IsSettled};
@@ -9,7 +9,6 @@ ghost use Rattle.mold_durable.specs.Storage.{LeavesOnly};
 
 use crate::durable_journal::DurableJournal;
 use crate::error::NotOpened;
-use crate::laws::one_session_law;
 use crate::storage::Storage;
 use mold_wire::MAX_MESSAGE;
 use std::alloc::Global;
@@ -63,8 +62,8 @@ pub fn take_steps<S: Storage>(journal: &mut DurableJournal<S>, steps: &[Step])
 }
 
 /// Opens what a crash left. These messages are committed in `journal`, as `commit` states once it succeeded. Then any
-/// calls are made, and `disk` has what a crash at any moment since then left of the journal's storage. The opened journal
-/// begins with these messages. It is not refused, unless the disk or an allocation fails.
+/// calls are made, and `disk` has what a crash at any moment since then left of the journal's storage. The opened
+/// journal begins with these messages. It is not refused, unless the disk or an allocation fails.
 ///
 /// So it is a theorem about `append`, `commit`, `close` and `open` together.
 pub fn open_after_crash<S: Storage, D: Storage>(
@@ -76,11 +75,11 @@ pub fn open_after_crash<S: Storage, D: Storage>(
     ensures kept { (messages : List (List ℕ)) (bytes : List ℕ) → IsSettled S.shows S.may_leave journal.old messages →
         D.shows disk bytes → S.left_since journal.new.storage (S.moment journal.old.storage) bytes →
         IfOk result (HasPrefix D.shows D.may_leave journal.old.session messages) }
-    ensures accepted { (messages : List (List ℕ)) (bytes : List ℕ) → IsSettled S.shows S.may_leave journal.old messages →
-        D.shows disk bytes → S.left_since journal.new.storage (S.moment journal.old.storage) bytes →
+    ensures accepted { (messages : List (List ℕ)) (bytes : List ℕ) →
+        IsSettled S.shows S.may_leave journal.old messages → D.shows disk bytes →
+        S.left_since journal.new.storage (S.moment journal.old.storage) bytes →
         IfErr result (λ fault. IsOfDevice fault.error) }
 {
-    one_session_law();
     take_steps(journal, steps);
     DurableJournal::open(alloc, MAX_MESSAGE, disk)
 }

@@ -1,15 +1,17 @@
 //! The durable journal: a session's messages in a storage, committed in groups.
 
-ghost use Rattle.std.specs.Prelude.{◌≡◌, ◌⊎◌, ◌+◌, ◌<◌, ◌≤◌, ◌^◌, ◌++◌, ◌∷◌, [], true, false, ℕ, List, length, None};
-ghost use Rattle.std.specs.Prelude.{IfOk, IfErr, IsErr, OnOk, OnErr, ◌↔◌, unwrap_or, IsOk};
+ghost use Rattle.std.specs.Prelude.{◌≡◌, ◌⊎◌, ◌+◌, ◌<◌, ◌++◌, ◌∷◌, [], true, false, ℕ};
+ghost use Rattle.std.specs.Prelude.{List, length, None, IfOk, IfErr, OnOk, OnErr, unwrap_or, IsOk};
+ghost use Rattle.std.specs.List.{AllByRecursion};
 ghost use Rattle.mold_devices.specs.Devices.{Counts};
+ghost use Rattle.mold_session.specs.Journal.{IsWithin};
 ghost use Rattle.mold_session.specs.declared.error.AppendError.{AppendError};
 ghost use Rattle.mold_durable.specs.DurableJournal.{CountsCommit, CountsOpened, IsBeforeOrAfter, IsEmpty};
 ghost use Rattle.mold_durable.specs.DurableJournal.{IsSettled, storage_of, waiting_refusal};
 ghost use Rattle.mold_durable.specs.Head.{IsNoneOrEmpty};
 ghost use Rattle.mold_durable.specs.Life.{IsFileAround, IsFileOf, Life, Lives, MayHappen, after, born};
 ghost use Rattle.mold_durable.specs.Life.Moment.{Append, Close, Commit, Crash};
-ghost use Rattle.mold_durable.specs.Reading.{IsOpened, OpenFault};
+ghost use Rattle.mold_durable.specs.Reading.{IsOfDevice, IsOpened, OpenFault};
 ghost use Rattle.mold_durable.specs.Storage.{AreSame, LeavesOnly};
 ghost use Rattle.mold_durable.specs.declared.error.CommitError.{CommitError};
 ghost use Rattle.mold_durable.specs.declared.error.OpenError.{OpenError};
@@ -122,8 +124,9 @@ impl<S: Storage> DurableJournal<S> {
     /// Opens the journal that a storage has. It reads all records, and then syncs. It writes nothing, and holds no
     /// message that was read.
     ///
-    /// A crash at any moment of the call leaves only what a crash before it could leave. Once the journal is open, every
-    /// crash leaves the messages that were found. `Memory` is returned only if an allocation failed.
+    /// The journal has exactly the messages of the file. A crash at any moment of the call leaves only what a crash
+    /// before it could leave. Once the journal is open, every crash leaves the messages that were found. `Memory` is
+    /// returned only if an allocation failed.
     // The sync is necessary: if the process that wrote the records died before its sync, a crash could still lose them.
     pub fn open(
         alloc: Global,
@@ -131,8 +134,6 @@ impl<S: Storage> DurableJournal<S> {
         storage: S,
     ) -> Result<DurableJournal<S>, NotOpened<S>>
         ensures settled { IfOk result (IsOpened S.shows S.may_leave) }
-        ensures recovered { (life : Life) (bytes : List ℕ) → S.shows storage bytes → IsFileOf life bytes →
-            IfOk result (λ journal. Lives S.shows S.may_leave journal (after life Crash)) }
         ensures any_moment { LeavesOnly S.moment S.left_since storage (storage_of result) (S.may_leave storage) }
         ensures shown { AreSame (S.shows storage) (S.shows (storage_of result)) }
         ensures fresh { IfOk result (λ journal. journal ≡ record {
@@ -145,6 +146,10 @@ impl<S: Storage> DurableJournal<S> {
           waiting = [];
           broken = false;
         }) }
+        ensures found { (life : Life) (bytes : List ℕ) → S.shows storage bytes → IsFileOf life bytes →
+            IfOk result (λ journal. Lives S.shows S.may_leave journal (after life Crash)) }
+        ensures accepted { (life : Life) (bytes : List ℕ) → S.shows storage bytes → IsFileOf life bytes →
+            AllByRecursion (IsWithin max_message) life.committed → IfErr result (λ fault. IsOfDevice fault.error) }
         ensures refused { IfErr result (λ fault. (bytes : List ℕ) → S.shows storage bytes →
             OpenFault max_message bytes fault.error) }
         ensures cause { CountsOpened S.failed storage result }

@@ -1,11 +1,11 @@
 //! The head of a journal's storage: the magic bytes of version 3 and the session's name.
 
-ghost use Rattle.std.specs.Prelude.{◌≡◌, ◌<◌, ◌≤◌, ◌++◌, ◌∷◌, [], ℕ, List, false, length, take, IfOk, IfErr, OnOk};
+ghost use Rattle.std.specs.Prelude.{◌≡◌, ◌<◌, ◌≤◌, ◌++◌, ◌∷◌, [], false, length, IfOk, IfErr, OnOk};
 ghost use Rattle.mold_devices.specs.Devices.{Counts};
 ghost use Rattle.mold_durable.specs.Head.{IsNoneOrEmpty};
 ghost use Rattle.mold_durable.specs.Reading.{HeadFault};
 ghost use Rattle.mold_session.specs.Records.{SpellsJournal3, head_3, magic_3};
-ghost use Rattle.mold_durable.specs.Storage.{AreSame, IsKept, IsWithin, LeavesOnly};
+ghost use Rattle.mold_durable.specs.Storage.{IsKept, LeavesOnly};
 
 use crate::error::OpenError;
 use crate::gate::SHUT_GATE;

@@ -11,9 +11,9 @@ ghost use Rattle.mold_durable.specs.declared.error.OpenError.{OpenError};
 
 use mold_session::laws::one_file_law;
 
-/// Bytes are the file of at most one session: of one name, one list of messages and one end. Such a file has no fault if
-/// no message is longer than the maximum that `open` is given. So a journal that is opened has exactly the messages of the
-/// file, and `open` refuses no file.
+/// Bytes are the file of at most one session: of one name, one list of messages and one end. Such a file has no fault
+/// if no message is longer than the maximum that `open` is given. So an opened journal has exactly the messages of the
+/// file.
 pub fn one_session_law()
     ensures session { (one other : Session) (messages others : List (List ℕ)) (closed shut : Bool) (bytes : List ℕ) →
         SpellsJournal3 one messages closed bytes → SpellsJournal3 other others shut bytes →

@@ -4,7 +4,7 @@ ghost use Rattle.std.specs.Prelude.{◌≡◌, ◌⊎◌, ◌+◌, ◌<◌, ◌�
 ghost use Rattle.mold_wire.specs.declared.limits.TheConstants.{MAX_NUMBER};
 ghost use Rattle.mold_devices.specs.Devices.{Counts};
 ghost use Rattle.mold_session.specs.Records.{head_3};
-ghost use Rattle.mold_durable.specs.Reading.{CountsOpen, HasReadAll, HeadFault, IsOfDevice, IsRecordsError, OpenFault};
+ghost use Rattle.mold_durable.specs.Reading.{CountsOpen, HasReadAll, HeadFault, IsRecordsError, OpenFault};
 ghost use Rattle.mold_durable.specs.Reading.{ReadsPiece};
 ghost use Rattle.mold_durable.specs.Storage.{IsWithin, OnlyReads};
 

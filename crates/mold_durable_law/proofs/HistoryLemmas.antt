@@ -1,5 +1,5 @@
 -- A history is a run of the machine.
-use Rattle.std.proofs.Common.{◌≡◌, ℕ, zero, suc, ◌+◌, ◌<◌, Bool, true, false, List, [], ◌∷◌, ◌++◌, length}
+use Rattle.std.proofs.Common.{◌≡◌, ℕ, ◌+◌, ◌<◌, Bool, true, false, List, [], ◌∷◌, ◌++◌, length}
 use Rattle.std.proofs.Common.{refl, sym, ap, subst, ◌∙◌, arith, length-append, append_assoc}
 use Rattle.std.specs.Prelude.{map}
 use Rattle.std.proofs.lemmas.Bool.{false≢true}
@@ -10,7 +10,7 @@ use Rattle.mold_durable_law.specs.History.{AllMayHappen, Event, History, MayHapp
 use Rattle.mold_durable_law.specs.History.{IsOther, begun, life_of, steps_of}
 use Rattle.mold_durable_law.specs.History.Event.{Other, Writes}
 use Rattle.mold_wire.specs.declared.session.Session.{Session}
-use Rattle.mold_world.specs.Machine.{AreAllowed, IsAllowed, Machine, Step, after, run}
+use Rattle.mold_world.specs.Machine.{AreAllowed, Machine, Step, after, run}
 use Rattle.mold_world.specs.Machine.Step.{Close, Deliver, Nothing, Publish, Restart, Send}
 use Rattle.mold_session.specs.declared.journal.TheConstants.{MAX_MESSAGES}
 

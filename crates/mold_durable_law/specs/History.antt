@@ -1,5 +1,5 @@
 -- A session whose publisher keeps a durable journal: the moments of the journal, and the steps of everything else.
-use Rattle.std.specs.Prelude.{◌≡◌, ℕ, ◌+◌, ◌<◌, Bool, false, List, [], ◌∷◌, ◌++◌, length, map}
+use Rattle.std.specs.Prelude.{ℕ, ◌+◌, List, [], ◌∷◌, ◌++◌, map}
 use Rattle.mold_durable.specs.Life.{Life, MayHappen as MayHappenTo, Moment, after as after_moment}
 use Rattle.mold_durable.specs.Life.Moment.{Append, Close as CloseJournal, Commit, Crash}
 use Rattle.mold_wire.specs.declared.session.Session.{Session}

@@ -1,7 +1,7 @@
 //! The law of the durable journal. A law is a function that does nothing: its contract is a theorem.
 
 ghost use Rattle.std.specs.Prelude.{◌≡◌, ℕ, Bool, List, true};
-ghost use Rattle.mold_durable.specs.Life.{IsFileOf, Life, Moment, after as after_moment, born};
+ghost use Rattle.mold_durable.specs.Life.{IsFileOf, Moment, after as after_moment, born};
 ghost use Rattle.mold_durable_law.specs.History.{AllMayHappen, History, Event, after_all, after_event, all_steps, begun};
 ghost use Rattle.mold_durable_law.specs.History.{life_of};
 ghost use Rattle.mold_durable_law.specs.History.Event.{Writes};

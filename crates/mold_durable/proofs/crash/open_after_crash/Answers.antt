@@ -8,7 +8,7 @@ returns-clause-kept g c = λ messages bytes settled now left.
     let live = live_first g.S.Storage.shows g.S.Storage.may_leave session messages c.args.journal.now refl settled in
     let later = (c.take_steps.ensures.any_moment session messages live).each bytes left in
     opened_prefix g.D.Storage.shows g.D.Storage.may_leave c.args.disk session messages bytes later now c.open.result
-    c.one_session_law.ensures.session c.open.ensures.shown c.open.ensures.settled
+    c.open.ensures.found
 
 pub returns-clause-accepted : goal.returns-clause-accepted
 returns-clause-accepted g c = λ messages bytes settled now left.
@@ -16,4 +16,4 @@ returns-clause-accepted g c = λ messages bytes settled now left.
     let live = live_first g.S.Storage.shows g.S.Storage.may_leave session messages c.args.journal.now refl settled in
     let later = (c.take_steps.ensures.any_moment session messages live).each bytes left in
     not_refused g.D.Storage.shows g.D.Storage.may_leave c.args.disk session messages bytes later now c.open.result
-    c.one_session_law.ensures.no_fault c.open.ensures.refused
+    c.open.ensures.accepted

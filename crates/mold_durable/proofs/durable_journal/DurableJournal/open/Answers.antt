@@ -1,4 +1,4 @@
-use Rattle.std.proofs.Common.{false, sym, ap, arith}
+use Rattle.std.proofs.Common.{false, ap, arith}
 use Rattle.mold_durable.specs.Group.{GroupState}
 use Rattle.mold_durable.proofs.LifeLemmas.{reopened}
 use Rattle.mold_durable.proofs.OpenLemmas.{opened}
@@ -19,8 +19,13 @@ returns-in-Ok-recover-clause-settled g c =
     }) c.in-Ok-recover.ensures.named c.in-Ok-recover.ensures.head (omega (arith, c.ranges.max_message.fits))
     c.in-Ok-recover.ensures.found c.recover.ensures.read.shown.0 c.in-Ok-recover.ensures.durable
 
-pub returns-in-Ok-recover-clause-recovered : goal.returns-in-Ok-recover-clause-recovered
-returns-in-Ok-recover-clause-recovered g c = λ life bytes shown file.
+pub returns-in-Ok-recover-clause-found : goal.returns-in-Ok-recover-clause-found
+returns-in-Ok-recover-clause-found g c = λ life bytes shown file.
     reopened g.S.Storage.shows g.S.Storage.may_leave c.one_session_law.ensures.session _ life bytes
     (returns-in-Ok-recover-clause-settled g c) (ap (λ (s : GroupState). s.messages) c.in-Ok.ensures)
     (c.recover.ensures.read.shown.1 bytes shown) file
+
+pub returns-in-Err-clause-accepted : goal.returns-in-Err-clause-accepted
+returns-in-Err-clause-accepted g c = λ life bytes shown file each.
+    c.one_session_law.ensures.no_fault c.args.max_message life.session life.committed life.closed bytes c.in-Err.error
+    (omega (arith, c.ranges.max_message.fits)) file each (c.in-Err.ensures.refused bytes shown)
