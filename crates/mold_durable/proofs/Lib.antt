@@ -6,6 +6,7 @@ mod GateLemmas
 mod GroupLemmas
 mod HeadLemmas
 mod LifeLemmas
+mod MemoryLemmas
 mod MomentLemmas
 mod OpenLemmas
 mod ReadingLemmas

@@ -4,5 +4,6 @@ pub mod Gate
 pub mod Group
 pub mod Head
 pub mod Life
+pub mod Memory
 pub mod Reading
 pub mod Storage

@@ -5,15 +5,25 @@
 mod crash;
 mod durable_journal;
 mod error;
+mod file_storage;
 mod gate;
 mod group;
 mod head;
+mod journal_file;
+mod journal_file_error;
 pub mod laws;
+mod memory_call;
+mod memory_storage;
 mod records;
 mod recovery;
 mod storage;
+mod storage_plan;
 
 pub use crash::{Step, open_after_crash, take_steps};
 pub use durable_journal::DurableJournal;
 pub use error::{CommitError, NotOpened, OpenError, WaitingError};
+pub use file_storage::FileStorage;
+pub use journal_file::{create_file, open_file, sync_folder};
+pub use journal_file_error::JournalFileError;
+pub use memory_storage::MemoryStorage;
 pub use storage::Storage;

@@ -1,0 +1,17 @@
+//! Why the file of a journal is not opened or created.
+
+use thiserror::Error;
+
+/// Why the file of a journal is not opened or created.
+#[derive(Clone, Copy, Debug, PartialEq, Eq, Error)]
+pub enum JournalFileError {
+    /// Another process has a lock on the file.
+    #[error("another process writes the journal")]
+    Locked,
+    /// A call of the system failed.
+    #[error("the file can't be opened or written")]
+    Write,
+    /// An allocation failed.
+    #[error("out of memory")]
+    Memory,
+}
