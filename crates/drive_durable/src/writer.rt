@@ -1,0 +1,123 @@
+//! Writes messages to a journal, and reports commits.
+
+use crate::options::WriterOptions;
+use mold_devices::{CommandFault, ReadFault, Sink, send};
+use mold_digits::{MAX_DIGITS, write_number};
+use mold_durable::{DurableJournal, Storage};
+use std::alloc::{AllocError, Global};
+
+/// Why the driver ends early.
+#[derive(Clone, Copy)]
+pub(crate) enum Problem {
+    /// The first line does not have the options.
+    Options,
+    /// Standard input or output failed, or an allocation.
+    Device,
+    /// The journal's file is locked.
+    Locked,
+    /// The journal's file is not opened, created or written.
+    File,
+}
+
+impl Problem {
+    /// Returns the status of the program.
+    pub(crate) fn status(self) -> u8 {
+        match self {
+            Problem::Options => 2,
+            Problem::Device => 3,
+            Problem::Locked => 4,
+            Problem::File => 5,
+        }
+    }
+}
+
+impl From<CommandFault> for Problem {
+    fn from(_fault: CommandFault) -> Problem {
+        Problem::Device
+    }
+}
+
+impl From<ReadFault> for Problem {
+    fn from(_fault: ReadFault) -> Problem {
+        Problem::Device
+    }
+}
+
+impl From<AllocError> for Problem {
+    fn from(_error: AllocError) -> Problem {
+        Problem::Device
+    }
+}
+
+/// A journal that is written in groups.
+#[derive(Drop)]
+pub(crate) struct Writer<S: Storage> {
+    journal: DurableJournal<S>,
+    options: WriterOptions,
+    text: Vec<u8>,
+}
+
+impl<S: Storage> Writer<S> {
+    pub(crate) fn new(
+        alloc: Global,
+        journal: DurableJournal<S>,
+        options: WriterOptions,
+    ) -> Writer<S> {
+        Writer {
+            journal,
+            options,
+            text: Vec::new(alloc),
+        }
+    }
+
+    /// Reports the number of committed messages, if the options say so.
+    pub(crate) fn report<K: Sink>(&mut self, sink: &mut K) -> Result<(), Problem> {
+        if self.options.reports {
+            let mut digits = [0; MAX_DIGITS];
+            let end = write_number(&mut digits, 0, self.journal.committed());
+            self.text.extend_from_slice(&digits[..end])?;
+            self.text.extend_from_slice(b"\n")?;
+            send(sink, &mut self.text)?;
+        }
+        Ok(())
+    }
+
+    /// Appends the message as often as the options say, and commits whenever a group waits.
+    pub(crate) fn append<K: Sink>(&mut self, message: &[u8], sink: &mut K) -> Result<(), Problem> {
+        for _ in 0..self.options.repeats {
+            if self.journal.append(message).is_err() {
+                return Err(Problem::File);
+            }
+            if self.journal.next() - 1 - self.journal.committed() >= self.options.group {
+                self.commit(sink)?;
+            }
+        }
+        Ok(())
+    }
+
+    /// Commits what waits, and closes the session if the options say so.
+    pub(crate) fn finish<K: Sink>(&mut self, sink: &mut K) -> Result<(), Problem> {
+        if !self.options.closes {
+            return if self.waits() {
+                self.commit(sink)
+            } else {
+                Ok(())
+            };
+        }
+        match self.journal.close() {
+            Ok(()) => self.report(sink),
+            Err(_) => Err(Problem::File),
+        }
+    }
+
+    fn waits(&self) -> bool {
+        self.journal.next() - 1 > self.journal.committed()
+    }
+
+    fn commit<K: Sink>(&mut self, sink: &mut K) -> Result<(), Problem> {
+        match self.journal.commit() {
+            Ok(()) => self.report(sink),
+            Err(_) => Err(Problem::File),
+        }
+    }
+}
