@@ -12,13 +12,13 @@ use std::test::Fail;
 
 /// An arbiter at message 1 with a window of 4, and its batch.
 #[derive(Drop)]
-struct Arbitration {
-    arbiter: Arbiter,
-    batch: Batch,
+pub struct Arbitration {
+    pub arbiter: Arbiter,
+    pub batch: Batch,
 }
 
 impl Arbitration {
-    fn new(alloc: Global) -> Result<Arbitration, Fail> {
+    pub fn new(alloc: Global) -> Result<Arbitration, Fail> {
         let receiver = Receiver::new(alloc, SESSION, 1, 4)?;
         Ok(Arbitration {
             arbiter: Arbiter::new(receiver),
@@ -101,11 +101,20 @@ enum Step {
     Lags(u64, u64),
 }
 
+// The batch has messages 1 to 3.
+fn expect_all_three(rt: &impl Abort, batch: &Batch) {
+    expect_batch(rt, batch, 1, &[b"A", b"B", b"C"]);
+}
+
+fn expect_steps_and_batch(rt: &impl Abort, arbitration: &mut Arbitration, steps: &[Step]) {
+    arbitration.expect_steps(rt, steps);
+    expect_all_three(rt, &arbitration.batch);
+}
+
 // An arbiter takes the steps. Its batch then has messages 1 to 3.
 fn expect_steps(rt: &impl Abort, alloc: Global, steps: &[Step]) -> Result<(), Fail> {
     let mut arbitration = Arbitration::new(alloc)?;
-    arbitration.expect_steps(rt, steps);
-    expect_batch(rt, &arbitration.batch, 1, &[b"A", b"B", b"C"]);
+    expect_steps_and_batch(rt, &mut arbitration, steps);
     Ok(())
 }
 
@@ -138,21 +147,35 @@ fn responses_belong_to_no_line(rt: HostRuntime) -> Result<(), Fail> {
     expect_steps(&rt, rt.alloc(), RESPONSES)
 }
 
+fn expect_taken_again(rt: &impl Abort, arbitration: &mut Arbitration) -> Result<(), Refusal> {
+    arbitration.take_again(rt)?;
+    arbitration.expect_lines(rt, (1, 0, 4), (0, 0, 1));
+    expect_all_three(rt, &arbitration.batch);
+    Ok(())
+}
+
 /// Out of memory is in no line's report.
 #[test]
 fn out_of_memory_is_not_reported(rt: HostRuntime) -> Result<(), Fail> {
     let mut arbitration = Arbitration::new(rt.alloc())?;
-    arbitration.take_again(&rt)?;
-    arbitration.expect_lines(&rt, (1, 0, 4), (0, 0, 1));
-    expect_batch(&rt, &arbitration.batch, 1, &[b"A", b"B", b"C"]);
+    expect_taken_again(&rt, &mut arbitration)?;
+    Ok(())
+}
+
+fn take_and_expect_steps(
+    rt: &impl Abort,
+    arbitration: &mut Arbitration,
+    steps: &[Step],
+) -> Result<(), Refusal> {
+    arbitration.take(rt, None, DATA_1_3)?;
+    arbitration.expect_steps(rt, steps);
     Ok(())
 }
 
 // An arbiter takes a response with messages 1 to 3, and then the steps.
 fn expect_no_news(rt: &impl Abort, alloc: Global, steps: &[Step]) -> Result<(), Fail> {
     let mut arbitration = Arbitration::new(alloc)?;
-    arbitration.take(rt, None, DATA_1_3)?;
-    arbitration.expect_steps(rt, steps);
+    take_and_expect_steps(rt, &mut arbitration, steps)?;
     Ok(())
 }
 

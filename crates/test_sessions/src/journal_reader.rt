@@ -8,13 +8,25 @@ use std::alloc::Global;
 use std::process::Abort;
 use std::test::Fail;
 
-fn same_turn(rt: &impl Abort, found: Result<bool, FileError>, wanted: Result<bool, FileError>) {
+pub fn same_turn(rt: &impl Abort, found: Result<bool, FileError>, wanted: Result<bool, FileError>) {
     assert!(rt; found == wanted, "another turn");
 }
 
 fn expect_read(rt: &impl Abort, reader: &JournalReader, message: &[u8], count: u64) {
     same_bytes(rt, reader.message(), message);
     same_number(rt, reader.count(), count);
+}
+
+/// The reader returns one more message, which has this number.
+pub fn expect_next(
+    rt: &impl Abort,
+    reader: &mut JournalReader,
+    source: &mut MemorySource<'_>,
+    message: &[u8],
+    number: u64,
+) {
+    same_turn(rt, reader.advance(source), Ok(true));
+    expect_read(rt, reader, message, number);
 }
 
 /// The reader returns these messages, and then this result.
@@ -28,9 +40,8 @@ fn expect_messages<'w, 'm>(
     expect_read(rt, reader, b"", 0);
     let mut count = 0u64;
     for message in messages {
-        same_turn(rt, reader.advance(source), Ok(true));
         count = count.saturating_add(1);
-        expect_read(rt, reader, message, count);
+        expect_next(rt, reader, source, message, count);
     }
     same_turn(rt, reader.advance(source), end);
 }
@@ -103,27 +114,45 @@ fn read_two(alloc: Global, source: &mut MemorySource<'_>) -> Result<(), FileErro
     Ok(())
 }
 
-/// If an allocation fails, the file is read again from a new source.
-#[test]
-fn out_of_memory_ends_a_reading(rt: HostRuntime) -> Result<(), Fail> {
-    if let Err(error) = read_two(rt.alloc(), &mut MemorySource::new(&CLOSED)) {
-        same_refusal(&rt, error, FileError::Memory);
-        read_two(rt.alloc(), &mut MemorySource::new(&CLOSED))?;
+/// Reads the two messages of a file. If an allocation fails, the file is read again from a new source.
+pub fn read_again(rt: &impl Abort, alloc: Global, file: &[u8]) -> Result<(), FileError> {
+    if let Err(error) = read_two(alloc, &mut MemorySource::new(file)) {
+        same_refusal(rt, error, FileError::Memory);
+        read_two(alloc, &mut MemorySource::new(file))?;
     }
     Ok(())
+}
+
+#[test]
+fn out_of_memory_ends_a_reading(rt: HostRuntime) -> Result<(), Fail> {
+    read_again(&rt, rt.alloc(), &CLOSED)?;
+    Ok(())
+}
+
+/// Takes at most `most` blocks. Then `bytes` are taken, and the reader has returned `count` messages.
+fn expect_blocks(
+    rt: &impl Abort,
+    reader: &mut JournalReader,
+    most: u64,
+    taken: &mut Vec<u8>,
+    bytes: &[u8],
+    count: u64,
+) {
+    reader.take_blocks(most, taken);
+    same_bytes(rt, taken.as_slice(), bytes);
+    same_number(rt, reader.count(), count);
+}
+
+fn expect_two_blocks(rt: &impl Abort, reader: &mut JournalReader, taken: &mut Vec<u8>) {
+    expect_blocks(rt, reader, 1, taken, b"\0\x02AB", 1);
+    expect_blocks(rt, reader, 5, taken, b"\0\x02AB\0\0", 2);
 }
 
 /// The whole blocks of a read are taken at once, up to the limit. `advance` reads what follows them.
 fn expect_taken(rt: &impl Abort, alloc: Global) -> Result<(), FileError> {
     let mut source = MemorySource::new(&CLOSED);
     let mut reader = JournalReader::new(alloc, &mut source)?;
-    let mut taken = Vec::new(alloc);
-    reader.take_blocks(1, &mut taken);
-    same_bytes(rt, taken.as_slice(), b"\0\x02AB");
-    same_number(rt, reader.count(), 1);
-    reader.take_blocks(5, &mut taken);
-    same_bytes(rt, taken.as_slice(), b"\0\x02AB\0\0");
-    same_number(rt, reader.count(), 2);
+    expect_two_blocks(rt, &mut reader, &mut Vec::new(alloc));
     same_turn(rt, reader.advance(&mut source), Ok(false));
     Ok(())
 }
@@ -149,14 +178,22 @@ fn take_two(
     Ok(())
 }
 
-/// If an allocation fails, no block is taken, and the same reader takes them later.
+/// Takes the two blocks. If an allocation fails, no block is taken, and the same reader takes them later.
+fn take_two_again(
+    rt: &impl Abort,
+    reader: &mut JournalReader,
+    taken: &mut Vec<u8>,
+) -> Result<(), FileError> {
+    if let Err(error) = take_two(rt, reader, taken) {
+        same_refusal(rt, error, FileError::Memory);
+        take_two(rt, reader, taken)?;
+    }
+    Ok(())
+}
+
 #[test]
 fn out_of_memory_takes_no_block(rt: HostRuntime) -> Result<(), Fail> {
     let mut reader = JournalReader::new(rt.alloc(), &mut MemorySource::new(&CLOSED))?;
-    let mut taken = Vec::new(rt.alloc());
-    if let Err(error) = take_two(&rt, &mut reader, &mut taken) {
-        same_refusal(&rt, error, FileError::Memory);
-        take_two(&rt, &mut reader, &mut taken)?;
-    }
+    take_two_again(&rt, &mut reader, &mut Vec::new(rt.alloc()))?;
     Ok(())
 }

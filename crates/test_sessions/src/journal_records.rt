@@ -1,10 +1,11 @@
 //! The file of a journal in version 3: worked examples, each cut and changed file, devices that fail, and allocations that
 //! fail.
 
-use crate::comparisons::{same_bytes, same_number};
+use crate::comparisons::{same_bytes, same_truth};
 use crate::journal_file::{
-    Loaded, expect_loaded, expect_loaded_by_bytes, load, load_again, same_loaded, same_refusal,
+    Loaded, expect_loaded, expect_loaded_by_bytes, load, load_again, same_loaded,
 };
+use crate::journal_reader::{expect_next, read_again, same_turn};
 use mold_devices::{MemorySource, Source};
 use mold_session::{FileError, JournalReader};
 use std::alloc::Global;
@@ -123,17 +124,39 @@ fn out_of_memory_loads_no_record(rt: HostRuntime) -> Result<(), Fail> {
     Ok(())
 }
 
-fn same_turn(rt: &impl Abort, found: Result<bool, FileError>, wanted: Result<bool, FileError>) {
-    assert!(rt; found == wanted, "another turn");
+/// No block of a record is taken at once.
+fn expect_no_blocks(rt: &impl Abort, alloc: Global, reader: &mut JournalReader) {
+    let mut taken = Vec::new(alloc);
+    reader.take_blocks(5, &mut taken);
+    same_bytes(rt, taken.as_slice(), b"");
 }
 
-fn expect_read(rt: &impl Abort, reader: &JournalReader, message: &[u8], count: u64) {
-    same_bytes(rt, reader.message(), message);
-    same_number(rt, reader.count(), count);
+/// The reader returns `AB` and the empty message. It takes no blocks at once.
+fn expect_two(
+    rt: &impl Abort,
+    alloc: Global,
+    reader: &mut JournalReader,
+    source: &mut MemorySource<'_>,
+) {
+    expect_next(rt, reader, source, b"AB", 1);
+    expect_no_blocks(rt, alloc, reader);
+    expect_next(rt, reader, source, b"", 2);
 }
 
-/// The reader returns `AB` and the empty message, then `end`, and then states whether the session is closed. It takes no
-/// blocks at once.
+/// The reader returns `end`. Only then it states whether the session is closed.
+fn expect_end(
+    rt: &impl Abort,
+    reader: &mut JournalReader,
+    source: &mut MemorySource<'_>,
+    end: Result<bool, FileError>,
+    closed: bool,
+) {
+    same_truth(rt, reader.head().closed, false);
+    same_turn(rt, reader.advance(source), end);
+    same_truth(rt, reader.head().closed, closed);
+}
+
+/// The reader returns the two messages, and then `end`.
 fn expect_records(
     rt: &impl Abort,
     alloc: Global,
@@ -143,16 +166,8 @@ fn expect_records(
 ) -> Result<(), FileError> {
     let mut source = MemorySource::new(file);
     let mut reader = JournalReader::new(alloc, &mut source)?;
-    let mut taken = Vec::new(alloc);
-    same_turn(rt, reader.advance(&mut source), Ok(true));
-    expect_read(rt, &reader, b"AB", 1);
-    reader.take_blocks(5, &mut taken);
-    same_bytes(rt, taken.as_slice(), b"");
-    same_turn(rt, reader.advance(&mut source), Ok(true));
-    expect_read(rt, &reader, b"", 2);
-    assert!(rt; !reader.head().closed);
-    same_turn(rt, reader.advance(&mut source), end);
-    assert!(rt; reader.head().closed == closed);
+    expect_two(rt, alloc, &mut reader, &mut source);
+    expect_end(rt, &mut reader, &mut source, end, closed);
     Ok(())
 }
 
@@ -165,22 +180,9 @@ fn the_records_of_a_file_are_read(rt: HostRuntime) -> Result<(), Fail> {
     Ok(())
 }
 
-/// Reads the two messages, and the end of the file.
-fn read_two(alloc: Global, source: &mut MemorySource<'_>) -> Result<(), FileError> {
-    let mut reader = JournalReader::new(alloc, source)?;
-    for _ in 0..3 {
-        reader.advance(source)?;
-    }
-    Ok(())
-}
-
-/// If an allocation fails, the file is read again from a new source.
 #[test]
 fn out_of_memory_ends_a_reading_of_records(rt: HostRuntime) -> Result<(), Fail> {
-    if let Err(error) = read_two(rt.alloc(), &mut MemorySource::new(&THIRD)) {
-        same_refusal(&rt, error, FileError::Memory);
-        read_two(rt.alloc(), &mut MemorySource::new(&THIRD))?;
-    }
+    read_again(&rt, rt.alloc(), &THIRD)?;
     Ok(())
 }
 
