@@ -3,12 +3,14 @@
 ghost use Rattle.std.specs.Prelude.{◌≡◌, ◌+◌, ◌-◌, ◌<◌, ◌≤◌, ◌^◌, ◌++◌, ◌∷◌, [], length, take, drop, slice_get, IfOk};
 ghost use Rattle.std.specs.Prelude.{replicate, OnOk, OnErr, ◌==◌};
 ghost use Rattle.std.specs.Option.{option_copied};
+ghost use Rattle.mold_messages.specs.Parts.{AreWithin, marked_by};
 
 use crate::iterator::MessageIterator;
 use crate::offsets::offset_of;
 use crate::part::part;
 use std::alloc::{AllocError, Global};
 use std::marker::Model;
+use std::mem;
 
 /// The number of bytes before each message of a `PartList` that belong to no message.
 pub const SPACING: usize = 2;
@@ -181,6 +183,17 @@ impl PartList {
     {
         self.ends.clear();
         self.bytes.clear();
+    }
+
+    /// Exchanges the list's messages for those that end at the offsets `ends` of `bytes`. It takes constant time: the
+    /// memory of both is exchanged, and nothing is copied.
+    pub fn exchange(&mut self, ends: &mut Vec<usize>, bytes: &mut Vec<u8>)
+        requires { AreWithin ends.old.items (length bytes.old.items) }
+        ensures list { self.new ≡ marked_by ends.old.items bytes.old.items }
+        ensures old { marked_by ends.new.items bytes.new.items ≡ self.old }
+    {
+        mem::swap(&mut self.ends, ends);
+        mem::swap(&mut self.bytes, bytes);
     }
 }
 

@@ -34,3 +34,4 @@ pub mod ReleaseLemmas
 pub mod PlacedLemmas
 pub mod SkipLemmas
 pub mod RunLemmas
+pub mod ExchangeLemmas

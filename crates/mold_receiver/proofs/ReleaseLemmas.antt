@@ -13,7 +13,7 @@ use Rattle.mold_receiver.proofs.SegmentLemmas.{stays_twice}
 use Rattle.mold_receiver.proofs.StoreLemmas.{none_some}
 
 -- Counts of the first places.
-count_take_some : (places : List (Option Place)) (i : ℕ) (place : Place) (key : ℕ) → place_at places i ≡ Some place →
+pub count_take_some : (places : List (Option Place)) (i : ℕ) (place : Place) (key : ℕ) → place_at places i ≡ Some place →
     count_in key (take (suc i) places) ≡ count_in key (take i places) + one_at place.segment key
 count_take_some [] i place key is = absurd (none_some is)
 count_take_some (None ∷ places) zero place key is = absurd (none_some is)

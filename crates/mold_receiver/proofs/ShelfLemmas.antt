@@ -44,7 +44,7 @@ slots_same old new (Some place ∷ places) same =
     ∙ ap (λ (t : List Slot). Some (message_on old place) ∷ t) (slots_same old new places (λ i p is. same (suc i) p is))
 
 -- Bytes that are appended change no message.
-length_more : (bytes more : List ℕ) (start : ℕ) → IsBlockAt bytes start →
+pub length_more : (bytes more : List ℕ) (start : ℕ) → IsBlockAt bytes start →
     length_at (bytes ++ more) start ≡ length_at bytes start
 length_more bytes more start there =
     ap (λ (t : List ℕ). big_number 2 (take 2 t)) (drop-append-le start bytes more (omega (arith, there)))
@@ -112,7 +112,7 @@ within_put segments places i place within there block = λ at p is. elim (cases_
 ]
 
 -- Counts of the places in a segment.
-one_itself : (key : ℕ) → one_at key key ≡ 1
+pub one_itself : (key : ℕ) → one_at key key ≡ 1
 one_itself key = ap {B = ℕ} (λ (b : Bool). cond b 1 0) (eq-eqb key key refl)
 
 pub count_some : (places : List (Option Place)) (i : ℕ) (place : Place) → place_at places i ≡ Some place →

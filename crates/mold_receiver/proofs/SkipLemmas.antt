@@ -81,7 +81,7 @@ slots_skipped segments n places =
     ∙ ap (λ (t : List Slot). drop n (slots_in segments places) ++ t) (empty_view (message_on segments) n)
 
 -- Counts of the two parts.
-count_split : (places : List (Option Place)) (n key : ℕ) →
+pub count_split : (places : List (Option Place)) (n key : ℕ) →
     count_in key (take n places) + count_in key (drop n places) ≡ count_in key places
 count_split places zero key = omega arith
 count_split [] (suc n) key = refl

@@ -1,5 +1,6 @@
 -- Definitions for the functions that deliver messages.
-use Rattle.std.specs.Prelude.{◌≡◌, ℕ, ◌+◌, ◌-◌, ◌<◌, ◌≤◌, ◌^◌, List, ◌++◌, Some, drop, length}
+use Rattle.std.specs.Prelude.{◌≡◌, ℕ, ◌+◌, ◌-◌, ◌<◌, ◌≤◌, ◌^◌, List, ◌++◌, Some, None, drop, length, min, replicate}
+use Rattle.mold_wire.specs.declared.limits.TheConstants.{MAX_WIDE_WINDOW}
 use Rattle.mold_receiver.specs.Batch.{Handed, Follows, followed_by}
 use Rattle.mold_receiver.specs.Slots.{Slot, slot_at}
 use Rattle.mold_receiver.specs.Store.{Message, run_from}
@@ -28,6 +29,15 @@ run_of slots next first top messages = drop (next - first) messages ++ run_in sl
 pub record HasHandedOn (old new : Handed) (next : ℕ) (run : List Message) (told : ℕ) : Type 0 where
   pub batch : new ≡ followed_by old next run
   pub after : told ≡ next + length run
+
+-- The messages in the slots from `start` on, up to the first empty slot `end`, were appended to the batch. The first
+-- slot had the number `next`. The slots before `end` were dropped, as far as they exist, and as many empty ones appended.
+pub record HasDelivered (old new : List Slot) (before after : Handed) (next start end : ℕ) : Type 0 where
+  pub batch : after ≡ followed_by before (next + start) (run_in old start)
+  pub stopped : end ≡ start + length (run_in old start)
+  pub fits : next + end < 2 ^ 64
+  pub near : end ≤ start + MAX_WIDE_WINDOW
+  pub moved : new ≡ drop (min end (length old)) old ++ replicate (min end (length old)) None
 
 -- The batch grew by some messages from `next` on, or stayed as it was.
 pub record Grew (old new : Handed) (next : ℕ) : Type 0 where

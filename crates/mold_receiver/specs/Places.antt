@@ -42,6 +42,12 @@ abbrev pub end_from : List ℕ → ℕ → ℕ → ℕ
 end_from bytes start zero = start
 end_from bytes start (suc count) = end_from bytes (start + 2 + length_at bytes start) count
 
+-- The offsets at which these blocks end.
+abbrev pub ends_from : List ℕ → ℕ → ℕ → List ℕ
+ends_from bytes start zero = []
+ends_from bytes start (suc count) =
+    (start + 2 + length_at bytes start) ∷ ends_from bytes (start + 2 + length_at bytes start) count
+
 -- The number of places in this segment.
 abbrev pub count_in : ℕ → List (Option Place) → ℕ
 count_in segment [] = 0

@@ -4,20 +4,24 @@
 // emits calls that return structs through memory. They take a third of the time of a datagram with one message.
 
 ghost use Rattle.std.specs.Prelude.{◌≡◌, ◌==◌, ◌+◌, ◌↔◌, ◌<◌, ◌≤◌, ◌^◌, ◌++◌, ◌∷◌, [], length, take, drop, slice_get};
-ghost use Rattle.std.specs.Prelude.{IsTrue, OnOk, OnErr};
+ghost use Rattle.std.specs.Prelude.{IsTrue, OnOk, OnErr, false};
 ghost use Rattle.std.specs.Option.{option_copied};
 ghost use Rattle.mold_receiver.specs.Batch.{Handed, handed_from, first_of, after_of, Follows, followed_by};
 ghost use Rattle.mold_receiver.specs.Handing.{Grew, HasMore};
+ghost use Rattle.mold_receiver.specs.Places.{end_from, ends_from, messages_from};
 ghost use Rattle.mold_receiver.specs.Run.{IsWhole, messages_in};
+ghost use Rattle.mold_receiver.specs.Segments.{IsUsable};
+ghost use Rattle.mold_receiver.specs.declared.place.TheConstants.{NO_START};
 ghost use Rattle.mold_wire.specs.Block.{blocks as packed};
 
 use crate::room::Room;
 use crate::run::Run;
-use crate::segment::length_at;
+use crate::segment::{length_at, make_usable};
 use mold_messages::{MessageIterator, PartList};
 use mold_wire::{Blocks, LENGTH_BYTES};
 use std::alloc::{AllocError, Global};
 use std::marker::Model;
+use std::mem;
 
 // A run that was refused for memory: the number that it begins with, or 0, and the room that it needs.
 #[derive(Clone, Copy, Debug)]
@@ -26,27 +30,36 @@ struct Refused {
     room: Room,
 }
 
-/// A list of delivered messages with consecutive sequence numbers. The messages are copied one after the other into
-/// one buffer. The buffer grows ahead of need, and its memory is freed only when the batch is dropped.
+/// A list of delivered messages with consecutive sequence numbers. The messages are in one buffer. Most are copied there
+/// one after the other. An empty batch may instead take over the memory of a stored run, and gives other memory for it.
+/// The buffer grows ahead of need, and the memory is freed only when the batch is dropped.
 #[derive(Debug, Drop)]
 pub struct Batch {
     // The number of the first message, if there is one.
     first: u64,
-    // The messages, each after two bytes: its length field, or zeros. No bytes follow the last message.
+    // The messages, each after two bytes: its length field, or zeros. Bytes may follow the last message only while the
+    // list has a segment's memory.
     list: PartList,
+    // Whether the list has a segment's memory.
+    has_segment: bool,
+    // The list's own memory while the list has a segment's memory. Otherwise the memory that the next segment gets.
+    aside: Vec<u8>,
+    // The offsets at which the messages of a segment end, before the list gets them.
+    ends: Vec<usize>,
     // The run that was last refused for memory.
     refused: Refused,
 }
 
 impl Model for Batch {
-    ghost use Rattle.std.specs.Prelude.{◌≡◌, ◌+◌, ◌<◌, ◌^◌, length};
+    ghost use Rattle.std.specs.Prelude.{◌≡◌, ◌+◌, ◌<◌, ◌^◌, length, false};
     ghost use Rattle.mold_receiver.specs.Batch.{Handed, handed_from};
 
     ghost Value = { Handed };
 
     ghost view = { λ b. handed_from b.first b.list.messages };
 
-    ghost invariant = { λ b. (b.first + length b.list.messages < 2 ^ 64) × (b.list.end ≡ length b.list.bytes) };
+    ghost invariant = { λ b. (b.first + length b.list.messages < 2 ^ 64)
+        × (b.has_segment ≡ false → b.list.end ≡ length b.list.bytes) };
 }
 
 impl Batch {
@@ -57,6 +70,9 @@ impl Batch {
         Batch {
             first: 0,
             list: PartList::new(alloc),
+            has_segment: false,
+            aside: Vec::new(alloc),
+            ends: Vec::new(alloc),
             refused: Refused {
                 next: 0,
                 room: Room {
@@ -130,7 +146,22 @@ impl Batch {
     pub fn clear(&mut self)
         ensures { self.new ≡ record { first = 0; messages = [] } }
     {
-        self.list.clear();
+        if self.has_segment {
+            self.restore();
+        } else {
+            self.list.clear();
+        }
+    }
+
+    // Removes all messages, and gives the list its own memory back.
+    #[inline(never)]
+    fn restore(&mut self)
+        ensures { self.new ≡ record { first = 0; messages = [] } }
+    {
+        self.ends.clear();
+        self.aside.clear();
+        self.list.exchange(&mut self.ends, &mut self.aside);
+        self.has_segment = false;
     }
 
     /// Returns whether the message with the number `next` may follow. This is so if the batch is empty or its last
@@ -184,6 +215,7 @@ impl Batch {
         ensures added { OnOk result (self.new ≡ followed_by self.old next (message.now ∷ [])) }
         ensures same { OnErr result (self.new ≡ self.old) }
     {
+        cut(&mut self.list, self.has_segment);
         if self.list.is_empty() {
             self.first = next;
         }
@@ -199,6 +231,7 @@ impl Batch {
         ensures added { OnOk result (self.new ≡ followed_by self.old next blocks.now) }
         ensures grew { OnErr result (Grew self.old self.new next) }
     {
+        cut(&mut self.list, self.has_segment);
         let begin = self.list.append(blocks.bytes())?;
         if self.list.is_empty() {
             self.first = next;
@@ -215,11 +248,59 @@ impl Batch {
         ensures added { OnOk result (self.new ≡ followed_by self.old next (messages_in run.entry)) }
         ensures grew { OnErr result (Grew self.old self.new next) }
     {
+        cut(&mut self.list, self.has_segment);
         let begin = self.list.append(run.bytes)?;
         if self.list.is_empty() {
             self.first = next;
         }
         mark_run(&mut self.list, begin, run)
+    }
+
+    /// Makes room to take over the memory of a segment, which has `size` bytes and `count` messages. The batch is
+    /// empty. Returns an error if an allocation fails.
+    pub(crate) fn make_ready(
+        &mut self,
+        alloc: Global,
+        size: usize,
+        count: usize,
+    ) -> Result<(), AllocError>
+        requires empty { self.old ≡ record { first = 0; messages = [] } }
+        requires size { (0 < size) × (size < NO_START) }
+        ensures { self.new ≡ self.old }
+    {
+        self.clear();
+        make_usable(alloc, &mut self.aside, size)?;
+        self.ends.clear();
+        self.ends.reserve(count)
+    }
+
+    /// Takes over the memory of a segment, without a copy, and delivers the messages of its first `count` blocks. The
+    /// first of them has the number `next`. The batch is empty. `memory` gets other memory for the segment. If an
+    /// allocation fails, it returns an error and nothing changes.
+    pub(crate) fn exchange(
+        &mut self,
+        alloc: Global,
+        next: u64,
+        memory: &mut Vec<u8>,
+        count: usize,
+    ) -> Result<(), AllocError>
+        requires empty { self.old ≡ record { first = 0; messages = [] } }
+        requires counted { next + count < 2 ^ 64 }
+        requires usable { IsUsable memory.old }
+        requires within { end_from memory.old.items 0 count ≤ length memory.old.items }
+        ensures added { OnOk result (self.new ≡ followed_by self.old next (messages_from memory.old.items 0 count)) }
+        ensures usable { OnOk result (IsUsable memory.new) }
+        ensures same { OnErr result (self.new ≡ self.old) }
+        ensures kept { OnErr result (memory.new ≡ memory.old) }
+    {
+        self.clear();
+        make_usable(alloc, &mut self.aside, memory.len())?;
+        list_ends(&mut self.ends, memory, count)?;
+        self.list.exchange(&mut self.ends, memory);
+        mem::swap(&mut self.aside, memory);
+        self.first = next;
+        self.has_segment = true;
+        Ok(())
     }
 }
 
@@ -234,6 +315,36 @@ impl<'a> IntoIterator for &'a Batch {
     fn into_iter(self) -> MessageIterator<'a> {
         self.iter()
     }
+}
+
+// Discards the bytes after the last message, if the list has a segment's memory.
+#[inline(always)]
+fn cut(list: &mut PartList, has_segment: bool)
+    requires { has_segment ≡ false → list.old.end ≡ length list.old.bytes }
+    ensures messages { list.new.messages ≡ list.old.messages }
+    ensures whole { list.new.end ≡ length list.new.bytes }
+{
+    if has_segment {
+        let count = list.len();
+        list.truncate(count);
+    }
+}
+
+// Lists the offsets at which the first `count` blocks end.
+fn list_ends(ends: &mut Vec<usize>, bytes: &[u8], count: usize) -> Result<(), AllocError>
+    requires { end_from bytes.now 0 count ≤ length bytes.now }
+    ensures { OnOk result (ends.new.items ≡ ends_from bytes.now 0 count) }
+{
+    ends.clear();
+    ends.reserve(count)?;
+    let mut at = 0;
+    let mut left = count;
+    while left > 0 {
+        at += LENGTH_BYTES + length_at(bytes, at);
+        ends.push_reserved(at);
+        left -= 1;
+    }
+    Ok(())
 }
 
 // Appends to the list the messages whose blocks are its last bytes, from the offset `begin` on.

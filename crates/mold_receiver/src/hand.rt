@@ -6,13 +6,13 @@
 ghost use Rattle.std.specs.Prelude.{◌≡◌, ◌+◌, ◌-◌, ◌<◌, ◌≤◌, ◌^◌, ◌++◌, ◌∷◌, [], max, nat_lt, if◌then◌else◌, length};
 ghost use Rattle.std.specs.Prelude.{drop, OnOk, OnErr, IfOk};
 ghost use Rattle.mold_receiver.specs.Batch.{Follows, followed_by};
-ghost use Rattle.mold_receiver.specs.Handing.{AreNumbered, Grew, HasHandedOn, HasNext, run_in, run_of};
+ghost use Rattle.mold_receiver.specs.Handing.{AreNumbered, Grew, HasDelivered, HasHandedOn, HasNext, run_in, run_of};
 
 use crate::batch::Batch;
 use crate::room::Room;
 use crate::slots::Slots;
 use mold_wire::Blocks;
-use std::alloc::AllocError;
+use std::alloc::{AllocError, Global};
 
 // Appends a message of the packet, unless its number is below `next`.
 fn push_from(batch: &mut Batch, next: u64, number: u64, message: &[u8]) -> Result<(), AllocError>
@@ -226,4 +226,57 @@ pub(crate) fn hand_following(
         return Ok(start);
     }
     hand_stored(batch, next, slots, start)
+}
+
+// Delivers copies of the stored messages from the slot `start` on, up to the first empty slot, and drops the slots
+// before it. Returns that slot. If an allocation fails, it returns an error, and nothing changes.
+fn deliver_copied(
+    batch: &mut Batch,
+    next: u64,
+    slots: &mut Slots,
+    start: usize,
+) -> Result<usize, AllocError>
+    requires follows { Follows batch.old (next + start) }
+    requires counted { next + start < 2 ^ 64 }
+    requires numbered { AreNumbered slots.old next }
+    ensures delivered { IfOk result
+        (λ end. HasDelivered slots.old slots.new batch.old batch.new next start end) }
+    ensures needed { OnErr result (0 < length (run_in slots.old start)) }
+    ensures same { OnErr result (batch.new ≡ batch.old) }
+    ensures slots { OnErr result (slots.new ≡ slots.old) }
+{
+    let end = hand_following(batch, next, slots, start)?;
+    let count = end.min(slots.len());
+    slots.skip(count);
+    Ok(end)
+}
+
+/// Delivers the stored messages from the slot `start` on, up to the first empty slot, and drops the slots before it.
+/// Returns that slot. The batch is empty, and the first slot has the number `next`. Messages are only copied if they
+/// are not all messages of one segment, in its order. If an allocation fails, it returns an error, and nothing changes.
+#[inline(always)]
+pub(crate) fn deliver_following(
+    alloc: Global,
+    batch: &mut Batch,
+    next: u64,
+    slots: &mut Slots,
+    start: usize,
+) -> Result<usize, AllocError>
+    requires empty { batch.old ≡ record { first = 0; messages = [] } }
+    requires counted { next + start < 2 ^ 64 }
+    requires numbered { AreNumbered slots.old next }
+    ensures delivered { IfOk result
+        (λ end. HasDelivered slots.old slots.new batch.old batch.new next start end) }
+    ensures needed { OnErr result (0 < length (run_in slots.old start)) }
+    ensures same { OnErr result (batch.new ≡ batch.old) }
+    ensures slots { OnErr result (slots.new ≡ slots.old) }
+{
+    if slots.held() == 0 {
+        return Ok(start);
+    }
+    match slots.deliver_whole(alloc, start, next, batch) {
+        Ok(Some(end)) => Ok(end),
+        Ok(None) => deliver_copied(batch, next, slots, start),
+        Err(error) => Err(error),
+    }
 }

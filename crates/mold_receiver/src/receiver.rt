@@ -28,7 +28,7 @@ use crate::batch::Batch;
 use crate::conflict::conflict_of;
 use crate::error::ReceiverError;
 use crate::gap::Gap;
-use crate::hand::{hand_following, hand_on, hand_stored};
+use crate::hand::{deliver_following, hand_on, hand_stored};
 use crate::heard::{Heard, HeardPacket};
 use crate::slots::Slots;
 use crate::taken::{Accepted, Taken};
@@ -319,7 +319,7 @@ impl Receiver {
     }
 
     // Delivers from a packet that has the message `next`. Its messages are not copied: only the stored messages that
-    // follow them are appended to the batch, which is empty.
+    // follow them go to the batch, which is empty.
     #[inline(always)]
     fn hand_own(
         &mut self,
@@ -341,9 +341,8 @@ impl Receiver {
         ensures unchanged { OnErr result (self.new ≡ self.old) }
         ensures batch { OnErr result (batch.new ≡ batch.old) }
     {
-        let end = hand_following(batch, self.next, &self.slots, (top - self.next) as usize)?;
-        let count = end.min(self.slots.len());
-        self.slots.skip(count);
+        let start = (top - self.next) as usize;
+        let end = deliver_following(self.alloc, batch, self.next, &mut self.slots, start)?;
         let next = self.next + end as u64;
         self.next = next;
         self.known = self.known.max(top);

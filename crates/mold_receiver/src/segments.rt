@@ -2,6 +2,8 @@
 
 ghost use Rattle.std.specs.Prelude.{◌≡◌, ◌+◌, ◌-◌, ◌*◌, ◌<◌, ◌≤◌, ◌^◌, ◌⊎◌, [], length, min, IfNone, IfOk};
 ghost use Rattle.std.specs.Prelude.{IfSome, OnErr, OnOk, Some, None, ℕ, vec_capacity};
+ghost use Rattle.mold_receiver.specs.Batch.{followed_by};
+ghost use Rattle.mold_receiver.specs.Places.{end_from, messages_from};
 ghost use Rattle.slab.specs.Slab.{entries, slab_len, SameValues, Updates};
 ghost use Rattle.mold_receiver.specs.Segments.{AreLeft, AreSegments, HasAppended, HasGained, HasLost, IsMemory};
 ghost use Rattle.mold_receiver.specs.Segments.{IsMemoryFor, bytes_at, live_at, memory_of, room_at, size_at};
@@ -9,6 +11,7 @@ ghost use Rattle.mold_receiver.specs.declared.place.TheConstants.{NO_START};
 ghost use Rattle.mold_receiver.specs.declared.segment.TheConstants.{SEGMENT_BYTES};
 ghost use Rattle.mold_receiver.specs.declared.segments.TheConstants.{MAX_SPARE};
 
+use crate::batch::Batch;
 use crate::place::{NO_START, Place};
 use crate::segment::{SEGMENT_BYTES, Segment, memory};
 use slab::Slab;
@@ -93,8 +96,18 @@ impl Segments {
         }
     }
 
-    // Returns the size of a segment's memory, in bytes.
-    fn size(&self, key: u32) -> usize
+    /// Returns the number of stored messages of a segment.
+    pub(crate) fn live(&self, key: u32) -> u32
+        ensures { result ≡ live_at self.now key }
+    {
+        match self.table.get(key as usize) {
+            Some(segment) => segment.live,
+            None => 0,
+        }
+    }
+
+    /// Returns the size of a segment's memory, in bytes.
+    pub(crate) fn size(&self, key: u32) -> usize
         ensures { result ≡ size_at self.now key }
     {
         match self.table.get(key as usize) {
@@ -309,6 +322,40 @@ impl Segments {
         if self.table.is_empty() && self.table.capacity() > MAX_EMPTY {
             self.table.shrink_to_fit();
         }
+    }
+
+    /// Gives the memory of a segment to the batch, which is empty and delivers the segment's messages from it. They are
+    /// `count`, and the first has the number `next`. The segment gets other memory, in which nothing is stored. So it has
+    /// to be given back next. If an allocation fails, nothing changes.
+    pub(crate) fn exchange(
+        &mut self,
+        alloc: Global,
+        key: u32,
+        count: u32,
+        next: u64,
+        batch: &mut Batch,
+    ) -> Result<(), AllocError>
+        requires whole { AreSegments self.old }
+        requires some { 0 < length (bytes_at self.old key) }
+        requires blocks { end_from (bytes_at self.old key) 0 count ≡ length (bytes_at self.old key) }
+        requires empty { batch.old ≡ record { first = 0; messages = [] } }
+        requires counted { next + count < 2 ^ 64 }
+        ensures whole { AreSegments self.new }
+        ensures live { (at : ℕ) → live_at self.new at ≡ live_at self.old at }
+        ensures others { (at : ℕ) → (at ≡ key → ⊥) → bytes_at self.new at ≡ bytes_at self.old at }
+        ensures added { OnOk result
+            (batch.new ≡ followed_by batch.old next (messages_from (bytes_at self.old key) 0 count)) }
+        ensures same { OnErr result (AreLeft self.old self.new) }
+        ensures batch { OnErr result (batch.new ≡ batch.old) }
+    {
+        let Some(segment) = self.table.get_mut(key as usize) else {
+            return Err(AllocError);
+        };
+        let used = segment.used;
+        batch.exchange(alloc, next, &mut segment.bytes, count as usize)?;
+        segment.used = segment.bytes.len();
+        self.used = self.used.saturating_sub(used).saturating_add(segment.used);
+        Ok(())
     }
 
     /// Counts `count` more stored messages of a segment.

@@ -6,6 +6,7 @@ ghost use Rattle.std.specs.Prelude.{OnErr, OnOk, Some};
 ghost use Rattle.std.specs.List.{AllByRecursion};
 ghost use Rattle.std.specs.Option.{option_copied};
 ghost use Rattle.mold_wire.specs.Block.{IsMessage, blocks as packed};
+ghost use Rattle.mold_receiver.specs.Handing.{AreNumbered, HasDelivered, run_in};
 ghost use Rattle.mold_receiver.specs.Keeping.{AreFree, filled, is_fresh};
 ghost use Rattle.mold_receiver.specs.Places.{IsBlockAt, place_at};
 ghost use Rattle.mold_receiver.specs.Segments.{AreLeft, HasAppended, IsAppended, bytes_at};
@@ -18,6 +19,7 @@ ghost use Rattle.mold_receiver.specs.declared.segment.TheConstants.{SEGMENT_BYTE
 ghost use Rattle.mold_receiver.specs.declared.segments.TheConstants.{MAX_SPARE};
 ghost use Rattle.mold_wire.specs.declared.limits.TheConstants.{MAX_WIDE_WINDOW};
 
+use crate::batch::Batch;
 use crate::occupied::Occupied;
 use crate::place::Place;
 use crate::release::release;
@@ -322,6 +324,64 @@ impl Shelf {
     {
         self.held -= release(&mut self.segments, &mut self.ring, count);
         self.occupied.skip(count);
+    }
+
+    // Returns whether the messages from the slot on are exactly the `count` messages of its segment, in the order of
+    // the segment.
+    fn is_whole(&self, slot: usize, first: Place, count: u32) -> bool
+        requires kept { IsKept self.now }
+        requires there { place_at self.now.ring slot ≡ Some first }
+        ensures { IsTrue result →
+            IsExtent self.now slot first count (length (bytes_at self.now.segments first.segment)) }
+    {
+        let bytes = self.segments.bytes(first.segment);
+        let (found, end) = self.extent(slot, first, bytes);
+        found == count as usize && end == bytes.len()
+    }
+
+    /// Delivers the messages from a slot on without a copy, up to the first empty slot, and drops the slots before it.
+    /// This is only done if they are all messages of one segment, in its order. Returns that empty slot, or `None` if
+    /// nothing changed. The batch is empty, and the first slot has the number `next`. If an allocation fails, it returns
+    /// an error and nothing changes.
+    pub(crate) fn deliver_whole(
+        &mut self,
+        alloc: Global,
+        slot: usize,
+        next: u64,
+        batch: &mut Batch,
+    ) -> Result<Option<usize>, AllocError>
+        requires kept { IsKept self.old }
+        requires tight { IsTight self.old }
+        requires empty { batch.old ≡ record { first = 0; messages = [] } }
+        requires numbered { AreNumbered (slots_on self.old) next }
+        ensures kept { IsKept self.new }
+        ensures tight { IsTight self.new }
+        ensures delivered { IfOk result (λ done. IfSome done
+            (λ end. HasDelivered (slots_on self.old) (slots_on self.new) batch.old batch.new next slot end)) }
+        ensures none { IfOk result (λ done. IfNone done (slots_on self.new ≡ slots_on self.old)) }
+        ensures left { IfOk result (λ done. IfNone done (batch.new ≡ batch.old)) }
+        ensures needed { OnErr result (0 < length (run_in (slots_on self.old) slot)) }
+        ensures same { OnErr result (slots_on self.new ≡ slots_on self.old) }
+        ensures batch { OnErr result (batch.new ≡ batch.old) }
+    {
+        let Some(first) = self.ring.get(slot) else {
+            return Ok(None);
+        };
+        let count = self.segments.live(first.segment);
+        let end = slot + count as usize;
+        if first.start > 0 || self.has(end) {
+            return Ok(None);
+        }
+        batch.make_ready(alloc, self.segments.size(first.segment), count as usize)?;
+        if !self.is_whole(slot, first, count) {
+            return Ok(None);
+        }
+        let number = next + slot as u64;
+        self.segments
+            .exchange(alloc, first.segment, count, number, batch)?;
+        self.held -= release(&mut self.segments, &mut self.ring, end);
+        self.occupied.skip(end);
+        Ok(Some(end))
     }
 
     // Returns whether no slot from `from` up to, but not including, `to` has a message. It searches the flags.

@@ -1,8 +1,9 @@
 //! The slots of the store, as the receiver uses them.
 
-ghost use Rattle.std.specs.Prelude.{◌≡◌, ◌↔◌, IsTrue, ◌+◌, ◌*◌, ◌^◌, ◌<◌, ◌≤◌, ◌++◌, length, drop, replicate, IfOk};
+ghost use Rattle.std.specs.Prelude.{◌≡◌, ◌↔◌, IsTrue, ◌+◌, ◌*◌, ◌^◌, ◌<◌, ◌≤◌, ◌++◌, [], length, drop, replicate, IfOk};
 ghost use Rattle.std.specs.Prelude.{◌-◌, min, IfNone, IfSome, OnOk, OnErr, None};
 ghost use Rattle.std.specs.Option.{option_copied};
+ghost use Rattle.mold_receiver.specs.Handing.{AreNumbered, HasDelivered, run_in};
 ghost use Rattle.mold_receiver.specs.Keeping.{filled, fresh};
 ghost use Rattle.mold_receiver.specs.Run.{IsRunAt};
 ghost use Rattle.mold_receiver.specs.Slots.{slot_at, slots_bytes, count_held, AreEmpty, IsFirstEmpty, IsNextHeld};
@@ -11,6 +12,7 @@ ghost use Rattle.mold_receiver.specs.declared.segments.TheConstants.{MAX_SPARE};
 ghost use Rattle.mold_wire.specs.declared.limits.TheConstants.{MAX_WIDE_WINDOW};
 ghost use Rattle.mold_wire.specs.declared.header.TheConstants.{END_OF_SESSION};
 
+use crate::batch::Batch;
 use crate::keep::keep_fresh;
 use crate::room::Room;
 use crate::run::Run;
@@ -140,6 +142,30 @@ impl Slots {
         ensures { self.new ≡ drop count self.old ++ replicate count None }
     {
         self.shelf.skip(count);
+    }
+
+    /// Delivers the messages from a slot on without a copy, up to the first empty slot, and drops the slots before it.
+    /// This is only done if they are all messages of one segment, in its order. Returns that empty slot, or `None` if
+    /// nothing changed. The batch is empty, and the first slot has the number `next`. If an allocation fails, it returns
+    /// an error and nothing changes.
+    pub(crate) fn deliver_whole(
+        &mut self,
+        alloc: Global,
+        slot: usize,
+        next: u64,
+        batch: &mut Batch,
+    ) -> Result<Option<usize>, AllocError>
+        requires empty { batch.old ≡ record { first = 0; messages = [] } }
+        requires numbered { AreNumbered self.old next }
+        ensures delivered { IfOk result (λ done. IfSome done
+            (λ end. HasDelivered self.old self.new batch.old batch.new next slot end)) }
+        ensures none { IfOk result (λ done. IfNone done (self.new ≡ self.old)) }
+        ensures left { IfOk result (λ done. IfNone done (batch.new ≡ batch.old)) }
+        ensures needed { OnErr result (0 < length (run_in self.old slot)) }
+        ensures same { OnErr result (self.new ≡ self.old) }
+        ensures batch { OnErr result (batch.new ≡ batch.old) }
+    {
+        self.shelf.deliver_whole(alloc, slot, next, batch)
     }
 
     /// Returns whether no slot from `from` up to, but not including, `to` has a message.

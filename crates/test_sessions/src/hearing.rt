@@ -119,6 +119,14 @@ fn out_of_memory_while_stored_messages_follow(rt: HostRuntime) -> Result<(), Fai
     expect_hearing(&rt, rt.alloc(), FOLLOWED, &[b"B", b"C"], (4, 3, 0))
 }
 
+const IN_SEGMENT: Steps = &[(DATA_2, Ok(&[])), (DATA_3, Ok(&[])), (DATA_1, Ok(&[b"A"]))];
+
+/// Messages 2 and 3 are stored in order, and leave the store with the memory of their segment.
+#[test]
+fn segment_is_delivered_whole(rt: HostRuntime) -> Result<(), Fail> {
+    expect_hearing(&rt, rt.alloc(), IN_SEGMENT, &[b"B", b"C"], (4, 3, 0))
+}
+
 const IN_ORDER: Steps = &[
     (DATA_1_2, Ok(&[b"A", b"B"])),
     (DATA_1_3, Ok(&[b"C"])),
