@@ -1,6 +1,5 @@
-//! A driver for `tests/durable`: it writes a journal file. The first line of its input has the options: the path of the
-//! file, the messages of a commit, how often each line is appended, whether the session is closed at the end, and
-//! whether each commit is reported. Each other line is a message.
+//! A driver for `tests/durable`: it writes a journal file. The first line of its input is `PATH GROUP REPEATS CLOSES
+//! REPORTS`, as in `WriterOptions`. PATH has no space. Each other line is a message.
 #![tactic(auto)]
 
 mod opened;
@@ -35,7 +34,7 @@ fn write_lines(
     writer.finish(&mut sink)
 }
 
-// An empty input writes nothing.
+// If the input is empty, nothing is written.
 fn run(rt: &HostRuntime) -> Result<(), Problem> {
     let mut source = FromRead::new(rt.stdin());
     let mut lines = Lines::new(rt.alloc())?;

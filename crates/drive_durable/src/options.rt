@@ -3,7 +3,7 @@
 use memchr::memchr;
 use mold_digits::read_number;
 
-/// What is written, except for the messages.
+/// How the messages are written.
 #[derive(Clone, Copy)]
 pub(crate) struct WriterOptions {
     /// How many messages are committed together.
@@ -12,7 +12,7 @@ pub(crate) struct WriterOptions {
     pub repeats: u64,
     /// Whether the session is closed at the end of the input.
     pub closes: bool,
-    /// Whether the number of committed messages is reported after each commit.
+    /// Whether the number of committed messages is reported after opening, after each commit and after closing.
     pub reports: bool,
 }
 

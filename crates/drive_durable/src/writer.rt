@@ -9,9 +9,9 @@ use std::alloc::{AllocError, Global};
 /// Why the driver ends early.
 #[derive(Clone, Copy)]
 pub(crate) enum Problem {
-    /// The first line does not have the options.
+    /// The first line does not have the options, or the path could not be allocated.
     Options,
-    /// Standard input or output failed, or an allocation.
+    /// Standard input or output failed, or an allocation failed.
     Device,
     /// The journal's file is locked.
     Locked,
@@ -70,7 +70,7 @@ impl<S: Storage> Writer<S> {
         }
     }
 
-    /// Reports the number of committed messages, if the options say so.
+    /// Reports the number of committed messages, if the options select it.
     pub(crate) fn report<K: Sink>(&mut self, sink: &mut K) -> Result<(), Problem> {
         if self.options.reports {
             let mut digits = [0; MAX_DIGITS];
@@ -82,7 +82,7 @@ impl<S: Storage> Writer<S> {
         Ok(())
     }
 
-    /// Appends the message as often as the options say, and commits whenever a group waits.
+    /// Appends the message `repeats` times, and commits whenever `group` messages wait.
     pub(crate) fn append<K: Sink>(&mut self, message: &[u8], sink: &mut K) -> Result<(), Problem> {
         for _ in 0..self.options.repeats {
             if self.journal.append(message).is_err() {
@@ -95,7 +95,7 @@ impl<S: Storage> Writer<S> {
         Ok(())
     }
 
-    /// Commits what waits, and closes the session if the options say so.
+    /// Commits what waits, and closes the session if the options select it.
     pub(crate) fn finish<K: Sink>(&mut self, sink: &mut K) -> Result<(), Problem> {
         if !self.options.closes {
             return if self.waits() {

@@ -27,7 +27,7 @@ pub record DurableState (S : Type 0) : Type 0 where
   pub max_message : ℕ
   -- how many messages are committed
   pub committed : ℕ
-  -- the offset at which the records end
+  -- the offset of the shut gate or, if the session is closed, of the last byte of the closing record
   pub end : ℕ
   -- whether the closing record is committed
   pub closed : Bool
@@ -36,8 +36,8 @@ pub record DurableState (S : Type 0) : Type 0 where
   -- whether a call of the storage failed since the journal was opened
   pub broken : Bool
 
--- The bytes of a file of version 3 up to the last gate, which may be shut. A closed file has no such gate, but one more
--- byte.
+-- The bytes of a file of version 3 before its shut gate. If the session is closed, they are the bytes before the last
+-- byte of the closing record.
 abbrev pub file_prefix : Session → List (List ℕ) → Bool → List ℕ
 file_prefix session messages closed = head_3 session.0 ++ (records messages ++ closing closed)
 

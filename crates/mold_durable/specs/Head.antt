@@ -8,7 +8,7 @@ abbrev pub SpellsNone : List ℕ → Type 0
 SpellsNone bytes =
     (session : Session) (messages : List (List ℕ)) (closed : Bool) → SpellsJournal3 session messages closed bytes → ⊥
 
--- The bytes are no journal's file, or that of the session's open journal without messages.
+-- The bytes are not the file of any journal, or they are the file of the session's open journal without messages.
 abbrev pub IsNoneOrEmpty : Session → List ℕ → Type 0
 IsNoneOrEmpty session bytes = SpellsNone bytes ⊎ SpellsJournal3 session [] false bytes
 

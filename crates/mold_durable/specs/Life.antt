@@ -1,11 +1,11 @@
--- The life of a durable journal: which of its messages outlive a crash, and what may happen to it.
+-- What may happen to a durable journal, and which of its messages outlive a crash.
 use Rattle.std.specs.Prelude.{◌≡◌, ◌⊎◌, ℕ, ◌+◌, ◌<◌, Bool, true, false, List, [], ◌∷◌, ◌++◌, length}
 use Rattle.mold_wire.specs.declared.session.Session.{Session}
 use Rattle.mold_session.specs.Records.{SpellsJournal3}
 use Rattle.mold_session.specs.declared.journal.TheConstants.{MAX_MESSAGES}
 use Rattle.mold_durable.specs.DurableJournal.{DurableState, IsSettled}
 
--- A journal at one time of its life. A crash loses the messages that wait, and nothing else.
+-- The state of a journal at one time of its life. A crash loses the messages that wait, and nothing else.
 pub record Life : Type 0 where
   pub session : Session
   pub committed : List (List ℕ)
@@ -13,7 +13,8 @@ pub record Life : Type 0 where
   pub closed : Bool
   pub waiting : List (List ℕ)
 
--- What may happen to a journal. A crash within a commit or a closing is a crash after it or in place of it.
+-- What may happen to a journal. A crash during a commit or a close counts as a crash after it, or as a crash without
+-- it.
 pub data Moment : Type 0 where
   -- A message joins those that wait.
   Append : List ℕ → Moment

@@ -43,8 +43,9 @@ pub record LeftSince (calls : List MemoryCall) (moment : ℕ) (bytes : List ℕ)
 abbrev pub torn_over : ℕ → List ℕ → List ℕ → List ℕ
 torn_over at tear bytes = take at bytes ++ (tear ++ drop (at + length tear) bytes)
 
--- The bytes that a crash leaves after these calls, if each write since the last sync leaves the bytes of its tear. `all`
--- are the tears of the writes since the last sync, and `tears` those that remain. A write without a tear leaves nothing.
+-- The bytes that a crash leaves after these calls. A *tear* has the bytes that a write since the last sync leaves at
+-- its offset. `all` are the tears of these writes, and `tears` those that remain. A write without a tear leaves
+-- nothing.
 abbrev pub left_by : List (Vec ℕ) → List ℕ → List MemoryCall → List (Vec ℕ) → List ℕ
 left_by all bytes [] tears = bytes
 left_by all bytes (Sync kept ∷ calls) tears = left_by all kept.items calls all

@@ -27,11 +27,11 @@ MayTear at count old new = at ≤ length old → Torn at count old new
 abbrev pub Follows : (List ℕ → List ℕ → Type 0) → (List ℕ → Type 0) → (List ℕ → Type 0) → Type 0
 Follows step old new = (bytes : List ℕ) → new bytes → (before : List ℕ) × old before × step before bytes
 
--- Whatever has `new` has `old`.
+-- All bytes that satisfy `new` satisfy `old`.
 abbrev pub IsWithin : (List ℕ → Type 0) → (List ℕ → Type 0) → Type 0
 IsWithin old new = (bytes : List ℕ) → new bytes → old bytes
 
--- The same bytes have `old` and `new`.
+-- The same bytes satisfy `old` and `new`.
 abbrev pub AreSame : (List ℕ → Type 0) → (List ℕ → Type 0) → Type 0
 AreSame old new = IsWithin old new × IsWithin new old
 
@@ -48,12 +48,12 @@ pub record Elapses (before now : ℕ) (past since : ℕ → List ℕ → Type 0)
       past moment bytes ⊎ may_leave bytes
   pub keeps : (moment : ℕ) (bytes : List ℕ) → moment ≤ before → past moment bytes → since moment bytes
 
--- A crash at any moment from `old` to `new` leaves bytes that have P.
+-- A crash at any moment from `old` to `new` leaves bytes that satisfy P.
 pub record LeavesOnly {S : Type 0} (moment : S → ℕ) (left_since : S → ℕ → List ℕ → Type 0) (old new : S)
     (P : List ℕ → Type 0) : Type 0 where
   pub later : moment old ≤ moment new
   pub each : (bytes : List ℕ) → left_since new (moment old) bytes → P bytes
-  -- What a crash leaves since an earlier moment is what it left before the call, or it has P.
+  -- What a crash leaves since an earlier moment is what it left before the call, or it satisfies P.
   pub before : (earlier : ℕ) (bytes : List ℕ) → earlier ≤ moment old → left_since new earlier bytes →
       left_since old earlier bytes ⊎ P bytes
 
@@ -65,7 +65,7 @@ pub record OnlyReads {S : Type 0} (shows may_leave : S → List ℕ → Type 0) 
   pub crash : IsWithin (may_leave old) (may_leave new)
   pub any_moment : LeavesOnly moment left_since old new (may_leave old)
 
--- Whatever a read may return and whatever a crash may leave has P.
+-- All bytes that a read may return or a crash may leave satisfy P.
 pub record IsKept (shows may_leave : List ℕ → Type 0) (P : List ℕ → Type 0) : Type 0 where
   pub shown : (bytes : List ℕ) → shows bytes → P bytes
   pub left : (bytes : List ℕ) → may_leave bytes → P bytes

@@ -46,7 +46,7 @@ fn take_step<S: Storage>(journal: &mut DurableJournal<S>, step: &Step)
     }
 }
 
-/// Makes calls on a journal, whatever each returns. A crash at any moment of them leaves a file that begins with the
+/// Makes calls on a journal, whatever each returns. A crash during these calls leaves a file that begins with the
 /// messages that were committed before.
 pub fn take_steps<S: Storage>(journal: &mut DurableJournal<S>, steps: &[Step])
     ensures live { (session : Session) (messages : List (List ℕ)) →
@@ -61,11 +61,9 @@ pub fn take_steps<S: Storage>(journal: &mut DurableJournal<S>, steps: &[Step])
     }
 }
 
-/// Opens what a crash left. These messages are committed in `journal`, as `commit` states once it succeeded. Then any
-/// calls are made, and `disk` has what a crash at any moment since then left of the journal's storage. The opened
-/// journal begins with these messages. It is not refused, unless the disk or an allocation fails.
-///
-/// So it is a theorem about `append`, `commit`, `close` and `open` together.
+/// A theorem about `append`, `commit`, `close` and `open` together. `journal` has committed messages. The function
+/// makes any calls on it, and then opens `disk`. `disk` has what a crash during or after these calls may leave. The
+/// opened journal begins with the committed messages. `open` fails only if the disk or an allocation fails.
 pub fn open_after_crash<S: Storage, D: Storage>(
     alloc: Global,
     journal: &mut DurableJournal<S>,

@@ -32,8 +32,8 @@ use std::marker::Model;
 /// The journal of a session in a storage. It holds the messages that wait to be committed, and no message that was
 /// committed. Its first message has sequence number 1.
 ///
-/// After a call that returned `Write`, the journal is broken: `append`, `commit` and `close` return `Broken` until the
-/// storage is opened again.
+/// After a call that returned `Write`, the journal is broken: `append`, `commit` and `close` return `Broken` from then
+/// on.
 #[derive(Debug, Drop)]
 pub struct DurableJournal<S> {
     storage: S,
@@ -41,7 +41,7 @@ pub struct DurableJournal<S> {
     max_message: u16,
     // The number of committed messages.
     committed: u64,
-    // The offset at which the records end. If the journal is open, the shut gate is there.
+    // The offset of the shut gate or, if the session is closed, of the last byte of the closing record.
     end: u64,
     closed: bool,
     group: Group,
@@ -241,7 +241,8 @@ impl<S: Storage> DurableJournal<S> {
           waiting = self.old.waiting ++ message.now ∷ [];
         }) }
         ensures appended { (life : Life) → Lives S.shows S.may_leave self.old life → OnOk result
-            (MayHappen life (Append message.now) × Lives S.shows S.may_leave self.new (after life (Append message.now))) }
+            (MayHappen life (Append message.now)
+            × Lives S.shows S.may_leave self.new (after life (Append message.now))) }
         ensures broken { self.old.broken ≡ true → IfErr result (λ error. error ≡ waiting.Broken) }
         ensures refused { self.old.broken ≡ false → IfErr result (λ error.
             error ≡ waiting.Append (unwrap_or (waiting_refusal self.old message.now) AppendError.Memory)) }

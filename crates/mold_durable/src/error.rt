@@ -7,8 +7,8 @@ use thiserror::Error;
 /// Why a message is not appended. If both reasons apply, `Broken` is returned.
 #[derive(Clone, Copy, Debug, PartialEq, Eq, Error)]
 pub enum WaitingError {
-    /// A call of the storage failed before. The journal has to be opened again.
-    #[error("the journal has to be opened again")]
+    /// An earlier write or sync failed. docs/DURABILITY.md states how to continue.
+    #[error("an earlier write of the journal failed")]
     Broken,
     /// The message does not fit the journal, or an allocation failed.
     #[error("{0}")]
@@ -18,11 +18,11 @@ pub enum WaitingError {
 /// Why messages are not committed. If both reasons apply, `Broken` is returned.
 #[derive(Clone, Copy, Debug, PartialEq, Eq, Error)]
 pub enum CommitError {
-    /// A call of the storage failed before. The journal has to be opened again.
-    #[error("the journal has to be opened again")]
+    /// An earlier write or sync failed. docs/DURABILITY.md states how to continue.
+    #[error("an earlier write of the journal failed")]
     Broken,
-    /// The storage failed. From now on the journal is broken. Once it is opened again, it has all of the messages that
-    /// waited or none of them.
+    /// A write or a sync failed. From now on the journal is broken. Its storage has all waiting messages or none. For a
+    /// file, docs/DURABILITY.md states how to continue.
     #[error("the journal can't be written")]
     Write,
 }

@@ -15,8 +15,8 @@ const MAX_LENGTH: u64 = i64::MAX as u64;
 
 /// A file as a storage. It reads with `pread`, writes with `pwrite` and syncs with `fdatasync`.
 ///
-/// No contract can state what a file contains. So no bytes have `shows` or `may_leave` of a file, and the clauses of
-/// `Storage` state nothing about its bytes. The tests check what they would state.
+/// No contract can state what a file contains. So no bytes satisfy `shows` or `may_leave` here, and the clauses of
+/// `Storage` about bytes state nothing. The tests check what they would state.
 #[derive(Debug, Drop)]
 pub struct FileStorage {
     file: File,

@@ -15,7 +15,8 @@ pub const OPEN_GATE: u8 = 1;
 pub const SHUT_GATE: u8 = 0;
 
 /// Writes the text after the shut gate at offset `gate`, and opens the gate once the text is durable. It writes twice
-/// and syncs twice. A crash at any moment leaves the bytes before the shut gate, or those with the whole text.
+/// and syncs twice. A crash at any moment leaves the bytes before the gate unchanged. The gate is still shut, or it is
+/// open and the whole text follows.
 // Both writes need their own sync: if one sync made both durable, a crash could leave an open gate without the text.
 pub fn put_after_gate<S: Storage>(
     storage: &mut S,

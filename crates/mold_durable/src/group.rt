@@ -1,6 +1,7 @@
 //! The messages that wait to be committed, in the form in which they are written.
 
-ghost use Rattle.std.specs.Prelude.{◌≡◌, ◌+◌, ◌-◌, ◌<◌, ◌≤◌, ◌^◌, ◌++◌, ◌∷◌, [], false, length, take, OnOk, OnErr, IfOk, ◌==◌};
+ghost use Rattle.std.specs.Prelude.{◌≡◌, ◌+◌, ◌-◌, ◌<◌, ◌≤◌, ◌^◌, ◌++◌, ◌∷◌, [], false, length, take};
+ghost use Rattle.std.specs.Prelude.{OnOk, OnErr, IfOk, ◌==◌};
 ghost use Rattle.mold_wire.specs.Block.{be16};
 ghost use Rattle.mold_durable.specs.Group.{GroupState, HasRecord, IsTextOf, last_gate_of};
 ghost use Rattle.mold_session.specs.Records.{record_of};
@@ -20,8 +21,8 @@ pub const CLOSING: u8 = 1;
 /// length.
 const RECORD_HEAD: usize = 4;
 
-/// The bytes that a group keeps after its records. They are the shut gate after the records, and what makes this gate
-/// the closing record once it is open.
+/// The bytes that a group keeps after its records: the shut gate, and two more bytes. Once the gate is open, the three
+/// bytes are the closing record.
 const END: [u8; 3] = [SHUT_GATE, CLOSING, SHUT_GATE];
 
 /// Messages that wait to be committed. They are kept as the records that a commit writes, so a commit copies nothing.

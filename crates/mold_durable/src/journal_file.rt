@@ -9,7 +9,7 @@ use std::fs::{self, File, OpenOptions, TryLockError};
 use std::io::{self, ErrorKind};
 use std::os::unix::fs::MetadataExt;
 
-/// How often a file is opened anew if its name was given to another file meanwhile.
+/// The number of attempts to open a file whose name changes before it is locked.
 const TRIES: u32 = 100;
 
 /// Opens the file at `path` for reading and writing, and locks it until the storage is dropped. The file is unchanged.
@@ -25,7 +25,8 @@ pub fn open_file(rt: &HostRuntime, path: &str) -> Result<Option<FileStorage>, Jo
 /// `None` if the file exists.
 ///
 /// The journal is written to a file with `.new` after its name, which then gets the name `path` too, and loses its
-/// first name. So a file at `path` has a journal at every moment. The file system has to support hard links.
+/// first name. So a file at `path` has a journal at every moment. Call `sync_folder` afterwards: until then, a power
+/// failure may remove the name. The file system has to support hard links.
 pub fn create_file(
     rt: &HostRuntime,
     path: &str,
@@ -69,8 +70,9 @@ pub fn sync_folder(rt: &HostRuntime, path: &str) -> Result<(), JournalFileError>
     }
 }
 
-// Opens and locks the file at `path`, which it creates if it does not exist, and makes it empty. A file that has another
-// name too is a journal, whose process died before it removed this name. The name is removed, and the file kept.
+// Opens and locks the file at `path`, which it creates if it does not exist, and makes it empty. A file with a second
+// name is a journal: its creator died before it removed the name `path`. This function removes that name and keeps the
+// file.
 fn new_file(rt: &HostRuntime, path: &str) -> Result<FileStorage, JournalFileError> {
     for _ in 0..TRIES {
         let Some(file) = lock_file(rt, path, true)? else {
@@ -129,7 +131,8 @@ fn open_options(creates: bool) -> OpenOptions {
     options
 }
 
-// Returns whether `path` is a name of the file. Between the opening and the lock, its process may have removed that name.
+// Returns whether `path` is a name of the file. Between the opening and the lock, its process may have removed that
+// name.
 fn is_named(rt: &HostRuntime, path: &str, file: &File) -> io::Result<bool> {
     let named = match fs::metadata(rt, path) {
         Ok(named) => named,

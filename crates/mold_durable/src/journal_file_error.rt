@@ -5,7 +5,7 @@ use thiserror::Error;
 /// Why the file of a journal is not opened or created.
 #[derive(Clone, Copy, Debug, PartialEq, Eq, Error)]
 pub enum JournalFileError {
-    /// Another process has a lock on the file.
+    /// Another process has a lock on the file, or the name changed to another file in each of 100 attempts.
     #[error("another process writes the journal")]
     Locked,
     /// A call of the system failed.

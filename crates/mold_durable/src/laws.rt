@@ -1,4 +1,4 @@
-//! Laws: theorems about the definitions alone. A law is a function that does nothing, and its contract is the theorem.
+//! Laws: theorems about the definitions alone. A law is a function that exists only for its contract, the theorem.
 
 ghost use Rattle.std.specs.Prelude.{◌≡◌, ◌≤◌, List, ℕ, Bool};
 ghost use Rattle.std.specs.List.{AllByRecursion};

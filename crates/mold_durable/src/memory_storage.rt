@@ -15,8 +15,8 @@ use mold_devices::DeviceFault;
 use std::alloc::{AllocError, Global};
 use std::marker::Model;
 
-/// A storage in memory, for tests. A call fails only if `fail_at` or `crash_at` says so, if a write begins after the end
-/// of the bytes, or if an allocation fails. It keeps each call, so its memory grows with every write and every sync.
+/// A storage in memory, for tests. A call fails only if `fail_at` or `crash_at` selected it, if a write begins after
+/// the end of the bytes, or if an allocation fails. The storage records each write and each sync, so its memory grows.
 #[derive(Debug, Drop)]
 pub struct MemoryStorage {
     alloc: Global,
@@ -86,7 +86,7 @@ impl MemoryStorage {
     }
 
     /// Makes the `k`-th read, write or sync from now on fail, counted from 1, and no other call. 0 means that no call
-    /// fails. A write that fails changes nothing that a read returns, but a crash may leave any part of it.
+    /// fails. A failed write does not change what a read returns, but a crash may leave any bytes in its range.
     pub fn fail_at(&mut self, k: u64)
         ensures { self.new ≡ record self.old { fails_at = k; crashes = false } }
     {
@@ -103,9 +103,9 @@ impl MemoryStorage {
         self.plan.crashes = true;
     }
 
-    /// Returns a storage with the bytes that a crash at this moment leaves. Each write since the last sync is torn: its
-    /// tear is written at its offset, at most as many bytes as it had. The tears are in the order of the writes. A write
-    /// without a tear leaves nothing. It fails if an allocation fails.
+    /// Returns a storage with the bytes that a crash at this moment leaves. `tears[i]` has the bytes that write `i`
+    /// after the last sync leaves at its offset. Bytes beyond the length of that write are ignored. A write without a
+    /// tear leaves nothing. It fails if an allocation fails.
     pub fn after_crash(&self, tears: &[Vec<u8>]) -> Result<MemoryStorage, AllocError>
         ensures left { IfOk result (λ storage.
             storage.bytes ≡ left_by tears.now [] self.now.calls tears.now) }
@@ -222,7 +222,8 @@ impl Storage for MemoryStorage {
     }
 }
 
-// Copies the bytes from offset `at` on to the start of the buffer, as many as there are or as fit, and returns how many.
+// Copies the bytes from offset `at` on to the start of the buffer, as many as there are or as fit, and returns how
+// many.
 fn copy_part(bytes: &[u8], at: u64, buffer: &mut [u8]) -> usize
     ensures part { IsPartAt at bytes.now result buffer.new }
     ensures same { length buffer.new ≡ length buffer.old }

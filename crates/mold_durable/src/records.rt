@@ -14,7 +14,7 @@ use byteorder::{BigEndian, ByteOrder};
 use mold_session::MAX_MESSAGES;
 use mold_wire::LENGTH_BYTES;
 
-/// What follows in a journal.
+/// A message's record, or the end of the records.
 #[derive(Clone, Copy)]
 pub enum NextRecord {
     /// The record of a message. It takes `len` bytes.
@@ -26,11 +26,11 @@ pub enum NextRecord {
 /// The whole records at the start of some bytes, and what follows them.
 #[derive(Clone, Copy)]
 pub struct Skipped {
-    /// The number of messages, with those before these bytes.
+    /// The number of messages, including those before these bytes.
     pub count: u64,
     /// The length of the records, in bytes.
     pub len: usize,
-    /// Whether the session is closed if the records end, otherwise why no record follows.
+    /// `Ok` if the records end, with whether the session is closed. Otherwise the reason why no record follows.
     pub stop: Result<bool, OpenError>,
 }
 

@@ -75,7 +75,8 @@ fn read_piece<S: Storage>(
     }
 }
 
-// Reads all records. A fault counts only at the start of a piece, where it can't be the end of the piece.
+// Reads all records. An invalid record is refused only at the start of a piece. There, it is not merely cut off by the
+// end of the piece.
 fn read_records<S: Storage>(
     storage: &mut S,
     buffer: &mut [u8],

@@ -25,8 +25,8 @@ pub trait Storage {
     // The number of failures. It stays at `u64::MAX` once it is there.
     ghost failed: { Self → ℕ };
 
-    /// Reads the bytes from offset `at` on into the start of `buffer`, as many as there are or as fit, and returns how
-    /// many. After a fault, the contents of `buffer` are unspecified.
+    /// Reads bytes from offset `at` on until `buffer` is full or the storage ends, and returns the number of bytes.
+    /// After a fault, the contents of `buffer` are unspecified.
     fn read_at(&mut self, at: u64, buffer: &mut [u8]) -> Result<usize, DeviceFault>
         ensures count { ReadsAtMost result buffer.new }
         ensures bytes { IfOk result (λ count. (bytes : List ℕ) → shows self.old bytes →
@@ -38,8 +38,9 @@ pub trait Storage {
             (may_leave self.new) }
         ensures failures { Counts (failed self.old) (failed self.new) result };
 
-    /// Writes all of `bytes` from offset `at` on, over the bytes there and after their end. A write that would end
-    /// after offset 2^63 - 1 fails.
+    /// Writes `bytes` at offset `at`. It overwrites bytes, and may extend the storage. The contract does not specify
+    /// the effect if `at` is after the end. A write that would end after offset 2^63 - 1 fails. After a fault, some of
+    /// the bytes may have been written.
     fn write_at(&mut self, at: u64, bytes: &[u8]) -> Result<(), DeviceFault>
         ensures written { OnOk result (Follows (IsWritten at bytes.now) (shows self.old) (shows self.new)) }
         ensures within { OnOk result (at + length bytes.now < 2 ^ 63) }
@@ -48,7 +49,7 @@ pub trait Storage {
             (may_leave self.new) }
         ensures failures { Counts (failed self.old) (failed self.new) result };
 
-    /// Makes all bytes durable: once it succeeded, a crash leaves only bytes that a read may return.
+    /// Makes all bytes durable: until the next write, a crash leaves only bytes that a read may return.
     fn sync(&mut self) -> Result<(), DeviceFault>
         ensures durable { OnOk result (IsWithin (shows self.old) (may_leave self.new)) }
         ensures shown { AreSame (shows self.old) (shows self.new) }

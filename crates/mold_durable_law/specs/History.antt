@@ -1,4 +1,4 @@
--- A session whose publisher keeps a durable journal: the moments of the journal, and the steps of everything else.
+-- A session whose publisher keeps a durable journal: the moments of the journal, and all other steps.
 use Rattle.std.specs.Prelude.{ℕ, ◌+◌, List, [], ◌∷◌, ◌++◌, map}
 use Rattle.mold_durable.specs.Life.{Life, MayHappen as MayHappenTo, Moment, after as after_moment}
 use Rattle.mold_durable.specs.Life.Moment.{Append, Close as CloseJournal, Commit, Crash}
@@ -32,7 +32,7 @@ pub data Event : Type 0 where
   -- The publisher or a server sends a datagram, or something happens to a datagram or a receiver.
   Other : Step → Event
 
--- The step is none of the journal's.
+-- The step is neither a publication nor the closing of the session.
 abbrev pub IsOther : Step → Type 0
 IsOther (Publish message) = ⊥
 IsOther Close = ⊥
@@ -58,7 +58,7 @@ after_event history (Writes moment) = record {
 }
 after_event history (Other step) = record history { machine = after_step history.machine step }
 
--- The machine's steps in an event. A commit publishes the messages that wait. A crash is no step.
+-- The machine's steps in an event. A commit publishes the messages that wait. A crash is not a step.
 abbrev pub steps_of : History → Event → List Step
 steps_of history (Writes (Append message)) = []
 steps_of history (Writes Commit) = map Publish history.waiting

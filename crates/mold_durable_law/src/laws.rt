@@ -1,9 +1,9 @@
-//! The law of the durable journal. A law is a function that does nothing: its contract is a theorem.
+//! The law of the durable journal. A law is a function that exists only for its contract, which is a theorem.
 
 ghost use Rattle.std.specs.Prelude.{◌≡◌, ℕ, Bool, List, true};
 ghost use Rattle.mold_durable.specs.Life.{IsFileOf, Moment, after as after_moment, born};
-ghost use Rattle.mold_durable_law.specs.History.{AllMayHappen, History, Event, after_all, after_event, all_steps, begun};
-ghost use Rattle.mold_durable_law.specs.History.{life_of};
+ghost use Rattle.mold_durable_law.specs.History.{AllMayHappen, History, Event, after_all};
+ghost use Rattle.mold_durable_law.specs.History.{after_event, all_steps, begun, life_of};
 ghost use Rattle.mold_durable_law.specs.History.Event.{Writes};
 ghost use Rattle.mold_session.specs.Records.{SpellsJournal3};
 ghost use Rattle.mold_wire.specs.declared.session.Session.{Session};
@@ -15,16 +15,17 @@ use mold_world::laws::safety_law;
 
 /// States the headline for a publisher that keeps its session in a durable journal and may crash at any moment.
 ///
-/// The contracts of `DurableJournal` state which moment of the journal's life a call is, and that a crash within a
-/// call leaves a file of the life before that moment or after it. A history has the moments of the publisher's journal,
-/// and the other steps of the machine of `mold_world`: datagrams that are sent, delivered or lost, and receivers that
-/// restart. A datagram is sent only if it is true of the committed messages.
+/// The contracts of `DurableJournal` state which moment of the journal's life a call is, and that a crash during a call
+/// leaves a file of the life before that moment or after it. An event is a moment of the publisher's journal, or
+/// another step of the machine of `mold_world`: a datagram is sent, delivered or lost, or a receiver restarts. A
+/// datagram is sent only if it is true of the committed messages. The law is about every list of events that may
+/// happen.
 ///
 /// - `begins`, `life`: the committed messages of the journal are the published messages of the machine.
-/// - `steps`, `run`: each history is a run of the machine, in which messages are published by commits. A message that a
-///   crash loses is not published, and a crash is no step.
-/// - `books`, `whole`: so each receiver's book is a prefix of the committed messages, and a receiver that reports the
-///   end has the whole closed session.
+/// - `steps`, `run`: the events are a run of the machine, in which a commit publishes messages. A message that a crash
+///   loses is not published, and a crash is not a step.
+/// - `books`, `whole`: so the delivered log of each receiver, its `book`, is a prefix of the committed messages. A
+///   receiver that reports the end has the whole closed session.
 /// - `recovered`, `recovered_whole`: each book is a prefix of the messages of any file that a crash leaves. If a
 ///   receiver reports the end, the file is closed, and the book has exactly its messages.
 pub fn durable_law()
