@@ -1,42 +1,50 @@
 -- A run that is delivered from the memory of its segment.
-use Rattle.std.proofs.Common.{◌≡◌, ℕ, zero, suc, ◌+◌, ◌-◌, ◌<◌, ◌≤◌, ◌^◌, List, [], ◌∷◌, ◌++◌, length, take, drop}
-use Rattle.std.proofs.Common.{append_assoc, inl, inr, refl, sym, ap, subst, ◌∙◌, arith, replicate}
+use Rattle.std.proofs.Common.{◌≡◌, ℕ, zero, suc, ◌+◌, ◌-◌, ◌<◌, ◌≤◌, ◌^◌, Bool, true, cond, eqb, List, [], ◌∷◌, ◌++◌}
+use Rattle.std.proofs.Common.{length, length-append, take, drop, add-one, refl, sym, ap, subst, ◌∙◌, arith, replicate}
 use Rattle.std.specs.Prelude.{Option, None, Some, false, is_some, min, slice_get}
-use Rattle.slab.specs.Slab.{get}
 use Rattle.std.specs.Option.{option_map}
-use Rattle.std.proofs.lemmas.Bool.{cases_eq}
-use Rattle.std.proofs.lemmas.List.{append-nil, take-append-drop}
+use Rattle.std.proofs.lemmas.Bool.{eq-eqb}
+use Rattle.std.proofs.lemmas.List.{append-nil, length-drop, length-replicate, take-append-drop}
 use Rattle.mold_messages.specs.Offsets.{pieces, IsRising, start_at}
 use Rattle.mold_messages.specs.Parts.{AreWithin, Marked, marked_by}
 use Rattle.mold_wire.specs.declared.limits.TheConstants.{MAX_WIDE_WINDOW}
 use Rattle.mold_receiver.specs.declared.place.Place.{Place}
-use Rattle.mold_receiver.specs.declared.place.TheConstants.{NO_START}
-use Rattle.mold_receiver.specs.declared.segment.Segment.{Segment}
 use Rattle.mold_receiver.specs.declared.segments.Segments.{Segments}
 use Rattle.mold_receiver.specs.declared.shelf.Shelf.{Shelf}
 use Rattle.mold_receiver.specs.Batch.{Handed, followed_by, handed_from}
 use Rattle.mold_receiver.specs.Handing.{AreNumbered, HasDelivered, run_in}
 use Rattle.mold_receiver.specs.Places.{IsBlockAt, count_in, end_from, ends_from, length_at, message_in, messages_from, place_at}
-use Rattle.mold_receiver.specs.Segments.{AreLost, AreSegments, StaysOrGoes, bytes_at, bytes_of, live_at, size_at, size_of}
-use Rattle.mold_receiver.specs.Shelf.{IsExtent, message_on, slots_in, slots_on}
+use Rattle.mold_receiver.specs.Ring.{IsListed}
+use Rattle.mold_receiver.specs.Segments.{AreLost, HasLost, bytes_at, count_at, live_at, one_at}
+use Rattle.mold_receiver.specs.Shelf.{IsExtent, IsKept, message_on, slots_in, slots_on}
 use Rattle.mold_receiver.specs.Slots.{Slot, count_held, slot_at}
 use Rattle.mold_receiver.specs.Store.{Message}
 use Rattle.mold_receiver.proofs.BatchLemmas.{run_none, slot_within}
-use Rattle.mold_receiver.proofs.ReleaseLemmas.{count_take_some}
+use Rattle.mold_receiver.proofs.ReleaseLemmas.{count_take_some, count_taken, held_more}
 use Rattle.mold_receiver.proofs.RunLemmas.{end_low, get_within, message_get, messages_long, run_many}
-use Rattle.mold_receiver.proofs.ShelfLemmas.{length_more, message_more, one_itself, slot_in}
+use Rattle.mold_receiver.proofs.SegmentLemmas.{stays, stays_twice}
+use Rattle.mold_receiver.proofs.SkipLemmas.{one_left}
+use Rattle.mold_receiver.proofs.ShelfLemmas.{count_some, length_more, message_more, slot_in}
 
 -- The offsets at which blocks end.
-pub ends_more : (bytes ends : List ℕ) (at left next : ℕ) → 0 < left → next ≡ at + 2 + length_at bytes at →
-    (ends ++ next ∷ []) ++ ends_from bytes next (left - 1) ≡ ends ++ ends_from bytes at left
-ends_more bytes ends at left next some is =
-    let first : ends_from bytes at left ≡ (at + 2 + length_at bytes at) ∷ ends_from bytes
-    (at + 2 + length_at bytes at) (left - 1) =
-    ap (ends_from bytes at) (let e : left ≡ suc (left - 1) = omega (arith, some) in e)
-    in
-    append_assoc ends (next ∷ []) (ends_from bytes next (left - 1))
-    ∙ ap (λ (n : ℕ). ends ++ n ∷ ends_from bytes n (left - 1)) is
-    ∙ ap (λ (t : List ℕ). ends ++ t) (sym first)
+pub ends_more : (bytes : List ℕ) (start count : ℕ) →
+    ends_from bytes start (count + 1) ≡ ends_from bytes start count ++ end_from bytes start (count + 1) ∷ []
+ends_more bytes start count =
+    let one : count + 1 ≡ suc count = add-one count in
+    ap (ends_from bytes start) one
+    ∙ ends_suc bytes start count
+    ∙ ap (λ (n : ℕ). ends_from bytes start count ++ end_from bytes start n ∷ []) (sym one)
+  where
+    ends_suc : (bytes : List ℕ) (start count : ℕ) →
+        ends_from bytes start (suc count) ≡ ends_from bytes start count ++ end_from bytes start (suc count) ∷ []
+    ends_suc bytes start zero = refl
+    ends_suc bytes start (suc count) =
+        let next : ℕ = start + 2 + length_at bytes start in
+        ap (λ (t : List ℕ). next ∷ t) (ends_suc bytes next count)
+
+ends_long : (bytes : List ℕ) (start count : ℕ) → length (ends_from bytes start count) ≡ count
+ends_long bytes start zero = refl
+ends_long bytes start (suc count) = ap suc (ends_long bytes (start + 2 + length_at bytes start) count)
 
 pub ends_last : (bytes : List ℕ) (start count : ℕ) →
     start_at start (ends_from bytes start count) (length (ends_from bytes start count)) ≡ end_from bytes start count
@@ -118,59 +126,79 @@ messages_same bytes more start (suc count) fits =
     (length_more bytes more start there)
     ∙ ap (λ (t : List Message). message_in bytes start ∷ t) (messages_same bytes more next count fits)
 
--- The blocks of the bytes in use, in all bytes of the memory.
-pub end_in_use : (bytes : List ℕ) (used count : ℕ) → end_from (take used bytes) 0 count ≤ length (take used bytes) →
-    end_from bytes 0 count ≡ end_from (take used bytes) 0 count
-end_in_use bytes used count fits =
-    ap (λ (t : List ℕ). end_from t 0 count) (sym (take-append-drop used bytes))
-    ∙ end_same (take used bytes) (drop used bytes) 0 count fits
+pub ends_same : (bytes more : List ℕ) (start count : ℕ) → end_from bytes start count ≤ length bytes →
+    ends_from (bytes ++ more) start count ≡ ends_from bytes start count
+ends_same bytes more start zero fits = refl
+ends_same bytes more start (suc count) fits =
+    let next : ℕ = start + 2 + length_at bytes start in
+    let there : IsBlockAt bytes start = omega (arith, end_low bytes next count, fits) in
+    ap (λ (n : ℕ). (start + 2 + n) ∷ ends_from (bytes ++ more) (start + 2 + n) count)
+    (length_more bytes more start there)
+    ∙ ap (λ (t : List ℕ). next ∷ t) (ends_same bytes more next count fits)
 
-pub messages_in_use : (bytes : List ℕ) (used count : ℕ) →
-    end_from (take used bytes) 0 count ≤ length (take used bytes) →
-    messages_from bytes 0 count ≡ messages_from (take used bytes) 0 count
-messages_in_use bytes used count fits =
-    ap (λ (t : List ℕ). messages_from t 0 count) (sym (take-append-drop used bytes))
-    ∙ messages_same (take used bytes) (drop used bytes) 0 count fits
+-- The memory of a segment begins with its bytes in use, which are `count` blocks.
+module _ (bytes memory ends : List ℕ) (count : ℕ) (begins : take (length bytes) memory ≡ bytes)
+    (is : ends ≡ ends_from bytes 0 count) (whole : end_from bytes 0 count ≡ length bytes) where
+  abbrev rest : List ℕ
+  rest = drop (length bytes) memory
 
--- The segment of a run has other memory when it leaves, and the others are as they were.
-pub lost_exchanged : (old middle new : Segments) (places : List (Option Place)) (key : ℕ)
-    → ((at : ℕ) → live_at middle at ≡ live_at old at)
-    → ((at : ℕ) → (at ≡ key → ⊥) → bytes_at middle at ≡ bytes_at old at)
-    → 0 < live_at old key → live_at old key ≤ count_in key places → AreLost middle new places → AreLost old new places
-lost_exchanged old middle new places key live others some all lost = record {
-  live = λ at. lost.live at ∙ ap (λ (n : ℕ). n - count_in at places) (live at);
-  bytes = λ at. elim (cases_eq at key) [
-    | inl same ↦ subst (λ (n : ℕ). StaysOrGoes old new n) (sym same) (goes (lost.bytes key))
-    | inr other ↦ stay at other (lost.bytes at)
-  ];
-}
-  where
-    goes : StaysOrGoes middle new key → StaysOrGoes old new key
-    goes (inl (same, none)) =
-        absurd (omega (arith, some, live key, none (omega (arith, lost.live key, live key, all))))
-    goes (inr gone) = inr gone
+  parts : memory ≡ bytes ++ rest
+  parts = sym (take-append-drop (length bytes) memory) ∙ ap (λ (t : List ℕ). t ++ rest) begins
 
-    stay : (at : ℕ) → (at ≡ key → ⊥) → StaysOrGoes middle new at → StaysOrGoes old new at
-    stay at other (inl (same, none)) = inl (same ∙ others at other, λ gone. sym (live at) ∙ none gone)
-    stay at other (inr gone) = inr gone
+  pub memory_count : length ends ≡ count
+  memory_count = ap (λ (t : List ℕ). length t) is ∙ ends_long bytes 0 count
 
--- The first slots have all messages of a run.
-pub counts_run : (places : List (Option Place)) (slot segment : ℕ) (starts : ℕ → ℕ) (n : ℕ)
-    → ((i : ℕ) → i < n → place_at places (slot + i) ≡ Some (record { segment = segment; start = starts i }))
-    → n ≤ count_in segment (take (slot + n) places)
-counts_run places slot segment starts zero there = omega arith
-counts_run places slot segment starts (suc n) there =
-    let one = count_take_some places (slot + n) (record { segment = segment; start = starts n }) segment
-    (there n (omega arith)) in
-    let next : count_in segment (take (slot + suc n) places) ≡ count_in segment (take (suc (slot + n)) places) =
-    ap (λ (k : ℕ). count_in segment (take k places)) (let e : slot + suc n ≡ suc (slot + n) = omega arith in e) in
-    omega (
+  pub memory_ends : ends ≡ ends_from memory 0 (length ends)
+  memory_ends =
+      is
+      ∙ sym (ends_same bytes rest 0 count (omega (arith, whole)))
+      ∙ ap (λ (t : List ℕ). ends_from t 0 count) (sym parts)
+      ∙ ap (ends_from memory 0) (sym memory_count)
+
+  memory_end : end_from memory 0 (length ends) ≡ length bytes
+  memory_end =
+      ap (end_from memory 0) memory_count
+      ∙ ap (λ (t : List ℕ). end_from t 0 count) parts
+      ∙ end_same bytes rest 0 count (omega (arith, whole))
+      ∙ whole
+
+  pub memory_within : end_from memory 0 (length ends) ≤ length memory
+  memory_within =
+      omega (
+        arith,
+        memory_end,
+        ap (λ (t : List ℕ). length t) parts,
+        length-append bytes rest,
+      )
+
+  pub memory_messages : messages_from memory 0 (length ends) ≡ messages_from bytes 0 count
+  memory_messages =
+      ap (messages_from memory 0) memory_count
+      ∙ ap (λ (t : List ℕ). messages_from t 0 count) parts
+      ∙ messages_same bytes rest 0 count (omega (arith, whole))
+
+-- Slots are dropped twice.
+pub left_twice : (places now : List (Option Place)) (n m : ℕ) → now ≡ drop n places ++ replicate n None →
+    n + m ≤ length places → drop m now ++ replicate m None ≡ drop (n + m) places ++ replicate (n + m) None
+left_twice places now n zero is fits =
+    append-nil now ∙ is ∙ ap (λ (k : ℕ). drop k places ++ replicate k None) (let e : n ≡ n + 0 = omega arith in e)
+left_twice places now n (suc m) is fits =
+    let some : List (Option Place) = drop m now ++ replicate m None in
+    let before : some ≡ drop (n + m) places ++ replicate (n + m) None =
+    left_twice places now n m is (omega (arith, fits)) in
+    let same : length now ≡ length places =
+    ap (λ (t : List (Option Place)). length t) is
+    ∙ (let e : length (drop n places ++ replicate n None) ≡ length places = omega (
       arith,
-      counts_run places slot segment starts n (λ i low. there i (omega (arith, low))),
-      one,
-      next,
-      one_itself segment,
-    )
+      fits,
+      length-append (drop n places) (replicate n None),
+      length-drop n places,
+      length-replicate {A = Option Place} n None,
+    ) in e) in
+    ap (λ (k : ℕ). drop k now ++ replicate k None) (let e : suc m ≡ m + 1 = omega arith in e)
+    ∙ sym (one_left now some (drop 1 some ++ None ∷ []) m refl refl (omega (arith, fits, same)))
+    ∙ one_left places some (drop 1 some ++ None ∷ []) (n + m) before refl (omega (arith, fits))
+    ∙ ap (λ (k : ℕ). drop k places ++ replicate k None) (let e : n + m + 1 ≡ n + suc m = omega arith in e)
 
 pub held_any : (one other : Segments) (places : List (Option Place)) →
     count_held (slots_in one places) ≡ count_held (slots_in other places)
@@ -178,21 +206,77 @@ held_any one other [] = refl
 held_any one other (None ∷ places) = omega (arith, held_any one other places)
 held_any one other (Some place ∷ places) = omega (arith, held_any one other places)
 
-pub no_some : (o : Option Message) → is_some o ≡ false → o ≡ None
+pub no_some : {A : Type 0} (o : Option A) → is_some o ≡ false → o ≡ None
 no_some None none = refl
-no_some (Some m) none = absurd (cc none)
+no_some (Some x) none = absurd (cc none)
 
--- The size of a segment's memory.
-pub size_some : (segments : Segments) (key : ℕ) → AreSegments segments → 0 < length (bytes_at segments key) →
-    (0 < size_at segments key) × (size_at segments key < NO_START)
-size_some segments key are some = go (get segments.table key) refl some
-  where
-    go : (o : Option Segment) → get segments.table key ≡ o → 0 < length (bytes_of o) →
-        (0 < size_of o) × (size_of o < NO_START)
-    go None is has = absurd (omega (arith, has))
-    go (Some s) is has =
-        let it = are.each key s is in
-        (omega (arith, it.some, it.used), omega (arith, it.few))
+count_zero : (segment key : ℕ) → count_at segment 0 key ≡ 0
+count_zero segment key =
+    elim (eqb segment key) as (λ (b : Bool). ◌≡◌ {A = ℕ} (cond b 0 0) 0) [ true ↦ refl | false ↦ refl ]
+
+count_same : (segment count : ℕ) → count_at segment count segment ≡ count
+count_same segment count = ap {B = ℕ} (λ (b : Bool). cond b count 0) (eq-eqb segment segment refl)
+
+-- The slots from `slot` on have messages of one segment.
+module _ (segments : Segments) (places : List (Option Place)) (slot segment : ℕ) (starts : ℕ → ℕ) where
+  abbrev ArePlacesOf : ℕ → Type 0
+  ArePlacesOf n = (i : ℕ) → i < n → place_at places (slot + i) ≡ Some (record { segment = segment; start = starts i })
+
+  one_more : (count key : ℕ) → count_at segment (suc count) key ≡ count_at segment count key + one_at segment key
+  one_more count key =
+      elim (eqb segment key) as (λ (b : Bool). ◌≡◌ {A = ℕ} (cond b (suc count) 0) (cond b count 0 + cond b 1 0)) [
+        | true ↦ omega arith
+        | false ↦ refl
+      ]
+
+  pub count_run : (n : ℕ) → ArePlacesOf n → (key : ℕ) →
+      count_in key (take (slot + n) places) ≡ count_in key (take slot places) + count_at segment n key
+  count_run zero there key =
+      omega (
+        arith,
+        ap (λ (k : ℕ). count_in key (take k places)) (let e : slot + 0 ≡ slot = omega arith in e),
+        count_zero segment key,
+      )
+  count_run (suc n) there key =
+      omega (
+        arith,
+        ap (λ (k : ℕ). count_in key (take k places)) (let e : slot + suc n ≡ suc (slot + n) = omega arith in e),
+        count_take_some places (slot + n) _ key (there n (omega arith)),
+        count_run n (λ i low. there i (omega (arith, low))) key,
+        one_more n key,
+      )
+
+  pub held_run : (n : ℕ) → ArePlacesOf n →
+      count_held (slots_in segments (take (slot + n) places)) ≡ count_held (slots_in segments (take slot places)) + n
+  held_run zero there =
+      omega (
+        arith,
+        ap (λ (k : ℕ). count_held (slots_in segments (take k places))) (let e : slot + 0 ≡ slot = omega arith in e),
+      )
+  held_run (suc n) there =
+      omega (
+        arith,
+        ap (λ (k : ℕ). count_held (slots_in segments (take k places)))
+            (let e : slot + suc n ≡ slot + n + 1 = omega arith in e),
+        held_more segments places (slot + n) _ (there n (omega arith)),
+        held_run n (λ i low. there i (omega (arith, low))),
+      )
+
+-- The messages of a segment that were listed.
+pub extent_listed : (shelf : Shelf) (slot count : ℕ) (first : Place) (ends : List ℕ) → IsKept shelf →
+    place_at shelf.ring slot ≡ Some first → first.start ≡ 0 → count ≡ live_at shelf.segments first.segment →
+    IsListed shelf.ring slot first.segment count (bytes_at shelf.segments first.segment) ends →
+    IsExtent shelf slot first count (length (bytes_at shelf.segments first.segment))
+extent_listed shelf slot count first ends kept there begins live listed =
+    let bytes = bytes_at shelf.segments first.segment in
+    record {
+      some = omega (arith, live, kept.live first.segment, count_some shelf.ring slot first there);
+      ends = sym listed.whole ∙ ap (λ (n : ℕ). end_from bytes n count) (sym begins);
+      within = omega arith;
+      there = λ i low.
+          listed.there i low
+          ∙ ap (λ (n : ℕ). Some (record { segment = first.segment; start = end_from bytes n i })) (sym begins);
+    }
 
 -- A run that is all of a segment, and the empty slot after it.
 module _ (shelf : Shelf) (slot count end next : ℕ) (first : Place) (extent : IsExtent shelf slot first count end) where
@@ -233,8 +317,50 @@ module _ (shelf : Shelf) (slot count end next : ℕ) (first : Place) (extent : I
   whole_numbered numbered =
       omega (arith, extent.some, numbered (slot + (count - 1)) _ last_message)
 
-  pub whole_counted : count ≤ count_in first.segment (take (slot + count) shelf.ring)
-  whole_counted = counts_run shelf.ring slot first.segment (λ i. end_from bytes first.start i) count extent.there
+  -- The messages of the run, and those in the slots before it.
+  run_counted : (key : ℕ) → count_in key (take (slot + count) shelf.ring)
+      ≡ count_in key (take slot shelf.ring) + count_at first.segment count key
+  run_counted key =
+      count_run shelf.segments shelf.ring slot first.segment (λ i. end_from bytes first.start i) count extent.there key
+
+  pub run_held : count_held (slots_in shelf.segments (take (slot + count) shelf.ring))
+      ≡ count_held (slots_in shelf.segments (take slot shelf.ring)) + count
+  run_held =
+      held_run shelf.segments shelf.ring slot first.segment (λ i. end_from bytes first.start i) count extent.there
+
+  -- The messages in the slots before the run left, and those of the run are still there.
+  module _ (middle : Segments) (kept : IsKept shelf) (live : count ≡ live_at shelf.segments first.segment)
+      (left : AreLost shelf.segments middle (take slot shelf.ring)) where
+    pub run_live : live_at middle first.segment ≡ count
+    run_live =
+        omega (
+          arith,
+          live,
+          left.live first.segment,
+          kept.live first.segment,
+          run_counted first.segment,
+          count_same first.segment count,
+          count_taken shelf.ring (slot + count) first.segment,
+        )
+
+    pub run_bytes : bytes_at middle first.segment ≡ bytes
+    run_bytes =
+        stays shelf.segments middle first.segment (left.bytes first.segment) (omega (arith, run_live, extent.some))
+
+    pub run_lost : (new : Segments) → HasLost middle new first.segment (live_at middle first.segment) →
+        AreLost shelf.segments new (take (slot + count) shelf.ring)
+    run_lost new lost = record {
+      live = λ key.
+          omega (
+            arith,
+            lost.live key,
+            left.live key,
+            run_counted key,
+            ap (λ (n : ℕ). count_at first.segment n key) run_live,
+          );
+      bytes = λ key.
+          stays_twice shelf.segments middle new key (left.bytes key) (lost.bytes key) (omega (arith, lost.live key));
+    }
 
   pub has_delivered : (new : List Slot) (before after : Handed) → slot_at (slots_on shelf) (slot + count) ≡ None →
       first.start ≡ 0 → AreNumbered (slots_on shelf) next → length (slots_on shelf) ≤ MAX_WIDE_WINDOW →

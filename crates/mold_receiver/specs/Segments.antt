@@ -85,12 +85,6 @@ pub record IsMemoryFor (bytes : Vec ℕ Global) (used room : ℕ) : Type 0 where
   pub few : length bytes.items < NO_START
   pub exact : vec_capacity bytes ≤ length bytes.items
 
--- A segment may have this memory. All of it is in use, or a part of it.
-pub record IsUsable (bytes : Vec ℕ Global) : Type 0 where
-  pub some : 0 < length bytes.items
-  pub few : length bytes.items < NO_START
-  pub exact : vec_capacity bytes ≤ length bytes.items
-
 -- The memory is that of spare segments: of `SEGMENT_BYTES` bytes each, and of one that is smaller. With the roomy one,
 -- these are at most `MAX_SPARE`, for which the list has room.
 pub record AreSpare (spare : Vec (Vec ℕ Global) Global) (small : Vec ℕ Global) : Type 0 where

@@ -10,13 +10,11 @@ ghost use Rattle.mold_receiver.specs.Batch.{Handed, handed_from, first_of, after
 ghost use Rattle.mold_receiver.specs.Handing.{Grew, HasMore};
 ghost use Rattle.mold_receiver.specs.Places.{end_from, ends_from, messages_from};
 ghost use Rattle.mold_receiver.specs.Run.{IsWhole, messages_in};
-ghost use Rattle.mold_receiver.specs.Segments.{IsUsable};
-ghost use Rattle.mold_receiver.specs.declared.place.TheConstants.{NO_START};
 ghost use Rattle.mold_wire.specs.Block.{blocks as packed};
 
 use crate::room::Room;
 use crate::run::Run;
-use crate::segment::{length_at, make_usable};
+use crate::segment::length_at;
 use mold_messages::{MessageIterator, PartList};
 use mold_wire::{Blocks, LENGTH_BYTES};
 use std::alloc::{AllocError, Global};
@@ -31,7 +29,7 @@ struct Refused {
 }
 
 /// A list of delivered messages with consecutive sequence numbers. The messages are in one buffer. Most are copied there
-/// one after the other. An empty batch may instead take over the memory of a stored run, and gives other memory for it.
+/// one after the other. An empty batch may instead take over the memory of a segment, and gives back the one before it.
 /// The buffer grows ahead of need, and the memory is freed only when the batch is dropped.
 #[derive(Debug, Drop)]
 pub struct Batch {
@@ -42,9 +40,9 @@ pub struct Batch {
     list: PartList,
     // Whether the list has a segment's memory.
     has_segment: bool,
-    // The list's own memory while the list has a segment's memory. Otherwise the memory that the next segment gets.
+    // The list's own memory while the list has a segment's memory. Otherwise the segment memory that the list had last.
     aside: Vec<u8>,
-    // The offsets at which the messages of a segment end, before the list gets them.
+    // Memory for the offsets at which the messages of a segment end, before the list gets them.
     ends: Vec<usize>,
     // The run that was last refused for memory.
     refused: Refused,
@@ -256,51 +254,29 @@ impl Batch {
         mark_run(&mut self.list, begin, run)
     }
 
-    /// Makes room to take over the memory of a segment, which has `size` bytes and `count` messages. The batch is
-    /// empty. Returns an error if an allocation fails.
-    pub(crate) fn make_ready(
-        &mut self,
-        alloc: Global,
-        size: usize,
-        count: usize,
-    ) -> Result<(), AllocError>
-        requires empty { self.old ≡ record { first = 0; messages = [] } }
-        requires size { (0 < size) × (size < NO_START) }
+    /// Exchanges the memory in which the batch lists offsets. So the caller can list the offsets for `take_over`.
+    pub(crate) fn exchange_ends(&mut self, ends: &mut Vec<usize>)
         ensures { self.new ≡ self.old }
     {
-        self.clear();
-        make_usable(alloc, &mut self.aside, size)?;
-        self.ends.clear();
-        self.ends.reserve(count)
+        mem::swap(&mut self.ends, ends);
     }
 
-    /// Takes over the memory of a segment, without a copy, and delivers the messages of its first `count` blocks. The
-    /// first of them has the number `next`. The batch is empty. `memory` gets other memory for the segment. If an
-    /// allocation fails, it returns an error and nothing changes.
-    pub(crate) fn exchange(
-        &mut self,
-        alloc: Global,
-        next: u64,
-        memory: &mut Vec<u8>,
-        count: usize,
-    ) -> Result<(), AllocError>
+    /// Takes over the memory of a segment, without a copy, and delivers its messages. They end at the offsets `ends`,
+    /// and the first of them has the number `next`. The batch is empty. Returns memory that the batch no longer needs.
+    pub(crate) fn take_over(&mut self, next: u64, memory: Vec<u8>, ends: Vec<usize>) -> Vec<u8>
         requires empty { self.old ≡ record { first = 0; messages = [] } }
-        requires counted { next + count < 2 ^ 64 }
-        requires usable { IsUsable memory.old }
-        requires within { end_from memory.old.items 0 count ≤ length memory.old.items }
-        ensures added { OnOk result (self.new ≡ followed_by self.old next (messages_from memory.old.items 0 count)) }
-        ensures usable { OnOk result (IsUsable memory.new) }
-        ensures same { OnErr result (self.new ≡ self.old) }
-        ensures kept { OnErr result (memory.new ≡ memory.old) }
+        requires counted { next + length ends.items < 2 ^ 64 }
+        requires ends { ends.items ≡ ends_from memory.items 0 (length ends.items) }
+        requires within { end_from memory.items 0 (length ends.items) ≤ length memory.items }
+        ensures { self.new ≡ followed_by self.old next (messages_from memory.items 0 (length ends.items)) }
     {
         self.clear();
-        make_usable(alloc, &mut self.aside, memory.len())?;
-        list_ends(&mut self.ends, memory, count)?;
-        self.list.exchange(&mut self.ends, memory);
-        mem::swap(&mut self.aside, memory);
+        let mut memory = memory;
+        self.ends = ends;
+        self.list.exchange(&mut self.ends, &mut memory);
         self.first = next;
         self.has_segment = true;
-        Ok(())
+        mem::replace(&mut self.aside, memory)
     }
 }
 
@@ -328,23 +304,6 @@ fn cut(list: &mut PartList, has_segment: bool)
         let count = list.len();
         list.truncate(count);
     }
-}
-
-// Lists the offsets at which the first `count` blocks end.
-fn list_ends(ends: &mut Vec<usize>, bytes: &[u8], count: usize) -> Result<(), AllocError>
-    requires { end_from bytes.now 0 count ≤ length bytes.now }
-    ensures { OnOk result (ends.new.items ≡ ends_from bytes.now 0 count) }
-{
-    ends.clear();
-    ends.reserve(count)?;
-    let mut at = 0;
-    let mut left = count;
-    while left > 0 {
-        at += LENGTH_BYTES + length_at(bytes, at);
-        ends.push_reserved(at);
-        left -= 1;
-    }
-    Ok(())
 }
 
 // Appends to the list the messages whose blocks are its last bytes, from the offset `begin` on.

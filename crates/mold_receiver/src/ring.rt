@@ -1,13 +1,14 @@
 //! The ring of places. A slot is empty or has the place of its message.
 
 ghost use Rattle.std.specs.Prelude.{◌≡◌, ◌+◌, ◌<◌, ◌≤◌, ◌^◌, ◌++◌, ◌∷◌, [], length, drop, replicate};
-ghost use Rattle.std.specs.Prelude.{slice_set, IfOk, None, Some};
+ghost use Rattle.std.specs.Prelude.{slice_set, ◌↔◌, is_some, IfOk, IsTrue, None, Some};
 ghost use Rattle.mold_receiver.specs.Places.{place_at};
-ghost use Rattle.mold_receiver.specs.Ring.{index_of, placed};
+ghost use Rattle.mold_receiver.specs.Ring.{AreBlocksIn, IsListed, index_of, placed};
 ghost use Rattle.mold_wire.specs.Block.{blocks as packed};
 ghost use Rattle.mold_receiver.specs.declared.place.TheConstants.{NO_START};
 
 use crate::place::Place;
+use crate::segment::block_end;
 use mold_wire::{Blocks, LENGTH_BYTES};
 use std::alloc::{AllocError, Global};
 use std::marker::Model;
@@ -80,6 +81,53 @@ impl Ring {
         self.places[ring_index(self.head, count, slot)].held()
     }
 
+    /// Returns whether the slot exists and has a place.
+    pub(crate) fn has(&self, slot: usize) -> bool
+        ensures { result ≡ is_some (place_at self.now slot) }
+    {
+        self.get(slot).is_some()
+    }
+
+    /// Returns whether the slot exists and has this place.
+    pub(crate) fn is_at(&self, slot: usize, segment: u32, start: usize) -> bool
+        ensures same { IsTrue result ↔
+            (place_at self.now slot ≡ Some (record { segment = segment; start = start })) }
+        ensures small { IsTrue result → start < 2 ^ 32 }
+    {
+        match self.get(slot) {
+            Some(place) => place.segment == segment && place.start as usize == start,
+            None => false,
+        }
+    }
+
+    /// Lists the offsets at which the messages of a segment end. `bytes` are those of the segment. Returns whether the
+    /// `count` slots from `slot` on have exactly these messages, in the order of the segment. Otherwise the list may be
+    /// incomplete. If an allocation fails, it returns an error.
+    pub(crate) fn list_ends(
+        &self,
+        slot: usize,
+        segment: u32,
+        count: u32,
+        bytes: &[u8],
+        ends: &mut Vec<usize>,
+    ) -> Result<bool, AllocError>
+        requires blocks { AreBlocksIn bytes.now segment self.now }
+        requires few { slot < 2 ^ 32 }
+        ensures { IfOk result (λ whole. IsTrue whole → IsListed self.now slot segment count bytes.now ends.new.items) }
+    {
+        ends.clear();
+        ends.reserve(count as usize)?;
+        let mut end = 0;
+        for i in 0..count as usize {
+            if !self.is_at(slot + i, segment, end) {
+                return Ok(false);
+            }
+            end = block_end(bytes, end);
+            ends.push_reserved(end);
+        }
+        Ok(end == bytes.len())
+    }
+
     /// Writes a place into a slot.
     pub(crate) fn write(&mut self, slot: usize, place: Place)
         requires there { slot < length self.old }
@@ -122,5 +170,15 @@ impl Ring {
         self.places[self.head] = Place::none();
         self.head = next;
         place.held()
+    }
+
+    /// Drops the first `count` slots and appends as many empty ones.
+    pub(crate) fn drop_first(&mut self, count: usize)
+        requires { count ≤ length self.old }
+        ensures { self.new ≡ drop count self.old ++ replicate count None }
+    {
+        for _slot in 0..count {
+            self.pop();
+        }
     }
 }

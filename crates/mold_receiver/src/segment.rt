@@ -1,13 +1,11 @@
 //! A segment of the store: memory with the blocks of stored messages.
 
-ghost use Rattle.std.specs.Prelude.{◌≡◌, ◌+◌, ◌≤◌, ◌^◌, ◌<◌, ◌++◌, length, IfOk, OnOk, vec_capacity};
+ghost use Rattle.std.specs.Prelude.{◌≡◌, ◌+◌, ◌≤◌, ◌^◌, ◌<◌, ◌++◌, length, IfOk, vec_capacity};
 ghost use Rattle.mold_receiver.specs.Places.{IsBlockAt, length_at as stated_length, message_in};
 ghost use Rattle.mold_wire.specs.declared.block.TheConstants.{LENGTH_BYTES};
-ghost use Rattle.mold_receiver.specs.Segments.{IsFilled, IsMemory, IsSegment, IsUsable, used_bytes};
-ghost use Rattle.mold_receiver.specs.declared.place.TheConstants.{NO_START};
+ghost use Rattle.mold_receiver.specs.Segments.{IsFilled, IsMemory, used_bytes};
 ghost use Rattle.mold_receiver.specs.declared.segment.TheConstants.{SEGMENT_BYTES};
 
-use crate::place::NO_START;
 use byteorder::{BigEndian, ByteOrder};
 use mold_wire::LENGTH_BYTES;
 use std::alloc::{AllocError, Global};
@@ -38,19 +36,6 @@ pub(crate) fn memory(alloc: Global, size: usize) -> Result<Vec<u8>, AllocError>
         return Err(AllocError);
     }
     Ok(bytes)
-}
-
-/// Replaces memory by `size` bytes if no segment may have it.
-pub(crate) fn make_usable(alloc: Global, bytes: &mut Vec<u8>, size: usize) -> Result<(), AllocError>
-    requires { (0 < size) × (size < NO_START) }
-    ensures { OnOk result (IsUsable bytes.new) }
-{
-    let length = bytes.len();
-    if length > 0 && length < NO_START as usize && bytes.capacity() <= length {
-        return Ok(());
-    }
-    *bytes = memory(alloc, size)?;
-    Ok(())
 }
 
 /// Returns the length of the message whose block starts at this offset of the bytes.

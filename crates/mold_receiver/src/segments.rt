@@ -1,9 +1,9 @@
 //! The segments of the store: where blocks are appended, and when memory is given back.
 
 ghost use Rattle.std.specs.Prelude.{◌≡◌, ◌+◌, ◌-◌, ◌*◌, ◌<◌, ◌≤◌, ◌^◌, ◌⊎◌, [], length, min, IfNone, IfOk};
-ghost use Rattle.std.specs.Prelude.{IfSome, OnErr, OnOk, Some, None, ℕ, vec_capacity};
+ghost use Rattle.std.specs.Prelude.{IfSome, OnErr, OnOk, Some, None, ℕ, take, vec_capacity};
 ghost use Rattle.mold_receiver.specs.Batch.{followed_by};
-ghost use Rattle.mold_receiver.specs.Places.{end_from, messages_from};
+ghost use Rattle.mold_receiver.specs.Places.{end_from, ends_from, messages_from};
 ghost use Rattle.slab.specs.Slab.{entries, slab_len, SameValues, Updates};
 ghost use Rattle.mold_receiver.specs.Segments.{AreLeft, AreSegments, HasAppended, HasGained, HasLost, IsMemory};
 ghost use Rattle.mold_receiver.specs.Segments.{IsMemoryFor, bytes_at, live_at, memory_of, room_at, size_at};
@@ -96,13 +96,15 @@ impl Segments {
         }
     }
 
-    /// Returns the number of stored messages of a segment.
-    pub(crate) fn live(&self, key: u32) -> u32
-        ensures { result ≡ live_at self.now key }
+    /// Returns the number of stored messages of a segment, and its bytes in use.
+    pub(crate) fn stored(&self, key: u32) -> (u32, &[u8])
+        requires { AreSegments self.now }
+        ensures count { result.0 ≡ live_at self.now key }
+        ensures bytes { result.1.now ≡ bytes_at self.now key }
     {
         match self.table.get(key as usize) {
-            Some(segment) => segment.live,
-            None => 0,
+            Some(segment) => (segment.live, segment.filled()),
+            None => (0, &[]),
         }
     }
 
@@ -170,14 +172,16 @@ impl Segments {
     }
 
     // Keeps memory of `SEGMENT_BYTES` bytes for later use, if there is not enough yet. Of smaller memory it keeps only
-    // the last. Other memory is freed.
+    // the last. Other memory is freed, as is memory whose capacity is not its length.
     fn save(&mut self, bytes: Vec<u8>)
         requires whole { AreSegments self.old }
-        requires exact { vec_capacity bytes ≤ length bytes.items }
         ensures whole { AreSegments self.new }
         ensures table { self.new.table ≡ self.old.table }
         ensures roomy { self.new.roomy ≡ self.old.roomy }
     {
+        if bytes.is_empty() || bytes.capacity() > bytes.len() {
+            return;
+        }
         if bytes.len() < SEGMENT_BYTES {
             self.small = bytes;
         } else if bytes.len() == SEGMENT_BYTES && self.spare.len() + 2 < MAX_SPARE {
@@ -324,38 +328,38 @@ impl Segments {
         }
     }
 
-    /// Gives the memory of a segment to the batch, which is empty and delivers the segment's messages from it. They are
-    /// `count`, and the first has the number `next`. The segment gets other memory, in which nothing is stored. So it has
-    /// to be given back next. If an allocation fails, nothing changes.
-    pub(crate) fn exchange(
-        &mut self,
-        alloc: Global,
-        key: u32,
-        count: u32,
-        next: u64,
-        batch: &mut Batch,
-    ) -> Result<(), AllocError>
+    // Removes a segment and returns its memory, which begins with its bytes in use.
+    fn take_out(&mut self, key: u32) -> Vec<u8>
         requires whole { AreSegments self.old }
         requires some { 0 < length (bytes_at self.old key) }
-        requires blocks { end_from (bytes_at self.old key) 0 count ≡ length (bytes_at self.old key) }
-        requires empty { batch.old ≡ record { first = 0; messages = [] } }
-        requires counted { next + count < 2 ^ 64 }
         ensures whole { AreSegments self.new }
-        ensures live { (at : ℕ) → live_at self.new at ≡ live_at self.old at }
-        ensures others { (at : ℕ) → (at ≡ key → ⊥) → bytes_at self.new at ≡ bytes_at self.old at }
-        ensures added { OnOk result
-            (batch.new ≡ followed_by batch.old next (messages_from (bytes_at self.old key) 0 count)) }
-        ensures same { OnErr result (AreLeft self.old self.new) }
-        ensures batch { OnErr result (batch.new ≡ batch.old) }
+        ensures gone { Updates self.old.table self.new.table key None }
+        ensures bytes { take (length (bytes_at self.old key)) result.items ≡ bytes_at self.old key }
     {
-        let Some(segment) = self.table.get_mut(key as usize) else {
-            return Err(AllocError);
-        };
-        let used = segment.used;
-        batch.exchange(alloc, next, &mut segment.bytes, count as usize)?;
-        segment.used = segment.bytes.len();
-        self.used = self.used.saturating_sub(used).saturating_add(segment.used);
-        Ok(())
+        let Segment { bytes, used, .. } = self.table.remove(key as usize);
+        self.used = self.used.saturating_sub(used);
+        self.shrink();
+        bytes
+    }
+
+    /// Gives the memory of a segment to the batch, which is empty and delivers the segment's messages from it. They end
+    /// at the offsets `ends`, and the first has the number `next`. The segment is removed. The memory that the batch no
+    /// longer needs becomes spare, or is freed.
+    pub(crate) fn deliver(&mut self, key: u32, next: u64, ends: Vec<usize>, batch: &mut Batch)
+        requires whole { AreSegments self.old }
+        requires some { 0 < length (bytes_at self.old key) }
+        requires ends { ends.items ≡ ends_from (bytes_at self.old key) 0 (live_at self.old key) }
+        requires blocks { end_from (bytes_at self.old key) 0 (live_at self.old key) ≡ length (bytes_at self.old key) }
+        requires empty { batch.old ≡ record { first = 0; messages = [] } }
+        requires counted { next + live_at self.old key < 2 ^ 64 }
+        ensures whole { AreSegments self.new }
+        ensures lost { HasLost self.old self.new key (live_at self.old key) }
+        ensures added { batch.new ≡
+            followed_by batch.old next (messages_from (bytes_at self.old key) 0 (live_at self.old key)) }
+    {
+        let memory = self.take_out(key);
+        let old = batch.take_over(next, memory, ends);
+        self.save(old);
     }
 
     /// Counts `count` more stored messages of a segment.

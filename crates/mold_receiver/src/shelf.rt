@@ -113,18 +113,6 @@ impl Shelf {
         }
     }
 
-    // Returns whether the slot exists and has this place.
-    fn is_at(&self, slot: usize, segment: u32, start: usize) -> bool
-        ensures same { IsTrue result ↔
-            (place_at self.now.ring slot ≡ Some (record { segment = segment; start = start })) }
-        ensures small { IsTrue result → start < 2 ^ 32 }
-    {
-        match self.ring.get(slot) {
-            Some(place) => place.segment == segment && place.start as usize == start,
-            None => false,
-        }
-    }
-
     // Returns how many blocks follow each other from the place of the slot on, as long as the slots after it have
     // their places. Returns the offset after the last of them too. `bytes` are those of the place's segment.
     fn extent(&self, slot: usize, first: Place, bytes: &[u8]) -> (usize, usize)
@@ -135,7 +123,7 @@ impl Shelf {
     {
         let mut end = block_end(bytes, first.start as usize);
         let mut count = 1;
-        while self.is_at(slot + count, first.segment, end) {
+        while self.ring.is_at(slot + count, first.segment, end) {
             end = block_end(bytes, end);
             count += 1;
         }
@@ -326,19 +314,6 @@ impl Shelf {
         self.occupied.skip(count);
     }
 
-    // Returns whether the messages from the slot on are exactly the `count` messages of its segment, in the order of
-    // the segment.
-    fn is_whole(&self, slot: usize, first: Place, count: u32) -> bool
-        requires kept { IsKept self.now }
-        requires there { place_at self.now.ring slot ≡ Some first }
-        ensures { IsTrue result →
-            IsExtent self.now slot first count (length (bytes_at self.now.segments first.segment)) }
-    {
-        let bytes = self.segments.bytes(first.segment);
-        let (found, end) = self.extent(slot, first, bytes);
-        found == count as usize && end == bytes.len()
-    }
-
     /// Delivers the messages from a slot on without a copy, up to the first empty slot, and drops the slots before it.
     /// This is only done if they are all messages of one segment, in its order. Returns that empty slot, or `None` if
     /// nothing changed. The batch is empty, and the first slot has the number `next`. If an allocation fails, it returns
@@ -367,19 +342,25 @@ impl Shelf {
         let Some(first) = self.ring.get(slot) else {
             return Ok(None);
         };
-        let count = self.segments.live(first.segment);
+        let (count, bytes) = self.segments.stored(first.segment);
         let end = slot + count as usize;
-        if first.start > 0 || self.has(end) {
+        if first.start > 0 || self.ring.has(end) {
             return Ok(None);
         }
-        batch.make_ready(alloc, self.segments.size(first.segment), count as usize)?;
-        if !self.is_whole(slot, first, count) {
+        let mut ends = Vec::new(alloc);
+        batch.exchange_ends(&mut ends);
+        let whole = self
+            .ring
+            .list_ends(slot, first.segment, count, bytes, &mut ends)?;
+        if !whole {
+            batch.exchange_ends(&mut ends);
             return Ok(None);
         }
+        let earlier = release(&mut self.segments, &mut self.ring, slot);
+        self.ring.drop_first(count as usize);
+        self.held -= earlier + count;
         let number = next + slot as u64;
-        self.segments
-            .exchange(alloc, first.segment, count, number, batch)?;
-        self.held -= release(&mut self.segments, &mut self.ring, end);
+        self.segments.deliver(first.segment, number, ends, batch);
         self.occupied.skip(end);
         Ok(Some(end))
     }
