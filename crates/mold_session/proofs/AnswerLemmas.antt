@@ -1,7 +1,7 @@
 -- The responses to a request: the next packet of a plan, and those after it.
 use Rattle.std.proofs.Common.{◌≡◌, ℕ, zero, suc, ◌+◌, ◌-◌, ◌<◌, ◌≤◌, List, [], ◌∷◌, ◌++◌, length, length-drop, take, drop, refl, sym, ap, ◌∙◌, inl, inr, arith}
 use Rattle.std.proofs.Math.Seq.{drop-append_seam, drop-append-le}
-use Rattle.std.proofs.lemmas.List.{length-take, drop-drop, drop-take, take_min, take-append-le}
+use Rattle.std.proofs.lemmas.List.{length-take, drop-drop, drop-take, take_min, take-append-drop, take-append-le}
 use Rattle.std.specs.Prelude.{min}
 use Rattle.mold_wire.specs.declared.request.Request.{Request}
 use Rattle.mold_wire.specs.declared.session.Session.{Session}
@@ -12,7 +12,7 @@ use Rattle.mold_session.proofs.FrontLemmas.{FrontIs, OnlyFront, SomeFront, Alone
 use Rattle.mold_session.specs.Answer.{from_number, between, answer, PlanState, IsPlan, plan_for, IsSpent, next_part}
 use Rattle.mold_session.specs.Answer.{next_packet, moved, planned, FitAlone, HasFirst, SendsNext}
 use Rattle.mold_session.specs.Datagrams.{first_part, packing}
-use Rattle.mold_session.specs.Journal.{JournalState}
+use Rattle.mold_session.specs.Journal.{JournalState, journal_below}
 
 -- The number of messages between two sequence numbers.
 pub between_length :
@@ -208,6 +208,20 @@ pub plan_unspent :
     }) → ⊥
 plan_unspent published session number count burst first last some packets (inl none) = omega (arith, packets, none)
 plan_unspent published session number count burst first last some packets (inr none) = omega (arith, some, last, none)
+
+-- A plan from the messages below a number sends the responses that a journal with only these messages gives.
+pub planned_below :
+    (journal : JournalState) (below limit burst : ℕ) (request : Request) → 1 ≤ request.sequence →
+    request.sequence ≤ length (journal_below journal below).messages →
+    planned journal.messages limit (plan_for (journal_below journal below) burst request)
+    ≡ answer (journal_below journal below).messages journal.session limit request.sequence request.count burst
+planned_below journal below limit burst request first last =
+    let fewer : JournalState = journal_below journal below in
+    let plan : PlanState = plan_for fewer burst request in
+    ap (λ (t : List (List ℕ)). planned t limit plan) (sym (take-append-drop (below - 1) journal.messages))
+    ∙ planned_grown fewer.messages (drop (below - 1) journal.messages) limit plan
+    (plan_is fewer burst request first last) (plan_within fewer burst request)
+    ∙ planned_answer fewer limit burst request first last
 
 -- A request gets a first response, which has at least one message.
 pub answer_first :

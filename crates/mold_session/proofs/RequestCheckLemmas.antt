@@ -1,7 +1,8 @@
 -- Which requests are accepted.
-use Rattle.std.proofs.Common.{◌≡◌, ℕ, ◌+◌, cond, eqb, ltb, Bool, true, false, not, List, length, Option, None, Some}
+use Rattle.std.proofs.Common.{◌≡◌, ℕ, ◌+◌, ◌-◌, ◌≤◌, cond, eqb, ltb, Bool, true, false, not, List, length, Option, None, Some}
 use Rattle.std.proofs.Common.{Result, Ok, Err, refl, ap, subst, ◌∙◌, arith}
 use Rattle.std.proofs.lemmas.Bool.{cond-false, ne_eqb, eqb-false, ltb-false, le-ltb, not-false, not_from_true}
+use Rattle.std.proofs.lemmas.List.{length-take, take_all}
 use Rattle.std.proofs.lemmas.Slice.Eq.{bytes_eq-Decides}
 use Rattle.std.specs.Str.{bytes_eq}
 use Rattle.mold_wire.specs.declared.error.RequestError.{RequestError}
@@ -10,7 +11,7 @@ use Rattle.mold_wire.specs.declared.request.Request.{Request}
 use Rattle.mold_wire.specs.declared.session.Session.{Session}
 use Rattle.mold_wire.specs.Request.{request_reading}
 use Rattle.mold_session.specs.Answer.{PlanState, plan_for}
-use Rattle.mold_session.specs.Journal.{JournalState}
+use Rattle.mold_session.specs.Journal.{JournalState, journal_below}
 use Rattle.mold_session.specs.Server.{request_refusal, IsAnswerable, unless, judged, checked_request, plan_of, planning}
 use Rattle.mold_session.specs.declared.error.AnswerError.{AnswerError}
 use Rattle.mold_session.specs.declared.error.AnswerError.TheVariants.{WrongSession, SequenceZero, EmptyRequest, Ahead}
@@ -113,3 +114,24 @@ pub planned_from :
     (journal : JournalState) (burst : ℕ) (bytes : List ℕ) (plan : PlanState) →
     Ok plan ≡ planning journal burst bytes → IsPlanned journal burst bytes plan
 planned_from journal burst bytes plan is = planned_of journal burst bytes plan (checked_request journal bytes) refl is
+
+-- All messages of a journal are below its next number.
+pub all_below : (journal : JournalState) (below : ℕ) → below ≡ length journal.messages + 1 →
+    journal_below journal below ≡ journal
+all_below journal below is =
+    ap (λ (ms : List (List ℕ)). record journal { messages = ms })
+    (take_all (below - 1) journal.messages (omega (arith, is)))
+
+-- A plan that was made from the messages below a number ends there.
+pub planned_within :
+    (journal : JournalState) (burst below : ℕ) (bytes : List ℕ) (plan : PlanState) →
+    Ok plan ≡ planning (journal_below journal below) burst bytes → plan.to ≤ below
+planned_within journal burst below bytes plan is =
+    let from = planned_from (journal_below journal below) burst bytes plan is in
+    omega (
+      arith,
+      ap (λ (p : PlanState). p.to) from.plan_is,
+      length-take (below - 1) journal.messages,
+      from.answerable.first,
+      from.answerable.last,
+    )

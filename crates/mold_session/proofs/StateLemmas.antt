@@ -1,14 +1,15 @@
--- The properties of a publisher are kept when messages are published and sent, and when it is closed.
-use Rattle.std.proofs.Common.{◌≡◌, ℕ, cond, ltb, eqb, Bool, true, false, List, [], ◌∷◌, ◌++◌, length}
+-- The properties of a publisher are kept when messages are published, sent and retracted, and when it is closed.
+use Rattle.std.proofs.Common.{◌≡◌, ℕ, ◌-◌, ◌<◌, cond, ltb, eqb, Bool, true, false, List, [], ◌∷◌, ◌++◌, length, take}
 use Rattle.std.proofs.Common.{length-append, length-drop, Option, None, Some, refl, sym, ◌∙◌, inl, inr, arith}
 use Rattle.std.specs.List.{AllByRecursion}
 use Rattle.std.proofs.lemmas.Bool.{cases_eq, eq-eqb, eqb-false, ltb-false, false≢true}
+use Rattle.std.proofs.lemmas.List.{length-take}
 use Rattle.std.proofs.lemmas.Option.{none-some}
 use Rattle.mold_wire.specs.declared.packet.Packet.{Packet}
-use Rattle.mold_session.proofs.FrontLemmas.{FrontIs, front_within}
-use Rattle.mold_session.specs.Journal.{IsWithin, append_refusal}
+use Rattle.mold_session.proofs.FrontLemmas.{FrontIs, each_take, front_within}
+use Rattle.mold_session.specs.Journal.{AreMessages, IsJournal, IsWithin, JournalState, append_refusal}
 use Rattle.mold_session.specs.Publisher.{IsPublisher, MayPublish, PublisherState, after_datagram, closed, next_datagram}
-use Rattle.mold_session.specs.Publisher.{next_front, published, unsent_of}
+use Rattle.mold_session.specs.Publisher.{MayResume, next_front, published, resumed_publisher, retracted, unsent_of}
 
 -- If there is no first reason, the first check found none, and neither did the others.
 none_if :
@@ -81,4 +82,36 @@ stays_closed publisher is all = record {
   journaled = record { few = is.journaled.few; each = is.journaled.each };
   published = is.published;
   finished = λ _. all;
+}
+
+-- The messages of a journal without the last one.
+pub fewer_messages :
+    (most : ℕ) (messages : List (List ℕ)) (count : ℕ) → AreMessages most messages → AreMessages most (take count messages)
+fewer_messages most messages count are = record {
+  few = omega (arith, length-take count messages, are.few);
+  each = each_take (IsWithin most) count messages are.each;
+}
+
+pub stays_retracted :
+    (publisher : PublisherState) → IsPublisher publisher → publisher.sent < length publisher.journal.messages →
+    IsPublisher (retracted publisher)
+stays_retracted publisher is unsent =
+    let messages : List (List ℕ) = publisher.journal.messages in
+    record {
+      limited = is.limited;
+      longest = is.longest;
+      journaled = fewer_messages publisher.journal.max_message messages (length messages - 1) is.journaled;
+      published = omega (arith, length-take (length messages - 1) messages, unsent);
+      finished = λ closed_now. absurd (omega (arith, is.finished closed_now, unsent));
+    }
+
+-- A publisher of a journal whose messages all count as sent.
+pub resumes : (journal : JournalState) (limit : ℕ) → IsJournal journal → MayResume journal limit →
+    IsPublisher (resumed_publisher journal limit)
+resumes journal limit is may = record {
+  limited = may.0;
+  longest = may.1;
+  journaled = is;
+  published = omega arith;
+  finished = λ closed_now. refl;
 }

@@ -1,5 +1,5 @@
 -- The state of a journal, and how appending a message changes it.
-use Rattle.std.specs.Prelude.{ℕ, zero, suc, ◌≤◌, ◌<◌, Bool, false, List, [], ◌∷◌, ◌++◌, length, nat_lt, ◌==◌}
+use Rattle.std.specs.Prelude.{ℕ, zero, suc, ◌-◌, ◌≤◌, ◌<◌, Bool, false, List, [], ◌∷◌, ◌++◌, length, take, nat_lt, ◌==◌}
 use Rattle.std.specs.Prelude.{if◌then◌else◌, slice_get, Option, None, Some}
 use Rattle.std.specs.List.{AllByRecursion}
 use Rattle.mold_wire.specs.declared.limits.TheConstants.{MAX_NUMBER}
@@ -48,6 +48,14 @@ append_refusal journal message =
     else if nat_lt journal.max_message (length message) then Some (TooLong (length message))
     else if length journal.messages == MAX_MESSAGES then Some Full
     else None
+
+-- The journal without the messages that have sequence number `below` or more.
+abbrev pub journal_below : JournalState → ℕ → JournalState
+journal_below journal below = record journal { messages = take (below - 1) journal.messages }
+
+-- The journal without its last message.
+abbrev pub without_last : JournalState → JournalState
+without_last journal = record journal { messages = take (length journal.messages - 1) journal.messages }
 
 -- The journal with `message` appended.
 abbrev pub appended : JournalState → List ℕ → JournalState

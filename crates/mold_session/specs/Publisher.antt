@@ -8,7 +8,7 @@ use Rattle.mold_wire.specs.Packet.{Spells}
 use Rattle.mold_wire.specs.Packer.{IsLimit}
 use Rattle.mold_wire.specs.Packing.{front}
 use Rattle.mold_wire.specs.declared.session.Session.{Session}
-use Rattle.mold_session.specs.Journal.{JournalState, IsJournal, appended, fresh_journal}
+use Rattle.mold_session.specs.Journal.{JournalState, IsJournal, appended, fresh_journal, without_last}
 use Rattle.mold_session.specs.declared.journal.TheConstants.{MAX_MESSAGES}
 
 -- The state of a publisher: its journal, the limit of a datagram, and how many messages were sent.
@@ -24,6 +24,16 @@ pub record PublisherState : Type 0 where
 abbrev pub fresh_publisher : Session → ℕ → PublisherState
 fresh_publisher session limit =
     record { journal = fresh_journal session (limit - MESSAGE_OVERHEAD); limit = limit; sent = 0 }
+
+-- A journal can be resumed with this limit: the limit is valid, and a message of the journal's largest length just fits
+-- a datagram by itself.
+abbrev pub MayResume : JournalState → ℕ → Type 0
+MayResume journal limit = IsLimit limit × (journal.max_message + MESSAGE_OVERHEAD ≡ limit)
+
+-- A publisher of this journal. All its messages count as sent.
+abbrev pub resumed_publisher : JournalState → ℕ → PublisherState
+resumed_publisher journal limit =
+    record { journal = journal; limit = limit; sent = length journal.messages }
 
 -- The properties of every publisher: its limit is valid, its messages fit, and it is closed only when all are sent.
 pub record IsPublisher (publisher : PublisherState) : Type 0 where
@@ -82,6 +92,10 @@ published publisher message = record publisher { journal = appended publisher.jo
 -- The publisher after it was closed.
 abbrev pub closed : PublisherState → PublisherState
 closed publisher = record publisher { journal = record publisher.journal { closed = true } }
+
+-- The publisher without the message that was published last.
+abbrev pub retracted : PublisherState → PublisherState
+retracted publisher = record publisher { journal = without_last publisher.journal }
 
 -- The message can be published: the session is open, the message isn't too long, and it gets a sequence number.
 pub record MayPublish (publisher : PublisherState) (message : List ℕ) : Type 0 where

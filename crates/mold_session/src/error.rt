@@ -24,7 +24,8 @@ pub enum AppendError {
 /// Why a publisher is not made.
 #[derive(Clone, Copy, Debug, PartialEq, Eq, Error)]
 pub enum PublisherError {
-    /// The limit is outside the range `MIN_LIMIT` to `MAX_LIMIT`.
+    /// The limit is outside the range `MIN_LIMIT` to `MAX_LIMIT`. If a journal is resumed, also: the limit is not its
+    /// `max_message` plus `MESSAGE_OVERHEAD`.
     #[error("a datagram's limit is 64 to 65,507 bytes")]
     Limit,
     /// The allocation of the datagram's buffer failed.

@@ -10,6 +10,7 @@ ghost use Rattle.mold_devices.specs.Devices.{Counts};
 ghost use Rattle.mold_session.specs.File.{SpellsJournal, SpellsJournal2, AppendsFile, AppendsFilePrefix, file_length};
 ghost use Rattle.mold_session.specs.FileFault.{JournalFault};
 ghost use Rattle.mold_session.specs.Journal.{IsJournal, message_numbered, append_refusal, appended, fresh_journal};
+ghost use Rattle.mold_session.specs.Journal.{journal_below, without_last};
 ghost use Rattle.mold_session.specs.Loading.{Refuses, CountsLoad};
 ghost use Rattle.mold_session.specs.Records.{SpellsJournal3};
 ghost use Rattle.mold_session.specs.Putting.{PutsFile};
@@ -96,6 +97,14 @@ impl Journal {
         self.len() + 1
     }
 
+    // The sequence number after that of the last message with a number below `below`.
+    pub(crate) fn next_below(&self, below: u64) -> u64
+        ensures value { result ≡ length (journal_below self.now below).messages + 1 }
+        ensures journal { IsJournal self.now }
+    {
+        below.max(1).min(self.next())
+    }
+
     pub(crate) fn len(&self) -> u64
         ensures value { result ≡ length self.now.messages }
         ensures journal { IsJournal self.now }
@@ -151,6 +160,15 @@ impl Journal {
             Ok(()) => Ok(self.list.len() as u64),
             Err(_) => Err(AppendError::Memory),
         }
+    }
+
+    // Removes the last message.
+    pub(crate) fn remove_last(&mut self)
+        ensures removed { self.new ≡ without_last self.old }
+        ensures journal { IsJournal self.old }
+    {
+        let count = self.list.len();
+        self.list.truncate(count.saturating_sub(1));
     }
 
     /// Loads a journal from its file, of version 1, 2 or 3, whose messages have at most `max_message` bytes. A journal

@@ -18,7 +18,7 @@ ghost use Rattle.mold_wire.specs.Request.{SpellsRequest};
 ghost use Rattle.mold_session.specs.Answer.{answer, PlanState, IsPlan, plan_for, IsSpent, planned, FitAlone};
 ghost use Rattle.mold_session.specs.Answer.{HasFirst, SendsNext};
 ghost use Rattle.mold_session.specs.Datagrams.{data_packet, first_part, packing};
-ghost use Rattle.mold_session.specs.Journal.{IsJournal, IsWithin, JournalState, append_refusal};
+ghost use Rattle.mold_session.specs.Journal.{IsJournal, IsWithin, JournalState, append_refusal, journal_below};
 ghost use Rattle.mold_session.specs.Contents.{FileContents, Gives, IsFront};
 ghost use Rattle.mold_session.specs.File.{SpellsJournal, SpellsJournal2};
 ghost use Rattle.mold_session.specs.FileFault.{JournalFault};
@@ -27,7 +27,8 @@ ghost use Rattle.mold_session.specs.declared.error.FileError.{FileError};
 ghost use Rattle.mold_session.specs.declared.journal.TheConstants.{MAX_MESSAGES};
 ghost use Rattle.mold_session.specs.declared.loading.FileHead.{FileHead};
 ghost use Rattle.mold_session.specs.Publisher.{IsPublisher, MayPublish, PublisherState, after_datagram, closed};
-ghost use Rattle.mold_session.specs.Publisher.{next_datagram, next_end, next_heartbeat, published};
+ghost use Rattle.mold_session.specs.Publisher.{MayResume, next_datagram, next_end, next_heartbeat, published};
+ghost use Rattle.mold_session.specs.Publisher.{resumed_publisher, retracted};
 ghost use Rattle.mold_session.specs.Truthful.{MayAnswer, IsTrueDatagram};
 ghost use Rattle.mold_session.specs.Loading.{Refuses, SpellsFile};
 ghost use Rattle.mold_session.specs.Reader.{EndsWith, HasRead, PassesBlocks, ReaderState, ReadsNext, RestFault};
@@ -85,7 +86,8 @@ pub fn planned_law()
 }
 
 /// A request is accepted exactly when it asks for messages that the journal has. The packets that its plan
-/// sends are the responses to the request.
+/// sends are the responses to the request. If the plan is made from the messages below a number, they are the responses
+/// that a journal with only these messages gives.
 pub fn answered_law()
     ensures asked { (journal : JournalState) (request : Request) (bytes : List ℕ) →
         SpellsRequest request bytes → IsAnswerable journal request → checked_request journal bytes ≡ Ok request }
@@ -101,6 +103,10 @@ pub fn answered_law()
     ensures answer { (journal : JournalState) (limit burst : ℕ) (request : Request) →
         IsAnswerable journal request → planned journal.messages limit (plan_for journal burst request)
         ≡ answer journal.messages journal.session limit request.sequence request.count burst }
+    ensures below { (journal : JournalState) (below limit burst : ℕ) (request : Request) →
+        IsAnswerable (journal_below journal below) request →
+        planned journal.messages limit (plan_for (journal_below journal below) burst request)
+        ≡ answer (journal_below journal below).messages journal.session limit request.sequence request.count burst }
 {
     reading_law();
 }
@@ -222,7 +228,8 @@ pub fn reader_law()
 {}
 
 /// Each step of a publisher keeps the properties of `IsPublisher`. The steps are: a message that nothing refuses is
-/// published, a datagram is sent, or the publisher is closed after all messages were sent.
+/// published, a datagram is sent, the publisher is closed after all messages were sent, or the last message is
+/// retracted, which is unsent. A resumed publisher has these properties too.
 pub fn publisher_law()
     ensures may { (publisher : PublisherState) (message : List ℕ) →
         append_refusal publisher.journal message ≡ None → MayPublish publisher message }
@@ -232,6 +239,10 @@ pub fn publisher_law()
         next_datagram publisher ≡ Some packet → IsPublisher (after_datagram publisher) }
     ensures closed { (publisher : PublisherState) → IsPublisher publisher →
         publisher.sent ≡ length publisher.journal.messages → IsPublisher (closed publisher) }
+    ensures retracted { (publisher : PublisherState) → IsPublisher publisher →
+        publisher.sent < length publisher.journal.messages → IsPublisher (retracted publisher) }
+    ensures resumed { (journal : JournalState) (limit : ℕ) → IsJournal journal → MayResume journal limit →
+        IsPublisher (resumed_publisher journal limit) }
 {
     front_law();
 }

@@ -2,7 +2,7 @@
 
 ghost use Rattle.std.specs.Prelude.{◌≡◌, ◌+◌, ◌≤◌, ◌<◌, ◌↔◌, length, IsTrue, IsSome, IfSome};
 ghost use Rattle.mold_session.specs.Answer.{IsPlan, IsSpent, plan_for, moved};
-ghost use Rattle.mold_session.specs.Journal.{IsJournal};
+ghost use Rattle.mold_session.specs.Journal.{IsJournal, journal_below};
 
 use crate::journal::Journal;
 use mold_wire::{Request, Session};
@@ -29,18 +29,18 @@ impl Model for Plan {
 }
 
 impl Plan {
-    // Plans at most `burst` responses to a request that the journal can satisfy.
-    pub(crate) fn new(journal: &Journal, request: &Request, burst: u16) -> Plan
+    // Plans at most `burst` responses to a request that the journal's messages below `below` can satisfy.
+    pub(crate) fn new(journal: &Journal, below: u64, request: &Request, burst: u16) -> Plan
         requires session { request.now.session ≡ journal.now.session }
         requires first { 1 ≤ request.now.sequence }
-        requires last { request.now.sequence ≤ length journal.now.messages }
-        ensures { result ≡ plan_for journal.now burst request.now }
+        requires last { request.now.sequence ≤ length (journal_below journal.now below).messages }
+        ensures { result ≡ plan_for (journal_below journal.now below) burst request.now }
     {
         let behind = request.sequence.saturating_add(u64::from(request.count));
         Plan {
             session: request.session,
             from: request.sequence,
-            to: behind.min(journal.next()),
+            to: behind.min(journal.next_below(below)),
             left: burst,
         }
     }

@@ -1,6 +1,6 @@
 //! The publisher of a session.
 
-ghost use Rattle.std.specs.Prelude.{◌≡◌, ◌↔◌, ◌+◌, ◌-◌, ◌≤◌, true, false, None, Err, length, unwrap_or, not, IfOk};
+ghost use Rattle.std.specs.Prelude.{◌≡◌, ◌↔◌, ◌+◌, ◌-◌, ◌≤◌, ◌<◌, true, false, None, Err, length, unwrap_or, not, IfOk};
 ghost use Rattle.std.specs.Prelude.{IfErr, IfSome, IfNone, IsOk, OnOk, OnErr, IsTrue};
 ghost use Rattle.std.specs.Option.{option_copied};
 ghost use Rattle.mold_wire.specs.Packer.{IsLimit};
@@ -8,6 +8,7 @@ ghost use Rattle.mold_wire.specs.Packing.{Fits};
 ghost use Rattle.mold_session.specs.Journal.{append_refusal};
 ghost use Rattle.mold_session.specs.Publisher.{IsPublisher, unsent_of, next_datagram, next_heartbeat, next_end};
 ghost use Rattle.mold_session.specs.Publisher.{after_datagram, fresh_publisher, published, closed, Lends};
+ghost use Rattle.mold_session.specs.Publisher.{MayResume, resumed_publisher, retracted};
 ghost use Rattle.mold_session.specs.Truthful.{IsTrueDatagram};
 ghost use Rattle.mold_session.specs.declared.error.AppendError.{AppendError};
 ghost use Rattle.mold_session.specs.declared.error.PublisherError.{PublisherError};
@@ -23,7 +24,7 @@ use std::marker::Model;
 /// Publishes the messages of a session. It keeps them in a journal and packs them into datagrams, each with the
 /// longest prefix of the unsent messages that fits.
 ///
-/// Only `new` and `publish` allocate. A returned datagram is valid until the next call.
+/// Only `new`, `resume` and `publish` allocate. A returned datagram is valid until the next call.
 #[derive(Debug, Drop)]
 pub struct Publisher {
     journal: Journal,
@@ -71,6 +72,38 @@ impl Publisher {
         })
     }
 
+    /// Makes a publisher of a journal. All messages of the journal count as sent, so the next message has the number
+    /// `journal.next()`. The publisher of a closed journal sends only end packets. It allocates the buffer of `limit`
+    /// bytes once.
+    ///
+    /// `limit` must be a valid limit and the journal's `max_message` plus `MESSAGE_OVERHEAD`. Otherwise `Limit` is
+    /// returned. After an error the journal is dropped.
+    pub fn resume(
+        alloc: Global,
+        journal: Journal,
+        limit: usize,
+    ) -> Result<Publisher, PublisherError>
+        ensures made { IfOk result (λ publisher. publisher ≡ resumed_publisher journal limit) }
+        ensures ok { IsOk result → MayResume journal limit }
+        ensures limit { (result ≡ Err PublisherError.Limit) ↔ (¬ MayResume journal limit) }
+    {
+        if usize::from(journal.max_message()) + MESSAGE_OVERHEAD != limit {
+            return Err(PublisherError::Limit);
+        }
+        let packer = match Packer::new(alloc, limit) {
+            Ok(packer) => packer,
+            Err(PackerError::Limit) => return Err(PublisherError::Limit),
+            Err(PackerError::Memory) => return Err(PublisherError::Memory),
+        };
+        let sent = journal.len();
+        Ok(Publisher {
+            journal,
+            packer,
+            limit,
+            sent,
+        })
+    }
+
     /// Publishes a message and returns its sequence number. After an error the publisher is unchanged; `Memory` is
     /// returned only if an allocation failed.
     pub fn publish(&mut self, message: &[u8]) -> Result<u64, AppendError>
@@ -82,6 +115,15 @@ impl Publisher {
         ensures same { OnErr result (self.new ≡ self.old) }
     {
         self.journal.append(message)
+    }
+
+    /// Removes the message that was published last. It must be unsent. So a caller that also keeps the message elsewhere
+    /// can undo `publish` if that fails. It takes constant time.
+    pub fn retract(&mut self)
+        requires unsent { self.old.sent < length self.old.journal.messages }
+        ensures { self.new ≡ retracted self.old }
+    {
+        self.journal.remove_last();
     }
 
     /// Returns the largest length of a datagram, in bytes.

@@ -1,19 +1,19 @@
 //! Requests, checked against a journal.
 
 ghost use Rattle.std.specs.Prelude.{◌≡◌};
-ghost use Rattle.mold_session.specs.Journal.{IsJournal};
+ghost use Rattle.mold_session.specs.Journal.{IsJournal, journal_below};
 ghost use Rattle.mold_session.specs.Server.{checked_request};
 
 use crate::error::AnswerError;
 use crate::journal::Journal;
 use mold_wire::{Request, RequestError};
 
-/// Decodes a request for messages of the journal, or returns the first reason to refuse it.
-pub fn check_request(journal: &Journal, request: &[u8]) -> Result<Request, AnswerError>
-    ensures checked { result ≡ checked_request journal.now request.now }
+/// Decodes a request for messages of the journal with numbers below `below`, or returns the first reason to refuse it.
+pub fn check_request(journal: &Journal, below: u64, request: &[u8]) -> Result<Request, AnswerError>
+    ensures checked { result ≡ checked_request (journal_below journal.now below) request.now }
     ensures journal { IsJournal journal.now }
 {
-    let next = journal.next();
+    let next = journal.next_below(below);
     let request = match Request::decode(request) {
         Ok(request) => request,
         Err(RequestError::RequestLength { len }) => return Err(AnswerError::RequestLength { len }),

@@ -5,7 +5,7 @@ ghost use Rattle.std.specs.Prelude.{IfSome, IfNone, OnOk};
 ghost use Rattle.std.specs.Option.{OnSome};
 ghost use Rattle.mold_wire.specs.Packet.{Spells};
 ghost use Rattle.mold_session.specs.Answer.{IsPlan, IsSpent, next_part, next_packet, moved};
-ghost use Rattle.mold_session.specs.Journal.{IsJournal};
+ghost use Rattle.mold_session.specs.Journal.{IsJournal, journal_below};
 ghost use Rattle.mold_session.specs.Server.{IsServer, fresh_server, server_refusal, checked_request, planning};
 ghost use Rattle.mold_session.specs.Server.{SpellsAnswer, counted_if};
 ghost use Rattle.mold_session.specs.Truthful.{IsTrueDatagram};
@@ -158,10 +158,33 @@ impl Server {
         ensures journal { IsJournal journal.now }
         ensures server { IsServer self.old }
     {
+        self.plan_below(journal, journal.next(), request)
+    }
+
+    /// Plans the responses to a request as `plan` does, from the journal's messages with numbers below `below`. A
+    /// request for a later message is refused as `Ahead`. Its `next` is then `below`, or the number of the journal's
+    /// next message if that is less. If `below` is 0 or 1, there are no such messages, and `next` is 1.
+    ///
+    /// So a publisher may publish messages before it sends them, and nobody gets them earlier from its server.
+    pub fn plan_below(
+        &mut self,
+        journal: &Journal,
+        below: u64,
+        request: &[u8],
+    ) -> Result<Plan, AnswerError>
+        requires { journal.now.max_message ≤ self.old.max_message }
+        ensures planned { result ≡ planning (journal_below journal.now below) self.old.burst request.now }
+        ensures session { IfOk result (λ plan. plan.session ≡ journal.now.session) }
+        ensures below { IfOk result (λ plan. plan.to ≤ below) }
+        ensures to { IfOk result (λ plan. plan.to ≤ length journal.now.messages + 1) }
+        ensures counted { self.new ≡ counted_if (is_ok result) self.old }
+        ensures journal { IsJournal journal.now }
+        ensures server { IsServer self.old }
+    {
         let burst = self.burst;
-        let request = check_request(journal, request)?;
+        let request = check_request(journal, below, request)?;
         self.answered = self.answered.saturating_add(1);
-        Ok(Plan::new(journal, &request, burst))
+        Ok(Plan::new(journal, below, &request, burst))
     }
 
     /// Returns the next datagram of a plan, with as many of its remaining messages as fit, and advances the plan past

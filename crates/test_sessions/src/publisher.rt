@@ -305,6 +305,71 @@ fn a_session_without_messages_is_closed(rt: HostRuntime) -> Result<(), Fail> {
     expect_published(&rt, rt.alloc(), &[], CLOSED)
 }
 
+/// A publisher of a journal with two messages, the k-th of which is twenty bytes of the value k.
+fn resume_two(alloc: Global, closed: bool) -> Result<Publisher, Fail> {
+    let mut journal = Journal::new(alloc, SESSION, 42);
+    journal.append(&[1; 20])?;
+    journal.append(&[2; 20])?;
+    if closed {
+        journal.close();
+    }
+    Ok(Publisher::resume(alloc, journal, 64)?)
+}
+
+const RESUMED: &[Step] = &[
+    Step::Unsent(0),
+    Step::Datagram(None),
+    Step::Heartbeat(Some(b"SESSION001\0\0\0\0\0\0\0\x03\0\0")),
+    Step::Publish(&[3; 20], Ok(3)),
+    Step::Datagram(Some(THIRD)),
+    Step::Close(Ok(())),
+];
+
+/// The two messages are not sent again.
+#[test]
+fn a_resumed_publisher_sends_only_new_messages(rt: HostRuntime) -> Result<(), Fail> {
+    let mut publisher = resume_two(rt.alloc(), false)?;
+    expect_steps(&rt, &mut publisher, RESUMED);
+    Ok(())
+}
+
+const RESUMED_CLOSED: &[Step] = &[
+    Step::IsClosed(true),
+    Step::Datagram(None),
+    Step::Heartbeat(None),
+    Step::End(Some(b"SESSION001\0\0\0\0\0\0\0\x03\xff\xff")),
+];
+
+#[test]
+fn a_resumed_publisher_of_a_closed_journal_sends_end_packets(rt: HostRuntime) -> Result<(), Fail> {
+    let mut publisher = resume_two(rt.alloc(), true)?;
+    expect_steps(&rt, &mut publisher, RESUMED_CLOSED);
+    Ok(())
+}
+
+/// The longest message of a journal, and a limit with which it is refused.
+const OTHER_LIMITS: &[(u16, usize)] = &[(42, 65), (42, 63), (41, 63), (65486, 65508)];
+
+#[test]
+fn a_journal_is_resumed_only_with_its_limit(rt: HostRuntime) {
+    for (max_message, limit) in OTHER_LIMITS {
+        let journal = Journal::new(rt.alloc(), SESSION, *max_message);
+        let refused = Publisher::resume(rt.alloc(), journal, *limit).err();
+        assert!(rt; refused == Some(PublisherError::Limit), "another outcome");
+    }
+}
+
+/// A message that was retracted leaves its number to the next one.
+#[test]
+fn a_retracted_message_is_not_sent(rt: HostRuntime) -> Result<(), Fail> {
+    let mut publisher = resume_two(rt.alloc(), false)?;
+    publisher.publish(&[4; 21])?;
+    assert!(rt; publisher.unsent() > 0);
+    publisher.retract();
+    expect_steps(&rt, &mut publisher, RESUMED);
+    Ok(())
+}
+
 /// Publishes a message. If an allocation fails, nothing more is published or unsent, and the message is published
 /// again.
 fn publish_again(

@@ -85,6 +85,28 @@ impl Service {
         self.server.plan(&self.journal, request)
     }
 
+    fn plan_below(
+        &mut self,
+        rt: &impl Abort,
+        below: u64,
+        request: &[u8],
+    ) -> Result<Plan, AnswerError> {
+        assert!(rt; self.journal.max_message() <= self.server.max_message());
+        self.server.plan_below(&self.journal, below, request)
+    }
+
+    fn expect_plan_below(&mut self, rt: &impl Abort, below: u64) -> Result<(), AnswerError> {
+        let mut plan = self.plan_below(rt, below, FROM_ONE)?;
+        expect_range(rt, &plan, 1, below);
+        self.expect_steps(rt, &mut plan, BELOW_FOUR);
+        Ok(())
+    }
+
+    fn expect_ahead(&mut self, rt: &impl Abort, below: u64, request: &[u8], next: u64) {
+        let refusal = self.plan_below(rt, below, request).err();
+        same_refusal(rt, refusal, AnswerError::Ahead { next });
+    }
+
     fn answer(&mut self, rt: &impl Abort, request: &[u8]) -> Result<&[u8], AnswerError> {
         assert!(rt; self.journal.max_message() <= self.server.max_message());
         self.server.answer(&self.journal, request)
@@ -327,4 +349,33 @@ const AS_ASKED: &[Step] = &[
 #[test]
 fn a_plan_ends_with_what_was_asked(rt: HostRuntime) -> Result<(), Fail> {
     expect_plan(&rt, rt.alloc(), 64, THREE_FROM_ONE, 1, 4, AS_ASKED)
+}
+
+const BELOW_FOUR: &[Step] = &[(Some(ONE_AND_TWO), 3, 2), (Some(THREE), 4, 1), (None, 4, 1)];
+
+/// Messages 4 and 5 are not sent yet.
+#[test]
+fn a_plan_below_four_has_three_messages(rt: HostRuntime) -> Result<(), Fail> {
+    let mut service = Service::new(rt.alloc(), 3)?;
+    let planned = service.expect_plan_below(&rt, 4);
+    assert!(rt; planned.is_ok(), "refused");
+    Ok(())
+}
+
+/// The number below which a message may be sent, a request, and the number that its refusal states.
+const AHEAD: &[(u64, &'static [u8], u64)] = &[
+    (5, FROM_FIVE, 5),
+    (2, FROM_TWO, 2),
+    (1, FROM_ONE, 1),
+    (0, FROM_ONE, 1),
+];
+
+#[test]
+fn requests_for_unsent_messages_are_ahead(rt: HostRuntime) -> Result<(), Fail> {
+    let mut service = Service::new(rt.alloc(), 1)?;
+    for (below, request, next) in AHEAD {
+        service.expect_ahead(&rt, *below, request, *next);
+    }
+    assert!(rt; service.plan_below(&rt, 6, FROM_FIVE).is_ok());
+    Ok(())
 }

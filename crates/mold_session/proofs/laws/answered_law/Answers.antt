@@ -1,7 +1,7 @@
 use Rattle.std.proofs.Common.{ap, ◌∙◌}
 use Rattle.mold_wire.specs.Request.{request_reading}
 use Rattle.mold_session.specs.Server.{judged, plan_of}
-use Rattle.mold_session.proofs.AnswerLemmas.{plan_is, plan_within, planned_answer}
+use Rattle.mold_session.proofs.AnswerLemmas.{plan_is, plan_within, planned_answer, planned_below}
 use Rattle.mold_session.proofs.RequestCheckLemmas.{judged_from, judged_to}
 use Rattle.mold_session.proofs.laws.answered_law.Goals as goal
 
@@ -15,4 +15,5 @@ returns c = record {
   plan = λ journal burst request is. plan_is journal burst request is.first is.last;
   within = plan_within;
   answer = λ journal limit burst request is. planned_answer journal limit burst request is.first is.last;
+  below = λ journal below limit burst request is. planned_below journal below limit burst request is.first is.last;
 }

@@ -1,4 +1,4 @@
-use Rattle.mold_session.proofs.StateLemmas.{may_publish, stays_closed, stays_published, stays_sent}
+use Rattle.mold_session.proofs.StateLemmas.{may_publish, resumes, stays_closed, stays_published, stays_retracted, stays_sent}
 use Rattle.mold_session.proofs.laws.publisher_law.Goals as goal
 
 pub returns : goal.returns
@@ -7,4 +7,6 @@ returns c = record {
   published = stays_published;
   sent = λ publisher packet. stays_sent publisher packet c.front_law.ensures.front;
   closed = stays_closed;
+  retracted = stays_retracted;
+  resumed = resumes;
 }
