@@ -2,6 +2,8 @@ mod CommitLemmas
 mod CrashLemmas
 mod FaultLemmas
 mod FileLemmas
+mod FollowerLemmas
+mod FollowingLemmas
 mod GateLemmas
 mod GroupLemmas
 mod HeadLemmas
@@ -11,3 +13,4 @@ mod MomentLemmas
 mod OpenLemmas
 mod ReadingLemmas
 mod RecordLemmas
+mod ScriptedLemmas

@@ -117,7 +117,7 @@ skipped_none most start bytes few = record {
   parts = refl;
 }
 
-records_one : (messages : List (List ℕ)) (message : List ℕ) →
+pub records_one : (messages : List (List ℕ)) (message : List ℕ) →
     records messages ++ record_of message ≡ records (messages ++ message ∷ [])
 records_one messages message =
     ap (λ (t : List ℕ). records messages ++ t) (sym (append-nil (record_of message)))
@@ -187,7 +187,7 @@ pub ends_within : (closed : Bool) (rest : List ℕ) → EndsRecords closed rest 
 ends_within true rest ends = omega (arith, ap (λ (t : List ℕ). length t) ends.parts)
 ends_within false rest ends = omega (arith, ap (λ (t : List ℕ). length t) ends.parts)
 
-number_more : (bytes more : List ℕ) → 2 ≤ length bytes → big_number 2 (bytes ++ more) ≡ big_number 2 bytes
+pub number_more : (bytes more : List ℕ) → 2 ≤ length bytes → big_number 2 (bytes ++ more) ≡ big_number 2 bytes
 number_more [] more long = absurd (omega (arith, long))
 number_more (a ∷ []) more long = absurd (omega (arith, long))
 number_more (a ∷ b ∷ bytes) more long = refl

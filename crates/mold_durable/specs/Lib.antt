@@ -1,9 +1,13 @@
 pub mod Crash
 pub mod DurableJournal
+pub mod Follower
+pub mod Following
 pub mod Gate
 pub mod Group
+pub mod GrowingFile
 pub mod Head
 pub mod Life
 pub mod Memory
 pub mod Reading
+pub mod ScriptedFile
 pub mod Storage

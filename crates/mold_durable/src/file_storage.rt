@@ -11,7 +11,7 @@ use std::io;
 use std::os::unix::fs::FileExt;
 
 /// The greatest length of a file, in bytes.
-const MAX_LENGTH: u64 = i64::MAX as u64;
+pub const MAX_LENGTH: u64 = i64::MAX as u64;
 
 /// A file as a storage. It reads with `pread`, writes with `pwrite` and syncs with `fdatasync`.
 ///
@@ -78,9 +78,9 @@ impl Storage for FileStorage {
     }
 }
 
-// Reads from offset `at` on until the buffer is full or the file ends, and returns how many bytes. Each call that reads
-// something reads at least one byte, so the loop ends in time.
-fn read_all_at(file: &File, at: u64, buffer: &mut [u8]) -> io::Result<usize>
+/// Reads from offset `at` on until the buffer is full or the file ends, and returns how many bytes.
+// Each call that reads something reads at least one byte, so the loop ends in time.
+pub fn read_all_at(file: &File, at: u64, buffer: &mut [u8]) -> io::Result<usize>
     ensures count { ReadsAtMost result buffer.new }
     ensures same { length buffer.new ≡ length buffer.old }
 {

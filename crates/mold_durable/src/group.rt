@@ -19,7 +19,7 @@ pub const CLOSING: u8 = 1;
 
 /// The bytes of a record before its message: the gate, the byte that states what the record is, and the message's
 /// length.
-const RECORD_HEAD: usize = 4;
+pub const RECORD_HEAD: usize = 4;
 
 /// The bytes that a group keeps after its records: the shut gate, and two more bytes. Once the gate is open, the three
 /// bytes are the closing record.

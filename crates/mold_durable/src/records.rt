@@ -61,8 +61,8 @@ fn block_length(most: u16, count: u64, body: &[u8]) -> Result<usize, OpenError>
     Ok(LENGTH_BYTES + len)
 }
 
-// Reads the record at the start of the bytes. `count` messages precede it.
-fn next_record(most: u16, count: u64, rest: &[u8]) -> Result<NextRecord, OpenError>
+/// Reads the record at the start of the bytes. `count` messages precede it.
+pub fn next_record(most: u16, count: u64, rest: &[u8]) -> Result<NextRecord, OpenError>
     requires { count < MAX_NUMBER }
     ensures next { IfOk result (IsNextRecord most count rest.now) }
     ensures refused { IfErr result (λ error. RecordFault most count rest.now (file_error error)) }

@@ -10,6 +10,8 @@ mod failures;
 #[cfg(test)]
 mod files;
 #[cfg(test)]
+mod following;
+#[cfg(test)]
 mod journals;
 #[cfg(test)]
 mod opening;
