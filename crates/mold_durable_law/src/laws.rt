@@ -2,13 +2,15 @@
 
 ghost use Rattle.std.specs.Prelude.{◌≡◌, ℕ, Bool, List, true};
 ghost use Rattle.mold_durable.specs.Life.{IsFileOf, Moment, after as after_moment, born};
-ghost use Rattle.mold_durable_law.specs.History.{AllMayHappen, History, Event, after_all};
+ghost use Rattle.mold_durable_law.specs.History.{AllMayHappen, History, Event, MayHappen, after_all};
 ghost use Rattle.mold_durable_law.specs.History.{after_event, all_steps, begun, life_of};
-ghost use Rattle.mold_durable_law.specs.History.Event.{Writes};
+ghost use Rattle.mold_durable_law.specs.History.Event.{Other, Writes};
+ghost use Rattle.mold_durable_publisher.specs.Told.{IsTrueNow};
 ghost use Rattle.mold_session.specs.Records.{SpellsJournal3};
 ghost use Rattle.mold_wire.specs.declared.session.Session.{Session};
 ghost use Rattle.mold_world.specs.Headline.{HasAll, IsPrefix};
 ghost use Rattle.mold_world.specs.Machine.{AreAllowed, run, start};
+ghost use Rattle.mold_world.specs.Machine.Step.{Send};
 
 use mold_session::laws::one_file_law;
 use mold_world::laws::safety_law;
@@ -24,6 +26,8 @@ use mold_world::laws::safety_law;
 /// - `begins`, `life`: the committed messages of the journal are the published messages of the machine.
 /// - `steps`, `run`: the events are a run of the machine, in which a commit publishes messages. A message that a crash
 ///   loses is not published, and a crash is not a step.
+/// - `says`: a datagram that is true of the committed messages may be sent. By the clauses `truth` of
+///   `DurablePublisher`, this includes every datagram that it returns.
 /// - `books`, `whole`: so the delivered log of each receiver, its `book`, is a prefix of the committed messages. A
 ///   receiver that reports the end has the whole closed session.
 /// - `recovered`, `recovered_whole`: each book is a prefix of the messages of any file that a crash leaves. If a
@@ -32,6 +36,8 @@ pub fn durable_law()
     ensures begins { (session : Session) → life_of (begun session) ≡ born session }
     ensures life { (history : History) (moment : Moment) →
         life_of (after_event history (Writes moment)) ≡ after_moment (life_of history) moment }
+    ensures says { (history : History) (datagram : List ℕ) → IsTrueNow (life_of history) datagram →
+        MayHappen history (Other (Send datagram)) }
     ensures steps { (session : Session) (events : List Event) → AllMayHappen (begun session) events →
         AreAllowed (start session) (all_steps (begun session) events) }
     ensures run { (session : Session) (events : List Event) →

@@ -1,4 +1,4 @@
-//! Tests of `mold_durable`.
+//! Tests of `mold_durable` and `mold_durable_publisher`.
 #![tactic(auto)]
 
 #[cfg(test)]
@@ -15,3 +15,5 @@ mod following;
 mod journals;
 #[cfg(test)]
 mod opening;
+#[cfg(test)]
+mod publishing;

@@ -8,6 +8,10 @@ use Rattle.mold_durable_law.proofs.laws.durable_law.Goals as goal
 pub returns-clause-life : goal.returns-clause-life
 returns-clause-life c history moment = life_moved history moment
 
+pub returns-clause-says : goal.returns-clause-says
+returns-clause-says c history datagram so =
+    (tt, record { packet = so.packet; spelled = so.spelled; named = so.named; is_true = so.so })
+
 pub returns-clause-steps : goal.returns-clause-steps
 returns-clause-steps c session events may = all_allowed (begun session) events (history_begun session) may
 

@@ -1,0 +1,5 @@
+mod AppendLemmas
+mod LendingLemmas
+mod OpenLemmas
+mod PublishingLemmas
+mod ToldLemmas

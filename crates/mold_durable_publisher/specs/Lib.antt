@@ -1,0 +1,2 @@
+pub mod DurablePublisher
+pub mod Told

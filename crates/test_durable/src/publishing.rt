@@ -1,0 +1,94 @@
+//! A publisher that commits before it sends: a worked example, and a failed commit.
+
+use crate::journals::same_number;
+use mold_durable::{CommitError, DurableJournal, MemoryStorage, WaitingError};
+use mold_durable_publisher::{CloseError, DurablePublisher};
+use mold_session::{AppendError, Journal, Unsent};
+use mold_wire::Session;
+use std::alloc::Global;
+use std::process::Abort;
+use std::test::Fail;
+
+const SESSION: Session = Session(*b"SESSION001");
+
+/// The file of a closed journal with the message `AB`.
+const CLOSED: &[u8] = b"MOLDJNL3SESSION001\x01\x00\x00\x02AB\x01\x01\x00";
+
+const FIRST: &[u8] = b"SESSION001\0\0\0\0\0\0\0\x01\0\x01\0\x02AB";
+
+type InMemory = DurablePublisher<MemoryStorage>;
+
+// A new session in memory.
+fn start(alloc: Global, storage: MemoryStorage) -> Result<InMemory, Fail> {
+    let durable = DurableJournal::create(alloc, SESSION, 42, storage)?;
+    let journal = Journal::new(alloc, SESSION, 42);
+    Ok(DurablePublisher::resume(alloc, journal, durable, 64)?)
+}
+
+fn same_datagram(rt: &impl Abort, found: Option<&[u8]>, wanted: Option<&[u8]>) {
+    assert!(rt; found == wanted, "another datagram");
+}
+
+fn publish_one(rt: &impl Abort, publisher: &mut InMemory) -> Result<(), Fail> {
+    same_number(rt, publisher.append(b"AB")?, 1);
+    same_datagram(rt, publisher.next_datagram(), None);
+    let first = b"SESSION001\0\0\0\0\0\0\0\x01\0\0".as_slice();
+    same_datagram(rt, publisher.heartbeat(), Some(first));
+    publisher.commit()?;
+    same_datagram(rt, publisher.next_datagram(), Some(FIRST));
+    same_datagram(rt, publisher.next_datagram(), None);
+    let second = b"SESSION001\0\0\0\0\0\0\0\x02\0\0".as_slice();
+    same_datagram(rt, publisher.heartbeat(), Some(second));
+    Ok(())
+}
+
+fn close(rt: &impl Abort, publisher: &mut InMemory) -> Result<(), Fail> {
+    same_datagram(rt, publisher.end(), None);
+    publisher.close()?;
+    same_datagram(rt, publisher.heartbeat(), None);
+    let end = b"SESSION001\0\0\0\0\0\0\0\x02\xff\xff".as_slice();
+    same_datagram(rt, publisher.end(), Some(end));
+    Ok(())
+}
+
+/// A message is sent only after it was committed, and an end packet only after the closing was.
+#[test]
+fn a_message_is_sent_after_its_commit(rt: HostRuntime) -> Result<(), Fail> {
+    let mut publisher = start(rt.alloc(), MemoryStorage::new(rt.alloc()))?;
+    publish_one(&rt, &mut publisher)?;
+    close(&rt, &mut publisher)?;
+    assert!(rt; publisher.into_storage().bytes() == CLOSED, "other bytes");
+    Ok(())
+}
+
+// Appends a message. If an allocation fails, the publisher is as before, and the message is appended again.
+fn append_again(rt: &impl Abort, publisher: &mut InMemory) -> Result<u64, WaitingError> {
+    match publisher.append(b"AB") {
+        Err(WaitingError::Append(AppendError::Memory)) => {
+            same_number(rt, publisher.unsent(), 0);
+            publisher.append(b"AB")
+        }
+        appended => appended,
+    }
+}
+
+#[test]
+fn out_of_memory_appends_no_message(rt: HostRuntime) -> Result<(), Fail> {
+    let mut publisher = start(rt.alloc(), MemoryStorage::new(rt.alloc()))?;
+    same_number(&rt, append_again(&rt, &mut publisher)?, 1);
+    Ok(())
+}
+
+/// The first sync of the commit fails, which is call 8 of the storage.
+#[test]
+fn a_message_whose_commit_failed_is_not_sent(rt: HostRuntime) -> Result<(), Fail> {
+    let mut storage = MemoryStorage::new(rt.alloc());
+    storage.fail_at(8);
+    let mut publisher = start(rt.alloc(), storage)?;
+    publisher.append(b"AB")?;
+    assert!(rt; publisher.commit() == Err(CommitError::Write));
+    same_datagram(&rt, publisher.next_datagram(), None);
+    assert!(rt; publisher.commit() == Err(CommitError::Broken));
+    assert!(rt; publisher.close() == Err(CloseError::Unsent(Unsent { count: 1 })));
+    Ok(())
+}
