@@ -8,7 +8,7 @@ _mold_options() {
     pack) printf '%s ' --session --limit --journal --blocks --end-at-empty ;;
     sim) printf '%s ' --session --limit --server-limit --window --receivers --burst ;;
     publish) printf '%s ' --session --limit --a --b --journal --beats --ends --blocks --end-at-empty ;;
-    serve) printf '%s ' --journal --limit --burst --bind --turns --live ;;
+    serve) printf '%s ' --journal --follow --limit --burst --bind --turns --live ;;
     listen) printf '%s ' --session --next --window --a --b --server --burst --turns --live --report --blocks \
         --end-at-empty ;;
     receive) printf '%s ' --session --learn --next --from-now --a --b --source-a --source-b --server --window \
@@ -16,7 +16,7 @@ _mold_options() {
     loop) printf '%s ' --session --limit --server-limit --window --burst --drop-a --drop-b --turns --report \
         --blocks --end-at-empty ;;
     upgrade) printf '%s ' --journal --to --close ;;
-    dump) printf '%s ' --journal --from --count --blocks --end-at-empty ;;
+    dump) printf '%s ' --journal --follow --from --count --blocks --end-at-empty ;;
     esac
     printf '%s' --help
 }
@@ -55,7 +55,7 @@ _mold() {
         compopt -o nospace 2>/dev/null
         _mold_words '127.0.0.1: 0.0.0.0:' "$word"
         ;;
-    show:--request | upgrade:--close | *:--live | *:--report | *:--learn | *:--from-now)
+    show:--request | upgrade:--close | *:--live | *:--follow | *:--report | *:--learn | *:--from-now)
         _mold_words "$(_mold_options "$command")" "$word"
         ;;
     *:--help) ;;

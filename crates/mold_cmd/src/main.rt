@@ -8,7 +8,7 @@ use mold_commands::{
 };
 use mold_devices::{CommandFault, FromRead, IntoWrite, NewFile};
 use mold_loop::run_loop;
-use mold_sockets::{run_listen, run_publish, run_receive, run_serve};
+use mold_sockets::{run_follow_dump, run_listen, run_publish, run_receive, run_serve};
 use mold_wiring::{ProgramFault, exit_code, flushed, print_fault};
 use mold_words::{DumpOrder, Order, PackJournalOrder, UpgradeOrder, UsageFault, read_words};
 use std::fs::File;
@@ -109,8 +109,13 @@ fn upgrade_files(rt: &HostRuntime, order: &UpgradeOrder) -> Result<u8, CommandFa
 }
 
 // Prints the messages of a journal file to standard output, which is flushed once. If these are blocks, a refusal goes
-// to standard error.
+// to standard error. If the order asks to follow a file of version 3, its messages are printed as they are added.
 fn run_dump(rt: &HostRuntime, order: &DumpOrder) -> Result<u8, CommandFault> {
+    if order.follow {
+        if let Some(status) = run_follow_dump(rt, order)? {
+            return Ok(status);
+        }
+    }
     let Ok(file) = File::open(rt, order.journal.as_str()) else {
         return Err(CommandFault::Read);
     };

@@ -87,18 +87,18 @@ line_told (Some (File (BlockCut number))) told = refl
 line_told (Some (File (CountDiffers count found))) told = refl
 line_told (Some (File (Damaged number))) told = refl
 
-errors_told : (format : MessageFormat) (ended : Option DumpFault) → IsTold ended →
+pub errors_told : (format : MessageFormat) (ended : Option DumpFault) → IsTold ended →
     ended_errors format ended ≡ fault_text format ended
 errors_told Lines ended told = refl
 errors_told Blocks ended told = line_told ended told
 errors_told BlocksToEmpty ended told = line_told ended told
 
-no_text : (format : MessageFormat) → ended_text format None ≡ []
+pub no_text : (format : MessageFormat) → ended_text format None ≡ []
 no_text Lines = refl
 no_text Blocks = refl
 no_text BlocksToEmpty = refl
 
-last_told : (format : MessageFormat) (fault : DumpFault) (ends : Bool) → IsTold (Some fault) →
+pub last_told : (format : MessageFormat) (fault : DumpFault) (ends : Bool) → IsTold (Some fault) →
     last_text format (Some fault) ends ≡ ended_text format (Some fault)
 last_told Lines fault ends told = sym (line_told (Some fault) told)
 last_told Blocks fault ends told = refl

@@ -1,4 +1,5 @@
 pub mod Dump
+pub mod Listed
 pub mod Pack
 pub mod PackJournal
 pub mod Packets

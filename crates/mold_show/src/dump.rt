@@ -27,8 +27,8 @@ use mold_session::{FileError, JournalReader};
 use mold_text::{Word, push_line};
 use std::alloc::{AllocError, Global};
 
-// Whether the message that follows `before` others is asked for.
-fn is_dumped(options: DumpOptions, before: u64) -> bool
+/// Whether the message that follows `before` others is asked for.
+pub(crate) fn is_dumped(options: DumpOptions, before: u64) -> bool
     ensures { result ≡ is_dumped options before }
 {
     let skipped = options.from.saturating_sub(1);
@@ -42,8 +42,8 @@ fn is_to_last(options: DumpOptions, total: u64) -> bool
     total.saturating_sub(options.from.saturating_sub(1)) <= options.count
 }
 
-// Whether the message cannot be printed: it is empty, and an empty block would mark the end.
-fn is_unprintable(format: MessageFormat, message: &[u8]) -> bool
+/// Whether the message cannot be printed: it is empty, and an empty block would mark the end.
+pub(crate) fn is_unprintable(format: MessageFormat, message: &[u8]) -> bool
     ensures { result ≡ has_unprintable format (message.now ∷ []) }
 {
     match format {
@@ -80,8 +80,12 @@ fn push_text(text: &mut Vec<u8>, format: MessageFormat, message: &[u8]) -> Resul
     }
 }
 
-// Appends a message in the format. If an allocation fails, which is the only error, the text is unchanged.
-fn push_message(text: &mut Vec<u8>, format: MessageFormat, message: &[u8]) -> Result<(), FileError>
+/// Appends a message in the format. If an allocation fails, which is the only error, the text is unchanged.
+pub(crate) fn push_message(
+    text: &mut Vec<u8>,
+    format: MessageFormat,
+    message: &[u8],
+) -> Result<(), FileError>
     ensures message { OnOk result (text.new.items ≡ text.old.items ++ message_text format message.now) }
     ensures kept { OnErr result (text.new.items ≡ text.old.items) }
     ensures fault { IfErr result (λ error. error ≡ FileError.Memory) }
@@ -94,9 +98,9 @@ fn push_message(text: &mut Vec<u8>, format: MessageFormat, message: &[u8]) -> Re
     Ok(())
 }
 
-// Appends the mark of the end if a session of `total` messages is dumped to its end. If an allocation fails, which is
-// the only error, the text is unchanged.
-fn push_end(
+/// Appends the mark of the end if a session of `total` messages is dumped to its end. If an allocation fails, which is
+/// the only error, the text is unchanged.
+pub fn push_end(
     text: &mut Vec<u8>,
     options: DumpOptions,
     closed: bool,
@@ -311,9 +315,10 @@ fn end_blocks<K: Sink, E: Sink>(
     end_lines(text, ended, errors)
 }
 
-// Sends the text, and reports the fault of the dump, if there is one: after the lines, or among the errors if the
-// output has blocks. Returns the status, or the fault that ended reading.
-fn end_dump<K: Sink, E: Sink>(
+/// Sends the text, and reports the fault of the dump, if there is one: after the lines, or among the errors if the
+/// output has blocks. Returns the status, which is 0 without a fault and otherwise 2. If the fault is that a read or an
+/// allocation failed, it reports nothing and returns that fault.
+pub fn end_dump<K: Sink, E: Sink>(
     text: &mut Vec<u8>,
     ended: Option<DumpFault>,
     format: MessageFormat,

@@ -11,7 +11,7 @@ use std::alloc::AllocError;
 
 /// Why a dump does not print all messages that it was asked for.
 #[derive(Clone, Copy, Debug, PartialEq, Eq)]
-pub(crate) enum DumpFault {
+pub enum DumpFault {
     /// The message is empty, and an empty block would mark the end. `number` is its sequence number.
     Empty { number: u64 },
     /// The file is not a journal, or it can't be read.

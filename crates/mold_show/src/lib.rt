@@ -6,14 +6,17 @@ mod dump;
 mod dump_fault;
 mod dump_options;
 pub mod laws;
+mod listed;
 mod pack;
 mod pack_journal;
 mod pack_options;
 mod save_outcome;
 mod show;
 
-pub use dump::dump_file;
+pub use dump::{dump_file, end_dump, push_end};
+pub use dump_fault::DumpFault;
 pub use dump_options::DumpOptions;
+pub use listed::push_listed;
 pub use pack::Pack;
 pub use pack_journal::pack_into_journal;
 pub use pack_options::PackOptions;

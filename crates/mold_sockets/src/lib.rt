@@ -1,10 +1,13 @@
-//! The commands `publish`, `serve`, `listen` and `receive` over UDP sockets. This crate only opens the sockets; the loops that
-//! run over them are proved for any ports.
+//! The commands `publish`, `serve`, `listen` and `receive` over UDP sockets, and `dump --follow`. This crate only opens
+//! the sockets and the files; the loops that run over them are proved for any ports and files.
 #![tactic(auto)]
 
+mod following;
 mod options;
 mod receiving;
 mod sockets;
+mod streams;
 
+pub use following::run_follow_dump;
 pub use receiving::run_receive;
 pub use sockets::{run_listen, run_publish, run_serve};

@@ -1,6 +1,7 @@
 //! The options of the loops over sockets, from the parsed command lines.
 
-ghost use Rattle.std.specs.Prelude.{◌≡◌};
+ghost use Rattle.std.specs.Prelude.{◌≡◌, ◌-◌, ◌^◌};
+ghost use Rattle.std.specs.Option.{option_map_or};
 ghost use Rattle.mold_wiring.specs.Addresses.{IsPeerOf};
 
 use mold_listen::ListenOptions;
@@ -41,9 +42,12 @@ pub(crate) fn publish_options(order: &PublishOrder) -> PublishOptions<SocketAddr
     }
 }
 
-/// Returns the number of turns that the server makes.
+/// Returns the number of turns that the server makes. Without a bound it is `u64::MAX`, which no server reaches.
 pub(crate) fn serve_turns(order: &ServeOrder) -> u64
-    ensures { result ≡ order.now.turns }
+    ensures { result ≡ option_map_or (λ turns. turns) order.now.turns (2 ^ 64 - 1) }
 {
-    u64::from(order.turns)
+    match order.turns {
+        Some(turns) => u64::from(turns),
+        None => u64::MAX,
+    }
 }

@@ -5,21 +5,22 @@ ghost use Rattle.std.specs.Prelude.{◌≡◌, ◌-◌};
 ghost use Rattle.mold_input.specs.Formats.{entries_of, kind_of};
 ghost use Rattle.mold_wiring.specs.Addresses.{IsSocketOf};
 
+use crate::following::{open_served, serve_followed};
 use crate::options::{listen_options, publish_options, serve_turns};
+use crate::streams::{standard_output, tell_refused};
 use mold_devices::{CommandFault, FromRead, IntoWrite, NewFile};
 use mold_input::{BlocksToEmpty, HexLines, MessageBlocks, MessageFormat, MessageReader};
 use mold_listen::{ListenPorts, listen};
 use mold_ports::UdpPort;
 use mold_send::{PublishDevices, publish};
 use mold_serve::serve_loop;
-use mold_session::{FileError, Journal};
+use mold_session::Journal;
 use mold_wiring::{
     ProgramFault, flushed, load_journal, make_arbiter, make_publisher, make_server, open_port,
-    print_file_refusal,
 };
 use mold_words::{Address, ListenOrder, PublishOrder, ServeOrder};
 use std::fs::File;
-use std::io::{Stdout, Write};
+use std::io::Write;
 
 /// An address at which the system chooses the port, on every address of the machine.
 const ANY: Address = Address {
@@ -27,25 +28,14 @@ const ANY: Address = Address {
     port: 0,
 };
 
-// Returns standard output as a sink. If `live` is set, text is written as soon as it is available.
-fn standard_output(rt: &HostRuntime, live: bool) -> IntoWrite<Stdout> {
-    if live {
-        IntoWrite::live(rt.stdout())
-    } else {
-        IntoWrite::new(rt.stdout())
-    }
-}
-
-// Prints on standard output why a file is not a journal.
-fn tell_refused(rt: &HostRuntime, error: FileError) -> Result<u8, CommandFault> {
-    let mut sink = IntoWrite::new(rt.stdout());
-    let outcome = print_file_refusal(rt.alloc(), error, &mut sink);
-    flushed(outcome, sink.into_inner().flush())
-}
-
-/// Serves a journal over a port, which is opened after the journal is loaded. If the file cannot be opened, the fault
-/// is `Read`.
+/// Serves a journal over a port, which is opened after the journal is loaded. If the order asks to follow a file of
+/// version 3, new records are read while it serves. If the file cannot be opened, the fault is `Read`.
 pub fn run_serve(rt: &HostRuntime, order: &ServeOrder) -> Result<u8, ProgramFault> {
+    if order.follow {
+        if let Some(follower) = open_served(rt, order)? {
+            return serve_followed(rt, order, follower);
+        }
+    }
     let Ok(file) = File::open(rt, order.journal.as_str()) else {
         return Err(ProgramFault::Command(CommandFault::Read));
     };

@@ -1,12 +1,14 @@
 //! The parts of the command `serve`: the journal, which is loaded from a file, and the server.
 
 ghost use Rattle.mold_wire.specs.declared.limits.TheConstants.{MESSAGE_OVERHEAD};
-ghost use Rattle.std.specs.Prelude.{◌≡◌, ◌-◌, IfErr, IfOk, IfSome};
+ghost use Rattle.std.specs.Prelude.{◌≡◌, ◌-◌, ℕ, IfErr, IfOk, IfSome, List, Option};
 ghost use Rattle.std.specs.Io.KnownBytes.{Appends};
 ghost use Rattle.mold_devices.specs.Devices.{AppendsPrefix};
 ghost use Rattle.mold_refusals.specs.Words.{file_fault_words};
 ghost use Rattle.mold_text.specs.Text.{refused_line};
 ghost use Rattle.mold_devices.specs.Faults.{CountsSink};
+ghost use Rattle.mold_session.specs.FileFault.{JournalFault};
+ghost use Rattle.mold_session.specs.Loading.{CountsLoadFault, Refuses};
 ghost use Rattle.mold_wiring.specs.File.{CountsSource, IsAtFault, SpellsFile};
 ghost use Rattle.mold_wiring.specs.Wiring.{server_of};
 
@@ -16,6 +18,19 @@ use mold_refusals::push_file_refusal;
 use mold_session::{FileError, Journal, Server};
 use mold_words::ServeOrder;
 use std::alloc::{AllocError, Global};
+
+// Returns the error of a file, or the fault if a read or an allocation failed.
+fn refusal_of(error: FileError) -> Result<FileError, CommandFault>
+    ensures refused { (most : ℕ) (known : Option (List ℕ)) → Refuses (JournalFault most) known error →
+        IfOk result (IsAtFault most known) }
+    ensures failures { (old new : ℕ) → CountsLoadFault old new error → CountsSource old new result }
+{
+    match error {
+        FileError::Read => Err(CommandFault::Read),
+        FileError::Memory => Err(CommandFault::Memory),
+        _ => Ok(error),
+    }
+}
 
 /// Loads the journal from a file, or returns why the file is not a journal. Its messages must fit packets of the
 /// order's limit. A failed read and a failed allocation are faults, not file errors.
@@ -33,9 +48,10 @@ pub fn load_journal<S: Source>(
 {
     match Journal::load(alloc, longest_message(order.limit), source) {
         Ok(journal) => Ok(Ok(journal)),
-        Err(FileError::Read) => Err(CommandFault::Read),
-        Err(FileError::Memory) => Err(CommandFault::Memory),
-        Err(error) => Ok(Err(error)),
+        Err(error) => match refusal_of(error) {
+            Ok(error) => Ok(Err(error)),
+            Err(fault) => Err(fault),
+        },
     }
 }
 

@@ -46,14 +46,16 @@ pub record PublishArguments : Type 0 where
 pub record ServeArguments : Type 0 where
   -- The name of the journal file.
   pub journal : Text
+  -- Whether new records of the file are read while requests are answered.
+  pub follow : Bool
   -- The maximum length of a response, in bytes.
   pub limit : ℕ
   -- The maximum number of responses to a request.
   pub burst : ℕ
   -- The address that receives requests.
   pub bind : HostPort
-  -- The number of turns, each of which makes one receive.
-  pub turns : ℕ
+  -- The number of turns, each of which makes one receive. With `None` it does not end.
+  pub turns : Option ℕ
   -- Whether text is written at the end of each turn.
   pub live : Bool
 
@@ -154,6 +156,8 @@ pub record LoopArguments : Type 0 where
 pub record DumpArguments : Type 0 where
   -- The name of the journal file.
   pub journal : Text
+  -- Whether messages are printed as they are added to the file.
+  pub follow : Bool
   -- The sequence number of the first message.
   pub from : ℕ
   -- The maximum number of messages.
@@ -227,6 +231,7 @@ view (Publish order) = publish_wanted (record {
 })
 view (Serve order) = serve_wanted (record {
   journal = string_bytes order.journal;
+  follow = order.follow;
   limit = order.limit;
   burst = order.burst;
   bind = address_view order.bind;
@@ -285,6 +290,7 @@ view (Loop order) = loop_wanted (record {
 view (Upgrade order) = upgrade_wanted (string_bytes order.journal) (string_bytes order.to) order.close
 view (Dump order) = dump_wanted (record {
   journal = string_bytes order.journal;
+  follow = order.follow;
   from = order.from;
   count = order.count;
   output = order.output;

@@ -61,6 +61,19 @@ burst_in rows = number_in (codes "burst") 1 1 MAX_BURST rows
 abbrev pub turns_in : List Row → Option ℕ
 turns_in rows = number_in (codes "turns") DEFAULT_TURNS 1 MAX_TURNS rows
 
+-- Whether new records of the journal file are read while the command runs.
+abbrev pub follow_in : List Row → Bool
+follow_in rows = flag_in (codes "follow") rows
+
+-- The number of turns of a server. `--turns` is not needed with `--follow`, and without it there is no bound then.
+abbrev pub bound_of : Bool → Option Text → Option (Option ℕ)
+bound_of true None = Some None
+bound_of follows text = option_map Some (number_or DEFAULT_TURNS 1 MAX_TURNS text)
+
+-- The number of turns of a server, which is `None` if it does not end.
+unfoldable pub bound_in : List Row → Option (Option ℕ)
+bound_in rows = bound_of (follow_in rows) (first_of (codes "turns") rows)
+
 -- Whether text is written at the end of each turn.
 abbrev pub live_in : List Row → Bool
 live_in rows = flag_in (codes "live") rows
@@ -209,13 +222,14 @@ serve_of rows =
     (λ bind. option_and_then
     (λ turns. Some (serve_wanted (record {
       journal = journal;
+      follow = follow_in rows;
       limit = limit;
       burst = burst;
       bind = bind;
       turns = turns;
       live = live_in rows;
     })))
-    (turns_in rows))
+    (bound_in rows))
     (address_in (codes "bind") rows))
     (burst_in rows))
     (limit_in (codes "limit") rows))
@@ -422,7 +436,13 @@ dump_of rows =
     (λ journal. option_and_then
     (λ from. option_and_then
     (λ count. option_and_then
-    (λ output. Some (dump_wanted (record { journal = journal; from = from; count = count; output = output })))
+    (λ output. Some (dump_wanted (record {
+      journal = journal;
+      follow = follow_in rows;
+      from = from;
+      count = count;
+      output = output;
+    })))
     (format_in rows))
     (number_in (codes "count") MAX_NUMBER 0 MAX_NUMBER rows))
     (number_in (codes "from") 1 1 MAX_NUMBER rows))

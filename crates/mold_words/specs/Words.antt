@@ -30,7 +30,7 @@ first_commands =
     )
     ∷ (
       codes "serve",
-      (codes "journal", Required) ∷ (codes "limit", Optional) ∷ (codes "burst", Optional)
+      (codes "journal", Required) ∷ (codes "follow", Flag) ∷ (codes "limit", Optional) ∷ (codes "burst", Optional)
           ∷ (codes "bind", Required) ∷ (codes "turns", Optional) ∷ (codes "live", Flag) ∷ [],
     )
     ∷ (
@@ -64,7 +64,7 @@ last_commands = (
     ∷ (codes "upgrade", (codes "journal", Required) ∷ (codes "to", Required) ∷ (codes "close", Flag) ∷ [])
     ∷ (
       codes "dump",
-      (codes "journal", Required) ∷ (codes "from", Optional) ∷ (codes "count", Optional)
+      (codes "journal", Required) ∷ (codes "follow", Flag) ∷ (codes "from", Optional) ∷ (codes "count", Optional)
           ∷ (codes "blocks", Flag) ∷ (codes "end-at-empty", Flag) ∷ [],
     )
     ∷ []

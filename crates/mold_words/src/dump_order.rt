@@ -10,6 +10,8 @@ use mold_input::MessageFormat;
 pub struct DumpOrder {
     /// The name of the journal file.
     pub journal: String,
+    /// Whether messages are printed as another process adds them to the file.
+    pub follow: bool,
     /// The sequence number of the first message that is printed, 1 to `MAX_NUMBER`.
     pub from: u64,
     /// The maximum number of messages that are printed. With `MAX_NUMBER` all messages from `from` on are printed,

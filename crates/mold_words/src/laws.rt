@@ -141,27 +141,53 @@ pub fn publish_taken_law()
 {}
 
 /// `serve --journal J --bind ..` is accepted, and asks to respond from the journal in `J` and to make 1,000 receives. A
-/// request has one response, of up to 1,400 bytes. `--live` asks to write text at the end of each turn.
+/// request has one response, of up to 1,400 bytes. `--live` asks to write text at the end of each turn. `--follow` asks
+/// to read new records, without end unless `--turns` is given.
 pub fn serve_taken_law()
     ensures usual { Say
         (codes "serve" ∷ codes "--journal" ∷ codes "J" ∷ codes "--bind" ∷ codes "0.0.0.0:65535" ∷ [])
         (serve_wanted (record {
           journal = codes "J";
+          follow = false;
           limit = 1400;
           burst = 1;
           bind = (0 ∷ 0 ∷ 0 ∷ 0 ∷ [], 65535);
-          turns = 1000;
+          turns = Some 1000;
           live = false;
         })) }
     ensures live { Say
         (codes "serve" ∷ codes "--live" ∷ codes "--journal" ∷ codes "J" ∷ codes "--bind" ∷ codes "0.0.0.0:0" ∷ [])
         (serve_wanted (record {
           journal = codes "J";
+          follow = false;
           limit = 1400;
           burst = 1;
           bind = (0 ∷ 0 ∷ 0 ∷ 0 ∷ [], 0);
-          turns = 1000;
+          turns = Some 1000;
           live = true;
+        })) }
+    ensures follow { Say
+        (codes "serve" ∷ codes "--follow" ∷ codes "--journal" ∷ codes "J" ∷ codes "--bind" ∷ codes "0.0.0.0:0" ∷ [])
+        (serve_wanted (record {
+          journal = codes "J";
+          follow = true;
+          limit = 1400;
+          burst = 1;
+          bind = (0 ∷ 0 ∷ 0 ∷ 0 ∷ [], 0);
+          turns = None;
+          live = false;
+        })) }
+    ensures bounded { Say
+        (codes "serve" ∷ codes "--journal" ∷ codes "J" ∷ codes "--bind" ∷ codes "0.0.0.0:0" ∷ codes "--turns"
+        ∷ codes "7" ∷ codes "--follow" ∷ [])
+        (serve_wanted (record {
+          journal = codes "J";
+          follow = true;
+          limit = 1400;
+          burst = 1;
+          bind = (0 ∷ 0 ∷ 0 ∷ 0 ∷ [], 0);
+          turns = Some 7;
+          live = false;
         })) }
 {}
 
@@ -416,23 +442,56 @@ pub fn upgrade_taken_law()
 /// `dump --journal J` is accepted, and asks to print all messages of the journal in `J` from message 1 on, as lines.
 /// `--from` sets another first message, and `--count` a maximum number. `--from 0` is refused, and so is a count that
 /// does not fit 64 bits. `--blocks` asks to print blocks, and together with `--end-at-empty` to print blocks with an
-/// empty block as the mark of the end. `--end-at-empty` without `--blocks` is refused.
+/// empty block as the mark of the end. `--end-at-empty` without `--blocks` is refused. `--follow` asks to print messages
+/// as they are added.
 pub fn dump_taken_law()
     ensures usual { Say (codes "dump" ∷ codes "--journal" ∷ codes "J" ∷ [])
-        (dump_wanted (record { journal = codes "J"; from = 1; count = 18446744073709551615; output = Lines })) }
+        (dump_wanted (record {
+          journal = codes "J";
+          follow = false;
+          from = 1;
+          count = 18446744073709551615;
+          output = Lines;
+        })) }
     ensures given { Say
         (codes "dump" ∷ codes "--count" ∷ codes "0" ∷ codes "--journal" ∷ codes "J"
         ∷ codes "--from" ∷ codes "18446744073709551615" ∷ [])
-        (dump_wanted (record { journal = codes "J"; from = 18446744073709551615; count = 0; output = Lines })) }
+        (dump_wanted (record {
+          journal = codes "J";
+          follow = false;
+          from = 18446744073709551615;
+          count = 0;
+          output = Lines;
+        })) }
     ensures zero { order_of
         (codes "dump" ∷ codes "--journal" ∷ codes "J" ∷ codes "--from" ∷ codes "0" ∷ []) ≡ None }
     ensures above { order_of
         (codes "dump" ∷ codes "--journal" ∷ codes "J" ∷ codes "--count" ∷ codes "18446744073709551616" ∷ []) ≡ None }
     ensures blocks { Say (codes "dump" ∷ codes "--blocks" ∷ codes "--journal" ∷ codes "J" ∷ [])
-        (dump_wanted (record { journal = codes "J"; from = 1; count = 18446744073709551615; output = Blocks })) }
+        (dump_wanted (record {
+          journal = codes "J";
+          follow = false;
+          from = 1;
+          count = 18446744073709551615;
+          output = Blocks;
+        })) }
     ensures to_empty { Say
         (codes "dump" ∷ codes "--end-at-empty" ∷ codes "--journal" ∷ codes "J" ∷ codes "--blocks" ∷ [])
-        (dump_wanted (record { journal = codes "J"; from = 1; count = 18446744073709551615; output = BlocksToEmpty })) }
+        (dump_wanted (record {
+          journal = codes "J";
+          follow = false;
+          from = 1;
+          count = 18446744073709551615;
+          output = BlocksToEmpty;
+        })) }
+    ensures follow { Say (codes "dump" ∷ codes "--journal" ∷ codes "J" ∷ codes "--follow" ∷ [])
+        (dump_wanted (record {
+          journal = codes "J";
+          follow = true;
+          from = 1;
+          count = 18446744073709551615;
+          output = Lines;
+        })) }
     ensures no_blocks { order_of
         (codes "dump" ∷ codes "--journal" ∷ codes "J" ∷ codes "--end-at-empty" ∷ []) ≡ None }
 {}

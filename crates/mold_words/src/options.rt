@@ -1,11 +1,12 @@
 //! Reads the values of a command's options from the matches of a parse.
 
-ghost use Rattle.std.specs.Prelude.{◌≡◌, ◌≤◌, IfOk, MatchResult, None, Some, map, option_map, string_bytes, true};
+ghost use Rattle.std.specs.Prelude.{◌≡◌, ◌≤◌, IfOk, IfSome, MatchResult, None, Some, map, option_map, string_bytes};
+ghost use Rattle.std.specs.Prelude.{true};
 ghost use Rattle.std.specs.List.{list_all};
 ghost use Rattle.clap.specs.Words.{all_of, first_of, found_of, rows_of};
 ghost use Rattle.mold_words.specs.NoOrders.{LacksOrder, LacksValue};
-ghost use Rattle.mold_words.specs.Orders.{address_in, burst_in, flag_in, format_in, limit_in, limits_in, live_in};
-ghost use Rattle.mold_words.specs.Orders.{number_in, report_in, session_in, turns_in, window_in};
+ghost use Rattle.mold_words.specs.Orders.{address_in, bound_in, burst_in, flag_in, follow_in, format_in, limit_in};
+ghost use Rattle.mold_words.specs.Orders.{limits_in, live_in, number_in, report_in, session_in, turns_in, window_in};
 ghost use Rattle.mold_words.specs.Values.{is_character};
 ghost use Rattle.mold_words.specs.Addresses.{address_view};
 ghost use Rattle.mold_wire.specs.declared.limits.TheConstants.{MAX_BURST, MAX_WINDOW};
@@ -157,6 +158,27 @@ pub(crate) fn turns_in(options: &ArgMatches<'_>) -> Result<u32, NoOrder>
     ensures within { IfOk result (λ number. (1 ≤ number) × (number ≤ 1000000)) }
 {
     Ok(number_in(options, "turns", DEFAULT_TURNS, 1, MAX_TURNS)? as u32)
+}
+
+/// Whether new records of the journal file are read while the command runs.
+pub(crate) fn follow_in(options: &ArgMatches<'_>) -> bool
+    ensures { result ≡ follow_in (rows_of (found_of options.now)) }
+{
+    flag_in(options, "follow")
+}
+
+/// Returns the number of turns of a server, or `None` if it does not end.
+#[tactic(auto, unfolding(crate::specs::Orders::bound_in))]
+pub(crate) fn bound_in(options: &ArgMatches<'_>) -> Result<Option<u32>, NoOrder>
+    ensures value { MatchResult result
+        (λ bound. bound_in (rows_of (found_of options.now)) ≡ Some bound)
+        (LacksValue (bound_in (rows_of (found_of options.now)))) }
+    ensures within { IfOk result (λ bound. IfSome bound (λ number. (1 ≤ number) × (number ≤ 1000000))) }
+{
+    match (follow_in(options), text_in(options, "turns")) {
+        (true, None) => Ok(None),
+        _ => Ok(Some(turns_in(options)?)),
+    }
 }
 
 /// Whether text is written at the end of each turn.

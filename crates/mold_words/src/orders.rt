@@ -13,8 +13,8 @@ use crate::listen_order::ListenOrder;
 use crate::loop_order::LoopOrder;
 use crate::no_order::NoOrder;
 use crate::options::{
-    address_in, burst_in, flag_in, format_in, limit_in, limits_in, live_in, number_in, report_in,
-    required_in, session_in, string_in, text_in, turns_in, window_in,
+    address_in, bound_in, burst_in, flag_in, follow_in, format_in, limit_in, limits_in, live_in,
+    number_in, report_in, required_in, session_in, string_in, text_in, turns_in, window_in,
 };
 use crate::pack_journal_order::PackJournalOrder;
 use crate::pack_order::PackOrder;
@@ -133,6 +133,7 @@ fn dump_order(alloc: Global, options: &ArgMatches<'_>) -> Result<Order, NoOrder>
     let journal = string_in(alloc, options, "journal")?;
     Ok(Order::Dump(DumpOrder {
         journal,
+        follow: follow_in(options),
         from,
         count,
         output,
@@ -209,10 +210,11 @@ fn serve_order(alloc: Global, options: &ArgMatches<'_>) -> Result<Order, NoOrder
     let limit = limit_in(options, "limit")?;
     let burst = burst_in(options)?;
     let bind = address_in(options, "bind")?;
-    let turns = turns_in(options)?;
+    let turns = bound_in(options)?;
     let journal = string_in(alloc, options, "journal")?;
     Ok(Order::Serve(ServeOrder {
         journal,
+        follow: follow_in(options),
         limit,
         burst,
         bind,

@@ -92,6 +92,13 @@ const BURST: OptionRow = OptionRow {
     help: "The maximum number of responses to a request, 1 to 64 [default: 1]",
 };
 
+// Reads new records of the journal file, which another process writes.
+const FOLLOW: OptionRow = OptionRow {
+    name: "follow",
+    kind: Kind::Flag,
+    help: "Read the records of a file in version 3 that another process adds",
+};
+
 // Writes text at the end of each turn, for a reader who follows it.
 const LIVE: OptionRow = OptionRow {
     name: "live",
@@ -257,6 +264,7 @@ pub static FIRST_COMMANDS: [CommandRow; 7] = [
                 kind: Kind::Required,
                 help: "The journal file",
             },
+            FOLLOW,
             LIMIT,
             BURST,
             OptionRow {
@@ -267,7 +275,7 @@ pub static FIRST_COMMANDS: [CommandRow; 7] = [
             OptionRow {
                 name: "turns",
                 kind: Kind::Optional,
-                help: "The number of turns, 1 to 1000000 [default: 1000]\n\
+                help: "The number of turns, 1 to 1000000 [default: 1000, with --follow no bound]\n\
                     A turn is one receive, which waits at most 100 ms",
             },
             LIVE,
@@ -499,6 +507,7 @@ pub static LAST_COMMANDS: [CommandRow; 4] = [
                 kind: Kind::Required,
                 help: "The journal file",
             },
+            FOLLOW,
             OptionRow {
                 name: "from",
                 kind: Kind::Optional,

@@ -251,6 +251,7 @@ const NO_COMMANDS: &[&str] = &[
     "serve --journal J",
     "serve --journal J --bind 127.0.0.1:1 --turns 0",
     "serve --journal J --bind 127.0.0.1:1 --turns 1000001",
+    "serve --journal J --bind 127.0.0.1:1 --follow --turns 0",
     "listen --session A --a 127.0.0.1:1 --b 127.0.0.1:2",
     "serve --journal J --bind 127.0.0.1:1 --report",
     "listen --session A --a 127.0.0.1:1 --b 127.0.0.1:2 --server 127.0.0.1:3 --next 0",
@@ -290,6 +291,7 @@ const NO_COMMANDS: &[&str] = &[
     "dump --journal J --count 18446744073709551616",
     "dump --journal J --end-at-empty",
     "dump --journal J --blocks --blocks",
+    "dump --journal J --follow --follow",
 ];
 
 #[test]

@@ -155,6 +155,7 @@ Usage: mold dump [OPTIONS] --journal <FILE>
 
 Options:
       --journal <FILE>  The journal file
+      --follow          Read the records of a file in version 3 that another process adds
       --from <NUMBER>   The number of the first message, 1 to 18446744073709551615 [default: 1]
       --count <COUNT>   The maximum number of messages, 0 to 18446744073709551615 [default: all]
       --blocks          Print message blocks (BinaryFILE) instead of lines of hexadecimal digits,

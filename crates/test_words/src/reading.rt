@@ -116,9 +116,10 @@ fn expect_publish(rt: &impl Abort, order: &PublishOrder, wanted: &Values<'_>, li
 
 fn expect_serve(rt: &impl Abort, order: &ServeOrder, wanted: &Values<'_>, line: &str) {
     let numbers = [
+        u64::from(order.follow),
         order.limit as u64,
         u64::from(order.burst),
-        u64::from(order.turns),
+        u64::from(order.turns.unwrap_or(0)),
         u64::from(order.live),
     ];
     let found = Values {
@@ -289,7 +290,8 @@ fn expect_order(rt: &impl Abort, order: &Order, wanted: &Values<'_>, line: &str)
             expect_small(rt, "upgrade", b"", &numbers, &texts, wanted, line);
         }
         Order::Dump(order) => {
-            let numbers = [order.from, order.count, number_of(order.output)];
+            let follow = u64::from(order.follow);
+            let numbers = [follow, order.from, order.count, number_of(order.output)];
             let texts = [order.journal.as_str()];
             expect_small(rt, "dump", b"", &numbers, &texts, wanted, line);
         }

@@ -225,20 +225,48 @@ fn arguments_of_publish(rt: HostRuntime) {
     expect_orders(&rt, PUBLISH);
 }
 
-// The limit, the burst, the turns and `--live`.
-const SERVE: &[OrderLine] = &[(
-    "serve --journal J --limit 65507 --burst 64 --bind 0.0.0.0:0 --turns 1000000",
-    Values {
-        command: "serve",
-        session: b"",
-        numbers: &[65507, 64, 1_000_000, 0],
-        addresses: &[Address {
-            host: [0; 4],
-            port: 0,
-        }],
-        texts: &["J"],
-    },
-)];
+// `--follow`, the limit, the burst, the turns and `--live`. The turns are 0 if the server does not end.
+const SERVE: &[OrderLine] = &[
+    (
+        "serve --journal J --limit 65507 --burst 64 --bind 0.0.0.0:0 --turns 1000000",
+        Values {
+            command: "serve",
+            session: b"",
+            numbers: &[0, 65507, 64, 1_000_000, 0],
+            addresses: &[Address {
+                host: [0; 4],
+                port: 0,
+            }],
+            texts: &["J"],
+        },
+    ),
+    (
+        "serve --follow --journal J --bind 0.0.0.0:0",
+        Values {
+            command: "serve",
+            session: b"",
+            numbers: &[1, 1400, 1, 0, 0],
+            addresses: &[Address {
+                host: [0; 4],
+                port: 0,
+            }],
+            texts: &["J"],
+        },
+    ),
+    (
+        "serve --journal J --bind 0.0.0.0:0 --turns 1 --follow --live",
+        Values {
+            command: "serve",
+            session: b"",
+            numbers: &[1, 1400, 1, 1, 1],
+            addresses: &[Address {
+                host: [0; 4],
+                port: 0,
+            }],
+            texts: &["J"],
+        },
+    ),
+];
 
 #[test]
 fn arguments_of_serve(rt: HostRuntime) {
@@ -461,14 +489,14 @@ fn arguments_of_upgrade(rt: HostRuntime) {
     expect_orders(&rt, UPGRADE);
 }
 
-// The first message, the maximum number of messages, and the format of the output.
+// `--follow`, the first message, the maximum number of messages, and the format of the output.
 const DUMP: &[OrderLine] = &[
     (
         "dump --journal J",
         Values {
             command: "dump",
             session: b"",
-            numbers: &[1, u64::MAX, 0],
+            numbers: &[0, 1, u64::MAX, 0],
             addresses: &[],
             texts: &["J"],
         },
@@ -478,7 +506,7 @@ const DUMP: &[OrderLine] = &[
         Values {
             command: "dump",
             session: b"",
-            numbers: &[u64::MAX, 0, 0],
+            numbers: &[0, u64::MAX, 0, 0],
             addresses: &[],
             texts: &["J"],
         },
@@ -488,7 +516,7 @@ const DUMP: &[OrderLine] = &[
         Values {
             command: "dump",
             session: b"",
-            numbers: &[1, u64::MAX, 0],
+            numbers: &[0, 1, u64::MAX, 0],
             addresses: &[],
             texts: &["J"],
         },
@@ -498,17 +526,17 @@ const DUMP: &[OrderLine] = &[
         Values {
             command: "dump",
             session: b"",
-            numbers: &[1, u64::MAX, 1],
+            numbers: &[0, 1, u64::MAX, 1],
             addresses: &[],
             texts: &["J"],
         },
     ),
     (
-        "dump --end-at-empty --journal J --blocks --from 2",
+        "dump --end-at-empty --journal J --blocks --from 2 --follow",
         Values {
             command: "dump",
             session: b"",
-            numbers: &[2, u64::MAX, 2],
+            numbers: &[1, 2, u64::MAX, 2],
             addresses: &[],
             texts: &["J"],
         },

@@ -15,5 +15,6 @@ returns c = record {
   above = refl;
   blocks = (refl, refl);
   to_empty = (refl, refl);
+  follow = (refl, refl);
   no_blocks = refl;
 }

@@ -1,0 +1,3 @@
+pub mod CatchUpLemmas
+pub mod DumpingLemmas
+pub mod ServingLemmas

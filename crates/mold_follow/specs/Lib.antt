@@ -1,0 +1,3 @@
+pub mod FileError
+pub mod Dumping
+pub mod Serving

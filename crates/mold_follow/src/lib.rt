@@ -1,0 +1,15 @@
+//! The commands `dump` and `serve` over a journal file that another process writes.
+#![tactic(auto)]
+
+mod catching_up;
+mod dump_devices;
+mod dumping;
+mod file_error;
+mod looked;
+mod serving;
+
+pub use catching_up::catch_up;
+pub use dump_devices::DumpDevices;
+pub use dumping::follow_dump;
+pub use file_error::device_fault;
+pub use serving::{FollowingServer, follow_serve};

@@ -1,0 +1,130 @@
+//! The commands `serve` and `dump` over a journal file of version 3 that another process writes.
+
+ghost use Rattle.mold_wire.specs.declared.limits.TheConstants.{MESSAGE_OVERHEAD};
+ghost use Rattle.mold_wiring.specs.Addresses.{IsSocketOf};
+ghost use Rattle.std.specs.Prelude.{◌≡◌, ◌-◌, IfOk, IfSome};
+
+use crate::options::serve_turns;
+use crate::streams::{standard_output, tell_refused};
+use mold_devices::{CommandFault, IntoWrite};
+use mold_durable::{FollowedFile, Follower, OpenError};
+use mold_follow::{
+    DumpDevices, FollowingServer, catch_up, device_fault, follow_dump, follow_serve,
+};
+use mold_port_set::UdpPortSet;
+use mold_ports::UdpPort;
+use mold_serve::Tally;
+use mold_session::{FileError, Journal};
+use mold_show::DumpOptions;
+use mold_wire::MAX_MESSAGE;
+use mold_wiring::{ProgramFault, flushed, longest_message, make_server, open_port};
+use mold_words::{DumpOrder, ServeOrder};
+use std::fs::File;
+use std::io::Write;
+
+// Opens the journal in a file of version 3, or returns `None` for any other file. If the file cannot be opened, the
+// fault is `Read`.
+fn open_follower(
+    rt: &HostRuntime,
+    path: &str,
+    max_message: u16,
+) -> Result<Option<Follower<FollowedFile>>, CommandFault>
+    ensures { IfOk result (λ opened. IfSome opened (λ follower. follower.max_message ≡ max_message)) }
+{
+    let Ok(file) = File::open(rt, path) else {
+        return Err(CommandFault::Read);
+    };
+    match Follower::open(rt.alloc(), max_message, FollowedFile::new(file)) {
+        Ok(follower) => Ok(Some(follower)),
+        Err(OpenError::Read) => Err(CommandFault::Read),
+        Err(OpenError::Memory) => Err(CommandFault::Memory),
+        Err(_) => Ok(None),
+    }
+}
+
+/// Opens the journal that the order asks to serve, if its file has version 3. Returns `None` for any other file. If the
+/// file cannot be opened, the fault is `Read`.
+pub(crate) fn open_served(
+    rt: &HostRuntime,
+    order: &ServeOrder,
+) -> Result<Option<Follower<FollowedFile>>, CommandFault>
+    ensures { IfOk result (λ opened. IfSome opened (λ follower.
+        follower.max_message ≡ order.now.limit - MESSAGE_OVERHEAD)) }
+{
+    open_follower(rt, order.journal.as_str(), longest_message(order.limit))
+}
+
+// Ends the command before the port is opened, because of an error of the file.
+fn end_unserved(rt: &HostRuntime, error: FileError) -> Result<u8, CommandFault> {
+    match device_fault(error) {
+        Some(fault) => Err(fault),
+        None => tell_refused(rt, error),
+    }
+}
+
+/// Serves the journal of the follower over a port, which is opened after the records that the file has were read.
+pub(crate) fn serve_followed(
+    rt: &HostRuntime,
+    order: &ServeOrder,
+    follower: Follower<FollowedFile>,
+) -> Result<u8, ProgramFault>
+    requires { follower.max_message ≡ order.now.limit - MESSAGE_OVERHEAD }
+{
+    let mut follower = follower;
+    let mut journal = Journal::new(rt.alloc(), follower.session(), follower.max_message());
+    if let Err(error) = catch_up(&mut follower, &mut journal) {
+        return Ok(end_unserved(rt, error)?);
+    }
+    let port = open_port(rt, order.bind)?;
+    Ok(follow_on(rt, order, follower, journal, port)?)
+}
+
+// Serves the journal over the port, which was opened at the order's address.
+fn follow_on(
+    rt: &HostRuntime,
+    order: &ServeOrder,
+    follower: Follower<FollowedFile>,
+    journal: Journal,
+    port: UdpPort,
+) -> Result<u8, CommandFault>
+    requires bound { IsSocketOf order.now.bind port.bound }
+    requires longest { journal.max_message ≡ order.now.limit - MESSAGE_OVERHEAD }
+{
+    let mut serving = FollowingServer {
+        follower,
+        journal,
+        server: make_server(rt.alloc(), order)?,
+        port,
+        tally: Tally::new(rt.alloc()),
+    };
+    let mut sink = standard_output(rt, order.live);
+    let outcome = follow_serve(rt.alloc(), &mut serving, serve_turns(order), &mut sink);
+    flushed(outcome, sink.into_inner().flush())
+}
+
+/// Prints the messages of the order's journal as another process adds them, each look's text at once. Returns `None` if
+/// the file is not of version 3. If the file cannot be opened, the fault is `Read`.
+pub fn run_follow_dump(rt: &HostRuntime, order: &DumpOrder) -> Result<Option<u8>, CommandFault> {
+    let Some(mut follower) = open_follower(rt, order.journal.as_str(), MAX_MESSAGE)? else {
+        return Ok(None);
+    };
+    let options = DumpOptions {
+        from: order.from,
+        count: order.count,
+        format: order.output,
+    };
+    let mut devices = DumpDevices {
+        clock: UdpPortSet::new(rt),
+        sink: IntoWrite::live(rt.stdout()),
+        errors: IntoWrite::new(rt.stderr()),
+    };
+    let outcome = follow_dump(rt.alloc(), &mut follower, options, u64::MAX, &mut devices);
+    let DumpDevices { sink, errors, .. } = devices;
+    // No dump makes all looks.
+    let outcome = match outcome {
+        Ok(ended) => Ok(ended.unwrap_or(0)),
+        Err(fault) => Err(fault),
+    };
+    let outcome = flushed(outcome, sink.into_inner().flush());
+    Ok(Some(flushed(outcome, errors.into_inner().flush())?))
+}
