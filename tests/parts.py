@@ -63,7 +63,7 @@ WITHOUT_PROGRAM = (
     Part("tests/contracts --check", ("docs/CONTRACTS.md", "crates.txt", "crates/*/src/*", "crates/*/specs/*",
                                      "crates/*/wrong/*", "crates/*/must-fail/*")),
     Part("tests/join", ("mold-join", "crates/mold_words/src/command.rt")),
-    Part("tests/edits-test", ("tests/edits", "tests/libraries.py")),
+    Part("tests/edits-test", ("tests/edits", "tests/edit_files.py", "tests/libraries.py")),
     # Longer runs with other seeds are not part of the gate.
     Part("tests/repair-network gate 200", (), DRIVER),
     # Kills at random moments, a thousand of them, are not part of the gate.
