@@ -1,16 +1,21 @@
 -- What a durable publisher sends, and how its session goes on.
-use Rattle.std.specs.Prelude.{◌≡◌, ◌⊎◌, ℕ, ◌+◌, ◌≤◌, false, true, List, ◌++◌, length, ◌==◌, if◌then◌else◌, Option, None}
-use Rattle.std.specs.Prelude.{unwrap_or}
+use Rattle.std.specs.Prelude.{◌≡◌, ◌⊎◌, ℕ, ◌≤◌, ⊤, false, true, List, ◌++◌, length, ◌==◌, if◌then◌else◌, Option}
+use Rattle.std.specs.Prelude.{None, unwrap_or}
 use Rattle.mold_wire.specs.declared.packet.Packet.{Packet}
 use Rattle.mold_session.specs.Journal.{JournalState, append_refusal}
 use Rattle.mold_session.specs.Publisher.{after_datagram, next_datagram}
 use Rattle.mold_session.specs.declared.error.AppendError.TheVariants.{Memory}
+use Rattle.mold_session.specs.declared.error.FileError.{FileError}
+use Rattle.mold_session.specs.declared.error.FileError.TheVariants as file
 use Rattle.mold_durable.specs.DurableJournal.{DurableState, waiting_refusal}
 use Rattle.mold_durable.specs.Life.{Life, Lives}
+use Rattle.mold_durable.specs.Reading.{IsOfDevice as IsOfStorage}
 use Rattle.mold_durable.specs.declared.error.WaitingError.{WaitingError}
 use Rattle.mold_durable.specs.declared.error.WaitingError.TheVariants.{Append, Broken}
 use Rattle.mold_durable_publisher.specs.Told.{IsLaterFile, IsLife}
 use Rattle.mold_durable_publisher.specs.declared.durable_publisher.DurablePublisher.{DurablePublisher}
+use Rattle.mold_durable_publisher.specs.declared.error.StartError.{StartError}
+use Rattle.mold_durable_publisher.specs.declared.error.StartError.TheVariants as start
 
 -- The journals agree, as far as their states show: in the durable journal no message waits, and the journal in memory
 -- has as many messages as are committed.
@@ -60,3 +65,16 @@ pub record Publishes {S : Type 0} (shows may_leave : S → List ℕ → Type 0) 
   pub left : (bytes : List ℕ) → may_leave publisher.durable.storage bytes → IsLaterFile life bytes
   -- As long as no write has failed, the durable journal has this life. So a crash leaves exactly its messages.
   pub lives : publisher.durable.broken ≡ false → Lives shows may_leave publisher.durable life
+
+-- The error of `Journal::load` is a failed read or a failed allocation, so it does not depend on the bytes.
+abbrev pub IsOfSource : FileError → Type 0
+IsOfSource file.Read = ⊤
+IsOfSource file.Memory = ⊤
+IsOfSource error = ⊥
+
+-- The error is a failed call of the storage or the source, or a failed allocation. So it does not depend on the bytes.
+abbrev pub IsOfDevice : StartError → Type 0
+IsOfDevice (start.Open error) = IsOfStorage error
+IsOfDevice (start.Load error) = IsOfSource error
+IsOfDevice start.Memory = ⊤
+IsOfDevice error = ⊥

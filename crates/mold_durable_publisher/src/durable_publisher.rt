@@ -2,9 +2,11 @@
 
 ghost use Rattle.std.specs.Prelude.{◌≡◌, ◌↔◌, ◌⊎◌, ◌+◌, ◌-◌, ◌++◌, ◌∷◌, [], true, false, ℕ, List, length};
 ghost use Rattle.std.specs.Prelude.{Err, None, Some, IfOk, IfErr, IfSome, IfNone, IsOk, IsTrue, OnOk, OnErr};
+ghost use Rattle.std.specs.List.{AllByRecursion};
 ghost use Rattle.std.specs.Option.{option_copied};
 ghost use Rattle.mold_wire.specs.Packer.{IsLimit};
-ghost use Rattle.mold_session.specs.Journal.{append_refusal};
+ghost use Rattle.mold_wire.specs.declared.limits.TheConstants.{MESSAGE_OVERHEAD};
+ghost use Rattle.mold_session.specs.Journal.{IsWithin as IsWithinLength, append_refusal};
 ghost use Rattle.mold_session.specs.Publisher.{Lends, MayResume, closed as closed_publisher, next_end};
 ghost use Rattle.mold_session.specs.Publisher.{next_heartbeat, published, resumed_publisher};
 ghost use Rattle.mold_durable.specs.DurableJournal.{CountsCommit};
@@ -12,8 +14,8 @@ ghost use Rattle.mold_durable.specs.Life.{IsFileAround, IsFileOf, Life, Lives, M
 ghost use Rattle.mold_durable.specs.Life.Moment.{Append, Close, Commit, Crash};
 ghost use Rattle.mold_durable.specs.Storage.{IsWithin, LeavesOnly};
 ghost use Rattle.mold_durable.specs.declared.error.CommitError.{CommitError};
-ghost use Rattle.mold_durable_publisher.specs.DurablePublisher.{Agrees, IsAppendFault, Publishes, after_committed};
-ghost use Rattle.mold_durable_publisher.specs.DurablePublisher.{next_committed};
+ghost use Rattle.mold_durable_publisher.specs.DurablePublisher.{Agrees, IsAppendFault, IsOfDevice, Publishes};
+ghost use Rattle.mold_durable_publisher.specs.DurablePublisher.{after_committed, next_committed};
 ghost use Rattle.mold_durable_publisher.specs.Told.{IsTold, IsTrueNow};
 ghost use Rattle.mold_durable_publisher.specs.declared.error.CloseError.{CloseError};
 ghost use Rattle.mold_durable_publisher.specs.declared.error.ResumeError.{ResumeError};
@@ -101,6 +103,9 @@ impl<S: Storage + Drop> DurablePublisher<S> {
         ensures resumed { (life : Life) (bytes : List ℕ) → K.left source.old ≡ Some bytes →
             S.shows storage bytes → IsFileOf life bytes → IfOk result (λ publisher.
             Publishes S.shows S.may_leave publisher (after_moment life Crash)) }
+        ensures accepted { (life : Life) (bytes : List ℕ) → K.left source.old ≡ Some bytes →
+            S.shows storage bytes → IsFileOf life bytes → IsLimit limit →
+            AllByRecursion (IsWithinLength (limit - MESSAGE_OVERHEAD)) life.committed → IfErr result IsOfDevice }
         ensures limit { (¬ IsLimit limit) → result ≡ Err StartError.Limit }
         ensures within { result ≡ Err StartError.Limit → ¬ IsLimit limit }
     {
