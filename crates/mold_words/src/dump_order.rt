@@ -6,7 +6,7 @@ ghost use Rattle.mold_wire.specs.declared.limits.TheConstants.{MAX_NUMBER};
 use mold_input::MessageFormat;
 
 /// Which messages of which journal file `dump` prints, and how its output encodes them.
-#[derive(Debug, PartialEq, Eq, Drop)]
+#[derive(Drop)]
 pub struct DumpOrder {
     /// The name of the journal file.
     pub journal: String,

@@ -9,7 +9,7 @@ use crate::address::Address;
 use mold_input::MessageFormat;
 
 /// The session that `listen` receives on two lines, and how.
-#[derive(Clone, Copy, Debug, PartialEq, Eq)]
+#[derive(Clone, Copy)]
 pub struct ListenOrder {
     /// The session's name in characters 20 to 7E (hexadecimal), padded with spaces on the right.
     pub session: [u8; 10],

@@ -9,7 +9,7 @@ use crate::limits::Limits;
 use mold_input::MessageFormat;
 
 /// The session that `loop` publishes and receives in one process, and how.
-#[derive(Clone, Copy, Debug, PartialEq, Eq)]
+#[derive(Clone, Copy)]
 pub struct LoopOrder {
     /// The session's name in characters 20 to 7E (hexadecimal), padded with spaces on the right.
     pub session: [u8; 10],

@@ -3,7 +3,7 @@
 use crate::pack_order::PackOrder;
 
 /// The session whose messages `pack` saves as a journal, and the file.
-#[derive(Debug, PartialEq, Eq, Drop)]
+#[derive(Drop)]
 pub struct PackJournalOrder {
     /// The session, the limit, and the format of the input.
     pub pack: PackOrder,

@@ -9,7 +9,7 @@ use crate::address::Address;
 use mold_input::MessageFormat;
 
 /// The session that `publish` sends on two lines, and how.
-#[derive(Debug, PartialEq, Eq, Drop)]
+#[derive(Drop)]
 pub struct PublishOrder {
     /// The session's name in characters 20 to 7E (hexadecimal), padded with spaces on the right.
     pub session: [u8; 10],

@@ -11,7 +11,7 @@ use crate::address::Address;
 use crate::line_port::LinePort;
 
 /// The session that `receive` receives on one or two lines, and how it repairs gaps.
-#[derive(Debug, PartialEq, Eq, Drop)]
+#[derive(Drop)]
 pub struct ReceiveOrder {
     /// The session's name in characters 20 to 7E (hexadecimal), padded with spaces on the right. `None` asks to receive
     /// the session of the first data packet or heartbeat.

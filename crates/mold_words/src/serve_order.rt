@@ -8,7 +8,7 @@ ghost use Rattle.mold_wire.specs.declared.limits.TheConstants.{MAX_LIMIT, MIN_LI
 use crate::address::Address;
 
 /// The journal that `serve` responds from, and how.
-#[derive(Debug, PartialEq, Eq, Drop)]
+#[derive(Drop)]
 pub struct ServeOrder {
     /// The name of the journal file.
     pub journal: String,

@@ -8,7 +8,7 @@ ghost use Rattle.mold_wire.specs.declared.limits.TheConstants.{MAX_BURST, MAX_WI
 use crate::limits::Limits;
 
 /// The session that `sim` runs, its server and its receivers.
-#[derive(Clone, Copy, Debug, PartialEq, Eq)]
+#[derive(Clone, Copy)]
 pub struct SimOrder {
     /// The session's name in characters 20 to 7E (hexadecimal), padded with spaces on the right.
     pub session: [u8; 10],

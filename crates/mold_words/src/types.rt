@@ -12,7 +12,7 @@ use crate::sim_order::SimOrder;
 use crate::upgrade_order::UpgradeOrder;
 
 /// The parsed command line. There is one variant for each command, and two for `check` and for `pack`.
-#[derive(Debug, PartialEq, Eq, Drop)]
+#[derive(Drop)]
 pub enum Order {
     /// Prints the packets on standard input, each given as a line of hexadecimal digits.
     Show {

@@ -1,7 +1,7 @@
 //! The order of `mold upgrade`.
 
 /// The journal files that `upgrade` reads and writes.
-#[derive(Debug, PartialEq, Eq, Drop)]
+#[derive(Drop)]
 pub struct UpgradeOrder {
     /// The name of the file that is read.
     pub journal: String,
