@@ -20,6 +20,7 @@ use Rattle.mold_turns.proofs.PrintingLemmas.{front_none}
 use Rattle.mold_turns.specs.Outgoing.{OutgoingState, note_text}
 use Rattle.mold_turns.specs.Runs.{Begins}
 use Rattle.mold_wire.specs.Request.{request_spelling}
+use Rattle.mold_receive.specs.Receiving.{AreAsking, HasAsked, IsAsking}
 use Rattle.mold_receive.specs.Receiving.{Call, Follow, HasBroken, HasCalled, HasEnded, HasFailed, HasReceived, HasRun, HasWritten, ReceiverState, all_sent, all_taken, all_text}
 use Rattle.mold_receive.specs.Receiving.{call_text, datagram_of, datagram_to, format_for, last_line, last_status, lost_text, taken_by}
 use Rattle.mold_port_set.specs.PortSet.{Given, PortSetState, Sent, given_by, sent_by}
@@ -125,14 +126,14 @@ gave_some {E = E} old new port at result found count buffer gave is some same =
     ∙ ap (λ (r : Result (Option ℕ) E). old ++ given_by port r buffer) (is ∙ ap (λ (f : Option ℕ). Ok f) some)
     ∙ ap (λ (p : ℕ). old ++ record { port = p; bytes = take count buffer } ∷ []) same
 
-follow_then : (old mid new : Repairer) (calls more : List Call) → Follow old calls mid → Follow mid more new →
+pub follow_then : (old mid new : Repairer) (calls more : List Call) → Follow old calls mid → Follow mid more new →
     Follow old (calls ++ more) new
 unfolding Follow
 follow_then old mid new [] more first last = subst (λ (r : Repairer). Follow r more new) first last
 follow_then old mid new (call ∷ calls) more first last =
     (first.0, follow_then call.after mid new calls more first.1 last)
 
-taken_then : (lines : ℕ) (calls more : List Call) →
+pub taken_then : (lines : ℕ) (calls more : List Call) →
     all_taken lines (calls ++ more) ≡ all_taken lines calls ++ all_taken lines more
 unfolding all_taken
 taken_then lines [] more = refl
@@ -140,7 +141,7 @@ taken_then lines (call ∷ calls) more =
     ap (λ (l : List Given). taken_by lines call.step ++ l) (taken_then lines calls more)
     ∙ sym (append_assoc (taken_by lines call.step) (all_taken lines calls) (all_taken lines more))
 
-sent_then : {P : Type 0} (lines : ℕ) (servers : List P) (calls more : List Call) →
+pub sent_then : {P : Type 0} (lines : ℕ) (servers : List P) (calls more : List Call) →
     all_sent lines servers (calls ++ more) ≡ all_sent lines servers calls ++ all_sent lines servers more
 unfolding all_sent
 sent_then lines servers [] more = refl
@@ -158,7 +159,7 @@ text_then format (call ∷ calls) more =
     ∙ sym (append_assoc (call_text format call) (all_text format calls) (all_text format more))
 
 -- what was added twice was added at once
-appended : {A : Type 0} (old mid new first last both : List A) → mid ≡ old ++ first → new ≡ mid ++ last →
+pub appended : {A : Type 0} (old mid new first last both : List A) → mid ≡ old ++ first → new ≡ mid ++ last →
     both ≡ first ++ last → new ≡ old ++ both
 appended {A = A} old mid new first last both mid_is new_is both_is =
     new_is ∙ ap (λ (l : List A). l ++ last) mid_is ∙ append_assoc old first last
@@ -187,11 +188,56 @@ received_more {P = P} lines servers format other modeled old mid new first same 
     received_then lines servers format modeled old mid new first
     (subst (λ (f : MessageFormat). HasReceived lines servers f modeled mid new) same last)
 
+asking_then : (calls more : List Call) → AreAsking calls → AreAsking more → AreAsking (calls ++ more)
+unfolding AreAsking
+asking_then [] more first last = last
+asking_then (call ∷ calls) more first last = (first.0, asking_then calls more first.1 last)
+
+-- a call that asks
+pub asked_one : {P : Type 0} (lines : ℕ) (servers : List P) (format : MessageFormat) (modeled : Bool)
+    (step : RepairStep) (ask : Option Ask) (fails : Bool) (old new : ReceiverState P) → IsAsking step →
+    HasCalled format step ask old.repairer new.repairer old.text new.text →
+    (modeled ≡ true → new.ports.given ≡ old.ports.given ++ taken_by lines step) →
+    (modeled ≡ true → new.ports.sent ≡ old.ports.sent ++ (if fails then [] else datagram_of lines servers ask)) →
+    HasAsked lines servers format modeled old new
+unfolding AreAsking received_one
+asked_one lines servers format modeled step ask fails old new asks made given sent = record {
+  received = received_one lines servers format modeled step ask fails old new made given sent;
+  asking = (subst (λ (s : RepairStep). IsAsking s) (sym made.stepped) asks, tt);
+}
+
+-- no call asks
+pub asked_none : {P : Type 0} (lines : ℕ) (servers : List P) (format : MessageFormat) (modeled : Bool)
+    (old new : ReceiverState P) → new.repairer ≡ old.repairer → (modeled ≡ true → new.ports.given ≡ old.ports.given) →
+    (modeled ≡ true → new.ports.sent ≡ old.ports.sent) → new.text ≡ old.text →
+    HasAsked lines servers format modeled old new
+unfolding AreAsking received_none
+asked_none lines servers format modeled old new repairer given sent text =
+    record { received = received_none lines servers format modeled old new repairer given sent text; asking = tt }
+
 -- a call without a request sends nothing
-sends_none : {P : Type 0} (lines : ℕ) (servers : List P) (fails : Bool) (ask : Option Ask) → ask ≡ None →
+pub sends_none : {P : Type 0} (lines : ℕ) (servers : List P) (fails : Bool) (ask : Option Ask) → ask ≡ None →
     (if fails then [] else datagram_of lines servers ask) ≡ []
 sends_none lines servers true ask none = refl
 sends_none lines servers false ask none = ap (λ (a : Option Ask). datagram_of lines servers a) none
+
+-- nothing was called yet, and so nothing was asked
+pub asked_yet : {P : Type 0} (lines : ℕ) (servers : List P) (format : MessageFormat) (modeled : Bool)
+    (state : ReceiverState P) → HasAsked lines servers format modeled state state
+asked_yet lines servers format modeled state =
+    asked_none lines servers format modeled state state refl (λ is. refl) (λ is. refl) refl
+
+-- requests, and then more requests, if the second part has its format from the state that the first part left
+pub asked_more : {P : Type 0} (lines : ℕ) (servers : List P) (format other : MessageFormat) (modeled : Bool)
+    (old mid new : ReceiverState P) → HasAsked lines servers format modeled old mid → other ≡ format →
+    HasAsked lines servers other modeled mid new → HasAsked lines servers format modeled old new
+unfolding received_then
+asked_more {P = P} lines servers format other modeled old mid new first same last =
+    let more = subst (λ (f : MessageFormat). HasAsked lines servers f modeled mid new) same last in
+    record {
+      received = received_then lines servers format modeled old mid new first.received more.received;
+      asking = asking_then first.received.calls more.received.calls first.asking more.asking;
+    }
 
 -- nothing was called yet
 pub received_yet : {P : Type 0} (lines : ℕ) (servers : List P) (format : MessageFormat) (modeled : Bool)

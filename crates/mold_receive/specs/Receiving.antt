@@ -135,6 +135,24 @@ pub record HasReceived {P : Type 0} (lines : ℕ) (servers : List P) (format : M
   pub sent : modeled ≡ true → new.ports.sent ≡ old.ports.sent ++ all_sent lines servers calls
   pub printed : new.text ≡ old.text ++ all_text format calls
 
+-- The step is a poll, or only lets time pass. It delivers no message and gives up none.
+abbrev pub IsAsking : RepairStep → Type 0
+IsAsking (Take time origin datagram) = ⊥
+IsAsking (Poll time) = Unit {0}
+IsAsking (Lost time) = ⊥
+IsAsking (Pass time) = Unit {0}
+
+-- Each of the calls is a poll, or only lets time pass.
+unfoldable pub AreAsking : List Call → Type 0
+AreAsking [] = Unit {0}
+AreAsking (call ∷ calls) = IsAsking call.step × AreAsking calls
+
+-- The receiver polled its repairer or waited, and took nothing. It sent the requests that it was to send.
+pub record HasAsked {P : Type 0} (lines : ℕ) (servers : List P) (format : MessageFormat) (modeled : Bool)
+    (old new : ReceiverState P) : Type 0 where
+  pub received : HasReceived lines servers format modeled old new
+  pub asking : AreAsking received.calls
+
 -- The state of the receiver `feed`. `state` gives that of its ports.
 abbrev pub state_of : {D P : Type 0} → (D → PortSetState P) → FeedReceiver D → ReceiverState P
 state_of state feed =
@@ -154,6 +172,11 @@ pub record HasFailed {P : Type 0} (lines : ℕ) (servers : List P) (format : Mes
   pub end : ReceiverState P
   pub received : HasReceived lines servers format modeled old end
   pub front : AppendsPrefix held_old held_new end.text
+
+-- The text ends in `last`.
+pub record EndsIn (last text : List ℕ) : Type 0 where
+  pub front : List ℕ
+  pub parts : text ≡ front ++ last
 
 -- The format in which messages are printed: as blocks, or as lines.
 abbrev pub format_for : Bool → MessageFormat

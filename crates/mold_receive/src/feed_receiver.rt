@@ -4,13 +4,13 @@ ghost use Rattle.std.specs.Prelude.{◌≡◌, ◌+◌, ◌<◌, ◌≤◌, ◌^
 ghost use Rattle.std.specs.Io.KnownBytes.{Appends};
 ghost use Rattle.mold_devices.specs.Devices.{AppendsPrefix};
 ghost use Rattle.mold_input.specs.declared.message_format.MessageFormat.TheVariants.{BlocksToEmpty};
-ghost use Rattle.mold_receive.specs.Receiving.{HasBroken, HasEnded, HasFailed, HasPrinted, HasReceived, HasRun};
+ghost use Rattle.mold_receive.specs.Receiving.{EndsIn, HasAsked, HasBroken, HasEnded, HasFailed, HasPrinted, HasRun};
 ghost use Rattle.mold_receive.specs.Receiving.{HasWritten, datagram_of_first, last_line, last_status, lost_text};
-ghost use Rattle.mold_receive.specs.Receiving.{port_of, state_of};
+ghost use Rattle.mold_receive.specs.Receiving.{port_of, started, state_of};
 ghost use Rattle.mold_repair.specs.Run.{HasLostSome, HasTaken, delivers};
 ghost use Rattle.mold_repair.specs.declared.origin.RepairOrigin.TheVariants.{Line as OnLine};
 ghost use Rattle.mold_repair.specs.declared.step.RepairStep.TheVariants.{Take};
-ghost use Rattle.mold_turns.specs.Outgoing.{IsBounded, note_text};
+ghost use Rattle.mold_turns.specs.Outgoing.{IsBounded, note_side, note_text};
 
 use crate::calls;
 use crate::first_packet::FirstPacket;
@@ -21,6 +21,7 @@ use crate::receive_options::{NEVER, ReceiveOptions};
 use crate::reporting::Reporting;
 use crate::statistics::Statistics;
 use mold_devices::{CommandFault, Sink};
+use mold_input::MessageFormat;
 use mold_listen::print_handed;
 use mold_pacing::Gap;
 use mold_port_set::PortSet;
@@ -28,10 +29,10 @@ use mold_receiver::{Batch, Line, Refusal};
 use mold_repair::{RepairOrigin, Repairer};
 use mold_text::{Word, push_line};
 use mold_turns::Outgoing;
-use std::alloc::AllocError;
+use std::alloc::{AllocError, Global};
 
 /// The most datagrams that are taken from a port before the next one is looked at.
-pub(crate) const AT_ONCE: u32 = 64;
+pub const AT_ONCE: u32 = 64;
 
 /// The most ranges that are given up in a turn. The others follow in the next one.
 const MOST_LOST: u32 = 64;
@@ -41,18 +42,42 @@ const MOST_REQUESTS: u32 = 65_536;
 
 /// A receiver over ports: the ports, the repairer, a batch for what a call delivers, and what is still to be printed.
 #[derive(Drop)]
-pub(crate) struct FeedReceiver<D> {
-    pub(crate) ports: D,
-    pub(crate) repairer: Repairer,
+pub struct FeedReceiver<D> {
+    /// The ports: those of the lines, and then those of the servers.
+    pub ports: D,
+    /// The repairer.
+    pub repairer: Repairer,
     /// The messages that the last call delivered. The memory is kept for the next call.
-    pub(crate) batch: Batch,
+    pub batch: Batch,
     /// The text that is still to be written.
-    pub(crate) outgoing: Outgoing,
-    /// What was reported on standard error, and when the next report is due.
-    pub(crate) reporting: Reporting,
+    pub outgoing: Outgoing,
+    // What was reported on standard error, and when the next report is due.
+    reporting: Reporting,
 }
 
 impl<D: PortSet + Drop> FeedReceiver<D> {
+    /// Returns a receiver that took no datagram and printed nothing. It prints in this format. This allocates no memory.
+    pub fn new(
+        alloc: Global,
+        ports: D,
+        repairer: Repairer,
+        options: &ReceiveOptions<D::Peer>,
+        format: MessageFormat,
+    ) -> FeedReceiver<D>
+        ensures started { state_of D.state result ≡ started repairer (D.state ports) }
+        ensures format { result.outgoing.format ≡ format }
+        ensures side { result.outgoing.side ≡ [] }
+    {
+        let reporting = Reporting::new(ports.now(), options.stats);
+        FeedReceiver {
+            ports,
+            repairer,
+            batch: Batch::new(alloc),
+            outgoing: Outgoing::with_format(alloc, format),
+            reporting,
+        }
+    }
+
     // Prints why a datagram was refused, if a line about it is due.
     fn refuse(
         &mut self,
@@ -76,9 +101,9 @@ impl<D: PortSet + Drop> FeedReceiver<D> {
         push_refused_from(&mut self.outgoing.side, origin, why, datagram)
     }
 
-    // Takes a datagram of this origin. The batch then has what it delivers. If it is refused, a line with the reason is
-    // printed, unless such a line was printed a short time ago.
-    fn deliver(&mut self, origin: RepairOrigin, datagram: &[u8]) -> Result<(), AllocError>
+    /// Takes a datagram of this origin. The batch then has what it delivers. If it is refused, a line with the reason is
+    /// printed, unless such a line was printed a short time ago. An error means out of memory.
+    pub fn deliver(&mut self, origin: RepairOrigin, datagram: &[u8]) -> Result<(), AllocError>
         ensures taken { HasTaken self.old.repairer self.new.repairer (D.state self.old.ports).now origin datagram.now
             self.new.batch }
         ensures options { self.new.repairer.options ≡ self.old.repairer.options }
@@ -263,7 +288,7 @@ impl<D: PortSet + Drop> FeedReceiver<D> {
 
     // Sends the request that the repairer returns, if it returns one. Returns whether there was a request.
     fn request_one(&mut self, options: &ReceiveOptions<D::Peer>) -> bool
-        ensures received { HasReceived options.now.lines options.now.servers.items self.old.outgoing.format
+        ensures asked { HasAsked options.now.lines options.now.servers.items self.old.outgoing.format
             D.modeled (state_of D.state self.old) (state_of D.state self.new) }
         ensures text { self.new.outgoing.text ≡ self.old.outgoing.text }
         ensures format { self.new.outgoing.format ≡ self.old.outgoing.format }
@@ -278,9 +303,9 @@ impl<D: PortSet + Drop> FeedReceiver<D> {
         true
     }
 
-    // Sends all requests that may be sent now.
-    fn request_all(&mut self, options: &ReceiveOptions<D::Peer>)
-        ensures received { HasReceived options.now.lines options.now.servers.items self.old.outgoing.format
+    /// Sends all requests that may be sent now.
+    pub fn request_all(&mut self, options: &ReceiveOptions<D::Peer>)
+        ensures asked { HasAsked options.now.lines options.now.servers.items self.old.outgoing.format
             D.modeled (state_of D.state self.old) (state_of D.state self.new) }
         ensures text { self.new.outgoing.text ≡ self.old.outgoing.text }
         ensures format { self.new.outgoing.format ≡ self.old.outgoing.format }
@@ -292,23 +317,25 @@ impl<D: PortSet + Drop> FeedReceiver<D> {
         }
     }
 
-    // Waits until a datagram is at a port, or until the repairer or the reports have something to do.
-    fn wait(&mut self, options: &ReceiveOptions<D::Peer>)
-        ensures received { (lines : ℕ) (servers : List D.Peer) → HasReceived lines servers
+    /// Waits until a datagram is at a port, or until the repairer or the reports have something to do, but at most until
+    /// the time `latest`.
+    pub fn wait(&mut self, options: &ReceiveOptions<D::Peer>, latest: u64)
+        ensures asked { (lines : ℕ) (servers : List D.Peer) → HasAsked lines servers
             self.old.outgoing.format D.modeled (state_of D.state self.old) (state_of D.state self.new) }
         ensures text { self.new.outgoing.text ≡ self.old.outgoing.text }
         ensures format { self.new.outgoing.format ≡ self.old.outgoing.format }
     {
         let until = calls::pass(&mut self.repairer, self.ports.now())
             .unwrap_or(NEVER)
+            .min(latest)
             .min(self.reporting.stats_at())
             .min(self.reporting.quiet_at(options.quiet));
         let _ = self.ports.wait(until);
     }
 
-    // Returns whether a datagram may be at a port.
-    fn is_busy(&mut self) -> bool
-        ensures received { (lines : ℕ) (servers : List D.Peer) → HasReceived lines servers
+    /// Returns whether a datagram may be at a port.
+    pub fn is_busy(&mut self) -> bool
+        ensures asked { (lines : ℕ) (servers : List D.Peer) → HasAsked lines servers
             self.old.outgoing.format D.modeled (state_of D.state self.old) (state_of D.state self.new) }
         ensures text { self.new.outgoing.text ≡ self.old.outgoing.text }
         ensures format { self.new.outgoing.format ≡ self.old.outgoing.format }
@@ -333,7 +360,7 @@ impl<D: PortSet + Drop> FeedReceiver<D> {
             return Ok(());
         }
         self.outgoing.send(sink)?;
-        self.wait(options);
+        self.wait(options, NEVER);
         Ok(())
     }
 
@@ -358,8 +385,8 @@ impl<D: PortSet + Drop> FeedReceiver<D> {
         Ok(())
     }
 
-    // Prints a contradiction and the statistics, if they are due.
-    fn report(&mut self, options: &ReceiveOptions<D::Peer>) -> Result<(), AllocError>
+    /// Prints a contradiction and the statistics, if they are due. An error means out of memory.
+    pub fn report(&mut self, options: &ReceiveOptions<D::Peer>) -> Result<(), AllocError>
         ensures repairer { self.new.repairer ≡ self.old.repairer }
         ensures ports { D.state self.new.ports ≡ D.state self.old.ports }
         ensures text { self.new.outgoing.text ≡ self.old.outgoing.text }
@@ -404,8 +431,8 @@ impl<D: PortSet + Drop> FeedReceiver<D> {
         self.outgoing.send_side(errors)
     }
 
-    // Returns whether no datagram was accepted for too long.
-    fn is_quiet(&self, options: &ReceiveOptions<D::Peer>) -> bool {
+    /// Returns whether no datagram was accepted for the time of `ReceiveOptions::with_quiet`.
+    pub fn is_quiet(&self, options: &ReceiveOptions<D::Peer>) -> bool {
         self.reporting.quiet_at(options.quiet) <= self.ports.now()
     }
 
@@ -434,10 +461,12 @@ impl<D: PortSet + Drop> FeedReceiver<D> {
         Ok(())
     }
 
-    // Appends the last statistics and the last line.
-    fn push_end(&mut self, options: &ReceiveOptions<D::Peer>) -> Result<(), AllocError>
+    /// Prints the last statistics, if statistics are printed, and the last line. An error means out of memory.
+    pub fn push_end(&mut self, options: &ReceiveOptions<D::Peer>) -> Result<(), AllocError>
         ensures line { OnOk result (self.new.outgoing.text ≡ self.old.outgoing.text
             ++ note_text self.old.outgoing.format (last_line self.old.repairer (D.state self.old.ports).failures)) }
+        ensures side { OnOk result (EndsIn (note_side self.old.outgoing.format
+            (last_line self.old.repairer (D.state self.old.ports).failures)) self.new.outgoing.side) }
         ensures kept { OnErr result
             (take (length self.old.outgoing.text) self.new.outgoing.text ≡ self.old.outgoing.text) }
         ensures repairer { self.new.repairer ≡ self.old.repairer }
@@ -503,7 +532,7 @@ fn line_at(port: usize) -> Line
 }
 
 /// Returns the origin of the datagrams of the port. The ports of the servers follow those of the lines.
-pub(crate) fn origin_of(lines: usize, port: usize) -> RepairOrigin
+pub fn origin_of(lines: usize, port: usize) -> RepairOrigin
     requires lines { lines ≤ 2 }
     requires few { port < lines + 2 ^ 32 }
     ensures { port ≡ port_of lines result }

@@ -84,7 +84,7 @@ pub(crate) fn push_last(
 }
 
 /// Returns the status: 0 if the receiver is finished and nothing was given up, otherwise 1.
-pub(crate) fn last_status(repairer: &Repairer) -> u8
+pub fn last_status(repairer: &Repairer) -> u8
     ensures { result ≡ last_status repairer.now }
 {
     if repairer.arbiter().receiver().finished() && repairer.stats().counts.lost == 0 {

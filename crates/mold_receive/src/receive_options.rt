@@ -1,6 +1,6 @@
 //! The options of the loop.
 
-ghost use Rattle.std.specs.Prelude.{◌≡◌, ◌<◌, ◌≤◌, ◌↔◌, length, IfSome, IsSome};
+ghost use Rattle.std.specs.Prelude.{◌≡◌, ◌+◌, ◌<◌, ◌≤◌, ◌↔◌, length, IfSome, IsSome};
 ghost use Rattle.mold_receive.specs.Options.{span_of};
 ghost use Rattle.mold_receive.specs.Receiving.{format_for};
 ghost use Rattle.mold_receive.specs.declared.receive_options.TheConstants.{NEVER};
@@ -83,6 +83,27 @@ impl<P: Copy> ReceiveOptions<P> {
         let mut options = self;
         options.stats = span_of(seconds);
         options
+    }
+
+    /// Returns the number of lines.
+    pub fn lines(&self) -> usize
+        ensures { result ≡ self.now.lines }
+    {
+        self.lines
+    }
+
+    /// Returns the number of ports: those of the lines and of the servers.
+    pub fn ports(&self) -> usize
+        ensures { result ≡ self.now.lines + length self.now.servers.items }
+    {
+        self.lines + self.servers.len()
+    }
+
+    /// Returns the most turns that the receiver makes.
+    pub fn turns(&self) -> u64
+        ensures { result ≡ self.now.turns }
+    {
+        self.turns
     }
 
     /// Returns whether statistics are printed.

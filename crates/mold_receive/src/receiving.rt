@@ -6,12 +6,9 @@ ghost use Rattle.mold_receive.specs.Receiving.{HasBroken, HasEnded, datagram_of_
 use crate::feed_receiver::FeedReceiver;
 use crate::first_packet::FirstPacket;
 use crate::receive_options::ReceiveOptions;
-use crate::reporting::Reporting;
 use mold_devices::{CommandFault, Sink};
 use mold_port_set::PortSet;
-use mold_receiver::Batch;
 use mold_repair::Repairer;
-use mold_turns::Outgoing;
 use mold_wire::MAX_LIMIT;
 use std::alloc::Global;
 
@@ -74,14 +71,7 @@ pub fn receive_loop<D: PortSet + Drop, K: Sink, E: Sink>(
         first,
     } = parts;
     let mut buffer = vec![in alloc; 0; MAX_LIMIT]?;
-    let reporting = Reporting::new(ports.now(), options.stats);
-    let mut receiver = FeedReceiver {
-        ports,
-        repairer,
-        batch: Batch::new(alloc),
-        outgoing: Outgoing::with_format(alloc, options.format()),
-        reporting,
-    };
+    let mut receiver = FeedReceiver::new(alloc, ports, repairer, options, options.format());
     receiver.take_first(&first)?;
     let status = receiver.run(options, buffer.as_mut_slice(), sink, errors)?;
     let FeedReceiver {

@@ -1,8 +1,8 @@
-use Rattle.std.proofs.Common.{ℕ, List, [], ap, subst, ◌∙◌}
+use Rattle.std.proofs.Common.{[], subst, ◌∙◌}
 use Rattle.mold_input.specs.declared.message_format.MessageFormat.{MessageFormat}
-use Rattle.mold_receive.specs.Receiving.{HasBroken, HasEnded, HasRun, datagram_of_first, format_for, started, state_of}
+use Rattle.mold_receive.specs.Receiving.{HasBroken, HasEnded, HasRun, ReceiverState, datagram_of_first, format_for}
+use Rattle.mold_receive.specs.Receiving.{started, state_of}
 use Rattle.mold_receive.proofs.CallLemmas.{broken_then, broken_yet, ended_then, on_err_of, plain_format}
-use Rattle.mold_turns.specs.Outgoing.{OutgoingState}
 use Rattle.mold_receive.proofs.receiving.receive_loop.Goals as goal
 
 pub returns-in_err-buffer-clause-failed : goal.returns-in_err-buffer-clause-failed
@@ -10,8 +10,7 @@ returns-in_err-buffer-clause-failed g c = on_err_of c.from_residual.result (brok
 
 pub take_first-requires : goal.take_first-requires
 take_first-requires g c = record {
-  plain = plain_format _ c.args.options.now.blocks
-      (ap (λ (o : OutgoingState). o.format) c.with_format.ensures ∙ c.format.ensures);
+  plain = plain_format _ c.args.options.now.blocks (c.new-receiver.ensures.format ∙ c.format.ensures);
 }
 
 pub returns-in_err-take_first-clause-failed : goal.returns-in_err-take_first-clause-failed
@@ -24,23 +23,17 @@ returns-clause-ended g c =
     let servers = c.args.options.now.servers.items in
     let given = datagram_of_first lines c.args.parts.first in
     let format = format_for c.args.options.now.blocks in
-    let same = ap (λ (o : OutgoingState). o.format) c.with_format.ensures ∙ c.format.ensures in
+    let same = c.new-receiver.ensures.format ∙ c.format.ensures in
+    let taken = state_of g.D.PortSet.state c.take_first.new.self in
     ended_then lines servers format g.D.PortSet.modeled given (started c.args.parts.repairer (g.D.PortSet.state
-    c.args.parts.ports)) (state_of g.D.PortSet.state c.take_first.new.self) _ _ _ _ _
-    (subst (λ (t : List ℕ). HasRun lines servers format g.D.PortSet.modeled given (record {
-      repairer = c.args.parts.repairer;
-      ports = g.D.PortSet.state c.args.parts.ports;
-      text = t;
-    }) (state_of g.D.PortSet.state c.take_first.new.self)) (ap (λ (o : OutgoingState). o.text) c.with_format.ensures)
-    (subst (λ (f : MessageFormat). HasRun lines servers f g.D.PortSet.modeled given (record {
-      repairer = c.args.parts.repairer;
-      ports = g.D.PortSet.state c.args.parts.ports;
-      text = c.with_format.result.text;
-    }) (state_of g.D.PortSet.state c.take_first.new.self)) same (c.in_ok-take_first.ensures.ran lines servers)))
-    (subst (λ (f : MessageFormat). HasEnded lines servers f g.D.PortSet.modeled []
-    (state_of g.D.PortSet.state c.take_first.new.self) c.run.new.self.repairer (g.D.PortSet.state c.run.new.self.ports)
-    (g.K.Sink.held c.args.sink.now) (g.K.Sink.held c.run.new.sink) c.in_ok-status.status)
-    (c.take_first.ensures.format ∙ same) c.in_ok-status.ensures.ended)
+    c.args.parts.ports)) taken _ _ _ _ _
+    (subst (λ (s : ReceiverState g.row.D-Peer.Denot). HasRun lines servers format g.D.PortSet.modeled given s taken)
+    c.new-receiver.ensures.started
+    (subst (λ (f : MessageFormat). HasRun lines servers f g.D.PortSet.modeled given
+    (state_of g.D.PortSet.state c.new-receiver.result) taken) same (c.in_ok-take_first.ensures.ran lines servers)))
+    (subst (λ (f : MessageFormat). HasEnded lines servers f g.D.PortSet.modeled [] taken c.run.new.self.repairer
+    (g.D.PortSet.state c.run.new.self.ports) (g.K.Sink.held c.args.sink.now) (g.K.Sink.held c.run.new.sink)
+    c.in_ok-status.status) (c.take_first.ensures.format ∙ same) c.in_ok-status.ensures.ended)
 
 pub returns-in_err-status-clause-failed : goal.returns-in_err-status-clause-failed
 returns-in_err-status-clause-failed g c =
@@ -48,20 +41,15 @@ returns-in_err-status-clause-failed g c =
     let servers = c.args.options.now.servers.items in
     let given = datagram_of_first lines c.args.parts.first in
     let format = format_for c.args.options.now.blocks in
-    let same = ap (λ (o : OutgoingState). o.format) c.with_format.ensures ∙ c.format.ensures in
+    let same = c.new-receiver.ensures.format ∙ c.format.ensures in
+    let taken = state_of g.D.PortSet.state c.take_first.new.self in
     on_err_of c.from_residual-in_err-status.result
     (broken_then lines servers format g.D.PortSet.modeled given (started c.args.parts.repairer (g.D.PortSet.state
-    c.args.parts.ports)) (state_of g.D.PortSet.state c.take_first.new.self) _ _
-    (subst (λ (t : List ℕ). HasRun lines servers format g.D.PortSet.modeled given (record {
-      repairer = c.args.parts.repairer;
-      ports = g.D.PortSet.state c.args.parts.ports;
-      text = t;
-    }) (state_of g.D.PortSet.state c.take_first.new.self)) (ap (λ (o : OutgoingState). o.text) c.with_format.ensures)
-    (subst (λ (f : MessageFormat). HasRun lines servers f g.D.PortSet.modeled given (record {
-      repairer = c.args.parts.repairer;
-      ports = g.D.PortSet.state c.args.parts.ports;
-      text = c.with_format.result.text;
-    }) (state_of g.D.PortSet.state c.take_first.new.self)) same (c.in_ok-take_first.ensures.ran lines servers)))
-    (subst (λ (f : MessageFormat). HasBroken lines servers f g.D.PortSet.modeled []
-    (state_of g.D.PortSet.state c.take_first.new.self) (g.K.Sink.held c.args.sink.now)
-    (g.K.Sink.held c.run.new.sink)) (c.take_first.ensures.format ∙ same) c.in_err-status.ensures.failed))
+    c.args.parts.ports)) taken _ _
+    (subst (λ (s : ReceiverState g.row.D-Peer.Denot). HasRun lines servers format g.D.PortSet.modeled given s taken)
+    c.new-receiver.ensures.started
+    (subst (λ (f : MessageFormat). HasRun lines servers f g.D.PortSet.modeled given
+    (state_of g.D.PortSet.state c.new-receiver.result) taken) same (c.in_ok-take_first.ensures.ran lines servers)))
+    (subst (λ (f : MessageFormat). HasBroken lines servers f g.D.PortSet.modeled [] taken
+    (g.K.Sink.held c.args.sink.now) (g.K.Sink.held c.run.new.sink)) (c.take_first.ensures.format ∙ same)
+    c.in_err-status.ensures.failed))

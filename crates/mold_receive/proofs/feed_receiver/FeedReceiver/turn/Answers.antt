@@ -43,7 +43,7 @@ returns-in_default-clause-failed g c =
     c.in_ok-receive_all.ensures.written)
     (c.receive_all.ensures.format ∙ c.pause.ensures.format) (c.in_ok-lose_all.ensures.written lines servers))
     (c.lose_all.ensures.format ∙ (c.receive_all.ensures.format ∙ c.pause.ensures.format))
-    (written_none _ _ _ _ _ _ _ c.request_all.ensures.received))
+    (written_none _ _ _ _ _ _ _ c.request_all.ensures.asked.received))
     (c.request_all.ensures.format
     ∙ (c.lose_all.ensures.format ∙ (c.receive_all.ensures.format ∙ c.pause.ensures.format)))
     (failed_write _ _ _ _ _ (state_of g.D.PortSet.state c.report.new.self) _ _ c.report.new.self.outgoing.text
@@ -67,7 +67,7 @@ returns-clause-written g c =
     c.in_ok-receive_all.ensures.written)
     (c.receive_all.ensures.format ∙ c.pause.ensures.format) (c.in_ok-lose_all.ensures.written lines servers))
     (c.lose_all.ensures.format ∙ (c.receive_all.ensures.format ∙ c.pause.ensures.format))
-    (written_none _ _ _ _ _ _ _ c.request_all.ensures.received))
+    (written_none _ _ _ _ _ _ _ c.request_all.ensures.asked.received))
     (c.request_all.ensures.format
     ∙ (c.lose_all.ensures.format ∙ (c.receive_all.ensures.format ∙ c.pause.ensures.format)))
     (written_none _ _ _ _ _ _ _
@@ -87,7 +87,7 @@ returns-clause-failed g c =
     c.in_ok-receive_all.ensures.written)
     (c.receive_all.ensures.format ∙ c.pause.ensures.format) (c.in_ok-lose_all.ensures.written lines servers))
     (c.lose_all.ensures.format ∙ (c.receive_all.ensures.format ∙ c.pause.ensures.format))
-    (written_none _ _ _ _ _ _ _ c.request_all.ensures.received))
+    (written_none _ _ _ _ _ _ _ c.request_all.ensures.asked.received))
     (c.request_all.ensures.format
     ∙ (c.lose_all.ensures.format ∙ (c.receive_all.ensures.format ∙ c.pause.ensures.format)))
     (failed_write _ _ _ _ _ (state_of g.D.PortSet.state c.report.new.self) _ _ _
