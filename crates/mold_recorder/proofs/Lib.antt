@@ -1,0 +1,3 @@
+pub mod AppendingLemmas
+pub mod EndingLemmas
+pub mod RecordingLemmas
