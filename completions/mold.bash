@@ -12,7 +12,8 @@ _mold_options() {
     listen) printf '%s ' --session --next --window --a --b --server --burst --turns --live --report --blocks \
         --end-at-empty ;;
     receive) printf '%s ' --session --learn --next --from-now --a --b --source-a --source-b --server --window \
-        --patience --timeout --ceiling --requests --in-flight --give-up --audit --quiet --stats --blocks ;;
+        --patience --timeout --ceiling --requests --in-flight --give-up --audit --quiet --stats --journal \
+        --no-sync --blocks ;;
     loop) printf '%s ' --session --limit --server-limit --window --burst --drop-a --drop-b --turns --report \
         --blocks --end-at-empty ;;
     upgrade) printf '%s ' --journal --to --close ;;
@@ -55,7 +56,8 @@ _mold() {
         compopt -o nospace 2>/dev/null
         _mold_words '127.0.0.1: 0.0.0.0:' "$word"
         ;;
-    show:--request | upgrade:--close | *:--live | *:--follow | *:--report | *:--learn | *:--from-now)
+    show:--request | upgrade:--close | *:--live | *:--follow | *:--report | *:--learn | *:--from-now | \
+        *:--no-sync)
         _mold_words "$(_mold_options "$command")" "$word"
         ;;
     *:--help) ;;

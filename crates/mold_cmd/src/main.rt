@@ -8,7 +8,7 @@ use mold_commands::{
 };
 use mold_devices::{CommandFault, FromRead, IntoWrite, NewFile};
 use mold_loop::run_loop;
-use mold_sockets::{run_follow_dump, run_listen, run_publish, run_receive, run_serve};
+use mold_sockets::{run_follow_dump, run_listen, run_publish, run_receive, run_record, run_serve};
 use mold_wiring::{ProgramFault, exit_code, flushed, print_fault};
 use mold_words::{DumpOrder, Order, PackJournalOrder, UpgradeOrder, UsageFault, read_words};
 use std::fs::File;
@@ -143,6 +143,7 @@ fn run(rt: &HostRuntime, order: &Order) -> Result<u8, ProgramFault> {
         Order::Serve(order) => run_serve(rt, order),
         Order::Listen(order) => run_listen(rt, order),
         Order::Receive(order) => run_receive(rt, order),
+        Order::Record(order) => run_record(rt, order),
         Order::Loop(order) => run_loop(rt, order),
         Order::Upgrade(files) => Ok(upgrade_files(rt, files)?),
         Order::Dump(order) => Ok(run_dump(rt, order)?),

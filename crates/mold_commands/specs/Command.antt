@@ -7,7 +7,8 @@ use Rattle.mold_sim.specs.Sim.{SimState, sim_beginning, sim_status, sim_text}
 use Rattle.mold_words.specs.declared.sim_order.SimOrder.{SimOrder}
 use Rattle.mold_words.specs.declared.types.Order.{Order}
 use Rattle.mold_words.specs.declared.types.Order.TheVariants.{Show, Pack, PackJournal, Sim, Check, CheckLines}
-use Rattle.mold_words.specs.declared.types.Order.TheVariants.{Publish, Serve, Listen, Receive, Loop, Upgrade, Dump}
+use Rattle.mold_words.specs.declared.types.Order.TheVariants.{Publish, Serve, Listen, Receive, Record, Loop}
+use Rattle.mold_words.specs.declared.types.Order.TheVariants.{Upgrade, Dump}
 
 -- The state of the simulation at the start of the order's script.
 abbrev pub sim_start : SimOrder → SimState
@@ -28,6 +29,7 @@ IsStreamed (Publish order) = ⊥
 IsStreamed (Serve order) = ⊥
 IsStreamed (Listen order) = ⊥
 IsStreamed (Receive order) = ⊥
+IsStreamed (Record order) = ⊥
 IsStreamed (Loop order) = ⊥
 IsStreamed (Upgrade order) = ⊥
 IsStreamed (Dump order) = ⊥
@@ -44,6 +46,7 @@ text (Publish order) input = []
 text (Serve order) input = []
 text (Listen order) input = []
 text (Receive order) input = []
+text (Record order) input = []
 text (Loop order) input = []
 text (Upgrade order) input = []
 text (Dump order) input = []
@@ -61,6 +64,7 @@ status (Publish order) input = 0
 status (Serve order) input = 0
 status (Listen order) input = 0
 status (Receive order) input = 0
+status (Record order) input = 0
 status (Loop order) input = 0
 status (Upgrade order) input = 0
 status (Dump order) input = 0

@@ -52,6 +52,7 @@ pub fn run_command<S: Source, K: Sink>(
         | Order::Serve(_)
         | Order::Listen(_)
         | Order::Receive(_)
+        | Order::Record(_)
         | Order::Loop(_)
         | Order::Upgrade(_)
         | Order::Dump(_) => unreachable!(),

@@ -4,7 +4,7 @@ ghost use Rattle.std.specs.Prelude.{◌≡◌, ◌++◌, ◌<◌, ◌^◌, ℕ, 
 ghost use Rattle.mold_durable.specs.Follower.{Follows};
 ghost use Rattle.mold_durable.specs.Following.{HasAll, Writer, Writes};
 
-use crate::file_error::file_error;
+use crate::file_error::load_error;
 use mold_durable::{Follower, GrowingFile};
 use mold_messages::MessageList;
 use mold_session::{AppendError, FileError, Journal};
@@ -53,7 +53,7 @@ pub fn catch_up<F: GrowingFile>(
     'looks: loop {
         let more = match follower.poll() {
             Ok(more) => more,
-            Err(error) => return Err(file_error(error)),
+            Err(error) => return Err(load_error(error)),
         };
         append_news(journal, follower.news())?;
         if !more {

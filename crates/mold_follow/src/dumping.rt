@@ -10,7 +10,7 @@ ghost use Rattle.mold_follow.specs.Dumping.{GoesOn, Looks, is_over, mark_of};
 ghost use Rattle.mold_show.specs.Listed.{ListsUntil, first_refused, list_text};
 
 use crate::dump_devices::DumpDevices;
-use crate::file_error::{device_fault, file_error};
+use crate::file_error::{device_fault, load_error};
 use crate::looked::Looked;
 use mold_devices::{CommandFault, Sink, send};
 use mold_durable::{Follower, GrowingFile};
@@ -170,7 +170,7 @@ fn take_look<F: GrowingFile, P, K: Sink, E: Sink>(
     let more = match follower.poll() {
         Ok(more) => more,
         Err(error) => {
-            let status = end_refused(text, options, file_error(error), devices)?;
+            let status = end_refused(text, options, load_error(error), devices)?;
             return Ok(Looked::Ended { status });
         }
     };

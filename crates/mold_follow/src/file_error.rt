@@ -9,7 +9,7 @@ use mold_durable::OpenError;
 use mold_session::FileError;
 
 /// Returns the error that `Journal::load` has for the same reason.
-pub(crate) fn file_error(error: OpenError) -> FileError
+pub fn load_error(error: OpenError) -> FileError
     ensures { result ≡ file_error error }
 {
     match error {

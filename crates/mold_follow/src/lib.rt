@@ -11,5 +11,5 @@ mod serving;
 pub use catching_up::catch_up;
 pub use dump_devices::DumpDevices;
 pub use dumping::follow_dump;
-pub use file_error::device_fault;
+pub use file_error::{device_fault, load_error};
 pub use serving::{FollowingServer, follow_serve};

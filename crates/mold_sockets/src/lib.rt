@@ -5,9 +5,12 @@
 mod following;
 mod options;
 mod receiving;
+mod recording;
 mod sockets;
 mod streams;
+mod unsynced_file;
 
 pub use following::run_follow_dump;
 pub use receiving::run_receive;
+pub use recording::run_record;
 pub use sockets::{run_listen, run_publish, run_serve};

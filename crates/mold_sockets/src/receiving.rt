@@ -43,8 +43,11 @@ fn add_line(
     added.map_err(|_| ProgramFault::Socket)
 }
 
-// Opens the ports of the order: those of the lines, and one for each server, which the system chooses.
-fn open_ports(rt: &HostRuntime, order: &ReceiveOrder) -> Result<UdpPortSet, ProgramFault> {
+/// Opens the ports of the order: those of the lines, and one for each server, which the system chooses.
+pub(crate) fn open_ports(
+    rt: &HostRuntime,
+    order: &ReceiveOrder,
+) -> Result<UdpPortSet, ProgramFault> {
     let mut ports = UdpPortSet::new(rt);
     add_line(rt, &mut ports, order.a, order.source_a)?;
     if let Some(b) = order.b {
@@ -67,20 +70,22 @@ fn peers_of(alloc: Global, order: &ReceiveOrder) -> Result<Vec<SocketAddrV4>, Al
     Ok(peers)
 }
 
-// Returns the options of the loop. The numbers of an order are in range, so an error means out of memory.
-fn receive_options(
+/// Returns the options of the loop. If `blocks` is set, all text is printed on standard error. The numbers of an order
+/// are in range, so an error means out of memory.
+pub(crate) fn receive_options(
     alloc: Global,
     order: &ReceiveOrder,
+    blocks: bool,
 ) -> Result<ReceiveOptions<SocketAddrV4>, AllocError> {
     let lines = if order.b.is_some() { 2 } else { 1 };
-    match ReceiveOptions::new(lines, peers_of(alloc, order)?, order.blocks, u64::MAX) {
+    match ReceiveOptions::new(lines, peers_of(alloc, order)?, blocks, u64::MAX) {
         Some(options) => Ok(options.with_quiet(order.quiet).with_stats(order.stats)),
         None => Err(AllocError),
     }
 }
 
-// Waits for the session, if its name or the number to start at is not known.
-fn open_session(
+/// Waits for the session, if its name or the number to start at is not known.
+pub(crate) fn open_session(
     alloc: Global,
     order: &ReceiveOrder,
     ports: UdpPortSet,
@@ -93,8 +98,11 @@ fn open_session(
     await_session(alloc, ports, order.session.map(Session), options, errors)
 }
 
-// Returns the session and the number at which the receiver starts, or none if they are not known.
-fn start_of(order: &ReceiveOrder, first: &Option<FirstPacket>) -> Option<(Session, u64)> {
+/// Returns the session and the number at which the receiver starts, or none if they are not known.
+pub(crate) fn start_of(
+    order: &ReceiveOrder,
+    first: &Option<FirstPacket>,
+) -> Option<(Session, u64)> {
     match first {
         Some(first) => Some((first.session, order.next.unwrap_or(first.sequence))),
         None => Some((Session(order.session?), order.next?)),
@@ -108,7 +116,7 @@ fn receive_on(
     ports: UdpPortSet,
     streams: &mut Streams,
 ) -> Result<u8, CommandFault> {
-    let options = receive_options(rt.alloc(), order)?;
+    let options = receive_options(rt.alloc(), order, order.blocks)?;
     let Streams { sink, errors } = streams;
     let Opened { ports, first } = open_session(rt.alloc(), order, ports, &options, errors)?;
     let Some((session, next)) = start_of(order, &first) else {

@@ -5,7 +5,7 @@ use Rattle.mold_devices.specs.Faults.{fault_word}
 use Rattle.mold_devices.specs.declared.fault.CommandFault.{CommandFault}
 use Rattle.mold_devices.specs.declared.fault.CommandFault.TheVariants.{Write}
 use Rattle.mold_wiring.specs.declared.program_fault.ProgramFault.{ProgramFault}
-use Rattle.mold_wiring.specs.declared.program_fault.ProgramFault.TheVariants.{Command, Socket}
+use Rattle.mold_wiring.specs.declared.program_fault.ProgramFault.TheVariants.{Command, Locked, Socket}
 
 -- The outcome of a command after its output was flushed. A failed flush is the fault `Write`, unless the command had
 -- failed before.
@@ -18,6 +18,7 @@ flushed (Ok status) (Err _) = Err Write
 abbrev pub program_fault_word : ProgramFault → List ℕ
 program_fault_word (Command fault) = fault_word fault
 program_fault_word Socket = codes "Socket"
+program_fault_word Locked = codes "Locked"
 
 -- The line that the program prints for the fault with this name: `fault`, a space, the name, and the byte 0A.
 abbrev pub fault_line : List ℕ → List ℕ

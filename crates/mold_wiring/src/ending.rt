@@ -34,6 +34,7 @@ fn line(fault: ProgramFault) -> &'static str
         ProgramFault::Command(CommandFault::Write) => "fault Write\n",
         ProgramFault::Command(CommandFault::Memory) => "fault Memory\n",
         ProgramFault::Socket => "fault Socket\n",
+        ProgramFault::Locked => "fault Locked\n",
     }
 }
 

@@ -14,6 +14,9 @@ pub enum ProgramFault {
     /// A port cannot be opened.
     #[error("a port could not be opened")]
     Socket,
+    /// Another process writes the journal file.
+    #[error("another process writes the journal")]
+    Locked,
 }
 
 impl From<CommandFault> for ProgramFault {

@@ -5,10 +5,12 @@ use Rattle.mold_input.specs.declared.message_format.MessageFormat.{MessageFormat
 use Rattle.mold_words.specs.Addresses.{HostPort, address_view}
 use Rattle.mold_words.specs.LinePorts.{Port, line_port_view}
 use Rattle.mold_words.specs.declared.line_options.LineOptions.{LineOptions}
+use Rattle.mold_words.specs.declared.receive_order.ReceiveOrder.{ReceiveOrder}
 use Rattle.mold_words.specs.declared.request_options.RequestOptions.{RequestOptions}
 use Rattle.mold_words.specs.declared.types.Order.{Order}
 use Rattle.mold_words.specs.declared.types.Order.TheVariants.{Show, Pack, PackJournal, Sim, Check, CheckLines}
-use Rattle.mold_words.specs.declared.types.Order.TheVariants.{Publish, Serve, Listen, Receive, Loop, Upgrade, Dump}
+use Rattle.mold_words.specs.declared.types.Order.TheVariants.{Publish, Serve, Listen, Receive, Record, Loop}
+use Rattle.mold_words.specs.declared.types.Order.TheVariants.{Upgrade, Dump}
 
 -- The model of a `sim` order.
 pub record SimArguments : Type 0 where
@@ -130,6 +132,14 @@ pub record ReceiveArguments : Type 0 where
   -- Whether messages are printed as message blocks.
   pub blocks : Bool
 
+-- The model of a `receive` order with a journal.
+pub record RecordArguments : Type 0 where
+  pub receive : ReceiveArguments
+  -- The name of the journal file.
+  pub journal : Text
+  -- Whether a commit waits for the disk.
+  pub sync : Bool
+
 -- The model of a `loop` order.
 pub record LoopArguments : Type 0 where
   pub session : List ℕ
@@ -179,6 +189,7 @@ pub data Arguments : Type 0 where
   serve_wanted : ServeArguments → Arguments
   listen_wanted : ListenArguments → Arguments
   receive_wanted : ReceiveArguments → Arguments
+  record_wanted : RecordArguments → Arguments
   loop_wanted : LoopArguments → Arguments
   upgrade_wanted : Text → Text → Bool → Arguments
   dump_wanted : DumpArguments → Arguments
@@ -201,6 +212,33 @@ request_options_view options = record {
   requests = options.requests;
   in_flight = options.in_flight;
   give_up = options.give_up;
+}
+
+-- The model of an order of `receive`, as the program reads it.
+abbrev pub receive_view : ReceiveOrder → ReceiveArguments
+receive_view order = record {
+  session = order.session;
+  next = order.next;
+  lines = record {
+    a = line_port_view order.a;
+    b = option_map line_port_view order.b;
+    source_a = order.source_a;
+    source_b = order.source_b;
+  };
+  servers = map address_view order.servers.items;
+  window = order.window;
+  requests = record {
+    patience = order.patience;
+    timeout = order.timeout;
+    ceiling = order.ceiling;
+    requests = order.requests;
+    in_flight = order.in_flight;
+    give_up = order.give_up;
+  };
+  audit = order.audit;
+  quiet = order.quiet;
+  stats = order.stats;
+  blocks = order.blocks;
 }
 
 -- The model of the program's `Order`: its command and the values of its options.
@@ -251,29 +289,11 @@ view (Listen order) = listen_wanted (record {
   report = order.report;
   output = order.output;
 })
-view (Receive order) = receive_wanted (record {
-  session = order.session;
-  next = order.next;
-  lines = record {
-    a = line_port_view order.a;
-    b = option_map line_port_view order.b;
-    source_a = order.source_a;
-    source_b = order.source_b;
-  };
-  servers = map address_view order.servers.items;
-  window = order.window;
-  requests = record {
-    patience = order.patience;
-    timeout = order.timeout;
-    ceiling = order.ceiling;
-    requests = order.requests;
-    in_flight = order.in_flight;
-    give_up = order.give_up;
-  };
-  audit = order.audit;
-  quiet = order.quiet;
-  stats = order.stats;
-  blocks = order.blocks;
+view (Receive order) = receive_wanted (receive_view order)
+view (Record order) = record_wanted (record {
+  receive = receive_view order.receive;
+  journal = string_bytes order.journal;
+  sync = order.sync;
 })
 view (Loop order) = loop_wanted (record {
   session = order.session;

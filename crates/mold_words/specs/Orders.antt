@@ -1,6 +1,6 @@
 -- Defines the order that command-line arguments give.
 use Rattle.std.specs.Prelude.{◌≡◌, ℕ, Bool, List, [], Option, Some, None, codes, false, true, if◌then◌else◌, is_some}
-use Rattle.std.specs.Prelude.{◌&&◌, ◌||◌, length, nat_lt, not, option_map, ◌∷◌, unwrap_or}
+use Rattle.std.specs.Prelude.{◌&&◌, ◌||◌, ◌==◌, length, nat_lt, not, option_map, ◌∷◌, unwrap_or}
 use Rattle.std.specs.List.{list_any}
 use Rattle.std.specs.Option.{option_and_then, option_map_or}
 use Rattle.std.specs.Str.{bytes_eq}
@@ -10,9 +10,10 @@ use Rattle.mold_input.specs.declared.message_format.MessageFormat.TheVariants.{L
 use Rattle.mold_words.specs.Addresses.{HostPort, address_of, host_of}
 use Rattle.mold_words.specs.LinePorts.{Port, line_port_of}
 use Rattle.mold_words.specs.Values.{session_of, number_of}
-use Rattle.mold_words.specs.Arguments.{Arguments, LineArguments, RequestArguments, check_lines_wanted, check_wanted}
-use Rattle.mold_words.specs.Arguments.{dump_wanted, listen_wanted, loop_wanted, pack_journal_wanted, pack_wanted}
-use Rattle.mold_words.specs.Arguments.{publish_wanted, receive_wanted, serve_wanted, show_wanted, sim_wanted, upgrade_wanted}
+use Rattle.mold_words.specs.Arguments.{Arguments, LineArguments, ReceiveArguments, RequestArguments, check_lines_wanted}
+use Rattle.mold_words.specs.Arguments.{check_wanted, dump_wanted, listen_wanted, loop_wanted, pack_journal_wanted}
+use Rattle.mold_words.specs.Arguments.{pack_wanted, publish_wanted, receive_wanted, record_wanted, serve_wanted}
+use Rattle.mold_words.specs.Arguments.{show_wanted, sim_wanted, upgrade_wanted}
 use Rattle.mold_words.specs.Words.{mold_app}
 use Rattle.mold_words.specs.declared.options.TheConstants.{MAX_TURNS}
 use Rattle.mold_wire.specs.declared.limits.TheConstants.{MAX_BURST, MAX_WIDE_WINDOW, MAX_WINDOW}
@@ -353,9 +354,10 @@ requests_in rows =
     (number_in (codes "timeout") 50 1 60000 rows))
     (number_in (codes "patience") 0 200 1000000 rows)
 
--- What `receive` asks for with these options, if their values are valid. Without `--patience` it is 0, and adapts.
-unfoldable pub receive_of : List Row → Option Arguments
-receive_of rows =
+-- What `receive` asks for with these options apart from a journal, if their values are valid. Without `--patience` it is
+-- 0, and adapts.
+unfoldable pub receive_in : List Row → Option ReceiveArguments
+receive_in rows =
     option_and_then
     (λ session. option_and_then
     (λ next. option_and_then
@@ -365,7 +367,7 @@ receive_of rows =
     (λ audit. option_and_then
     (λ quiet. option_and_then
     (λ stats. option_and_then
-    (λ servers. Some (receive_wanted (record {
+    (λ servers. Some (record {
       session = session;
       next = next;
       lines = lines;
@@ -376,7 +378,7 @@ receive_of rows =
       quiet = quiet;
       stats = stats;
       blocks = flag_in (codes "blocks") rows;
-    })))
+    }))
     (servers_in rows))
     (number_in (codes "stats") 0 0 86400 rows))
     (number_in (codes "quiet") 0 0 86400 rows))
@@ -386,6 +388,28 @@ receive_of rows =
     (lines_in rows))
     (start_in rows))
     (learned_in rows)
+
+-- Whether a receiver starts at message 1.
+abbrev pub starts_at_1 : Option ℕ → Bool
+starts_at_1 None = false
+starts_at_1 (Some number) = number == 1
+
+-- Whether these options exclude a journal: it has all messages from message 1 on, and nothing is printed.
+abbrev pub excludes_journal : ReceiveArguments → Bool
+excludes_journal receive =
+    not (starts_at_1 receive.next) || (nat_lt 0 receive.requests.give_up || receive.blocks)
+
+-- What `receive` asks for with this journal or none. `--no-sync` requires a journal.
+abbrev pub kept_in : Option Text → Bool → ReceiveArguments → Option Arguments
+kept_in None no_sync receive = if no_sync then None else Some (receive_wanted receive)
+kept_in (Some journal) no_sync receive =
+    if excludes_journal receive then None
+    else Some (record_wanted (record { receive = receive; journal = journal; sync = not no_sync }))
+
+-- What `receive` asks for with these options, if their values are valid.
+unfoldable pub receive_of : List Row → Option Arguments
+receive_of rows =
+    option_and_then (kept_in (first_of (codes "journal") rows) (flag_in (codes "no-sync") rows)) (receive_in rows)
 
 -- What `loop` asks for with these options, if their values are valid.
 unfoldable pub loop_of : List Row → Option Arguments

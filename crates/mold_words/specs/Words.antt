@@ -52,7 +52,7 @@ last_commands = (
       ∷ (codes "patience", Optional) ∷ (codes "timeout", Optional) ∷ (codes "ceiling", Optional)
       ∷ (codes "requests", Optional) ∷ (codes "in-flight", Optional) ∷ (codes "give-up", Optional)
       ∷ (codes "audit", Optional) ∷ (codes "quiet", Optional) ∷ (codes "stats", Optional)
-      ∷ (codes "blocks", Flag) ∷ [],
+      ∷ (codes "journal", Optional) ∷ (codes "no-sync", Flag) ∷ (codes "blocks", Flag) ∷ [],
 )
     ∷ (
       codes "loop",

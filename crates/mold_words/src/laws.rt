@@ -6,7 +6,7 @@ ghost use Rattle.mold_input.specs.declared.message_format.MessageFormat.TheVaria
 ghost use Rattle.mold_words.specs.Orders.{AreTaken, Say, order_of};
 ghost use Rattle.mold_words.specs.Arguments.{check_lines_wanted, check_wanted, dump_wanted, listen_wanted, loop_wanted};
 ghost use Rattle.mold_words.specs.Arguments.{pack_journal_wanted, pack_wanted, publish_wanted, receive_wanted};
-ghost use Rattle.mold_words.specs.Arguments.{serve_wanted, show_wanted, sim_wanted, upgrade_wanted};
+ghost use Rattle.mold_words.specs.Arguments.{record_wanted, serve_wanted, show_wanted, sim_wanted, upgrade_wanted};
 ghost use Rattle.mold_words.specs.LinePorts.{bound_to, opened_as};
 ghost use Rattle.mold_words.specs.Words.{is_command, mold_app};
 
@@ -363,6 +363,77 @@ pub fn receive_taken_law()
         ∷ codes "10.0.0.9:4" ∷ codes "--server" ∷ codes "10.0.0.9:5" ∷ codes "--server" ∷ codes "10.0.0.9:6"
         ∷ codes "--server" ∷ codes "10.0.0.9:7" ∷ codes "--server" ∷ codes "10.0.0.9:8" ∷ codes "--server"
         ∷ codes "10.0.0.9:9" ∷ []) ≡ None }
+{}
+
+/// With `--journal J`, `receive` asks to keep the session in `J`. `--no-sync` asks not to wait for the disk, and requires
+/// `--journal`. A journal starts at message 1, and nothing is given up or printed: `--from-now`, a `--next` above 1, a
+/// `--give-up` above 0 and `--blocks` are refused.
+pub fn record_taken_law()
+    ensures usual { Say
+        (codes "receive" ∷ codes "--learn" ∷ codes "--a" ∷ codes "fd:3" ∷ codes "--journal" ∷ codes "J" ∷ [])
+        (record_wanted (record {
+          receive = record {
+            session = None;
+            next = Some 1;
+            lines = record { a = opened_as 3; b = None; source_a = None; source_b = None };
+            servers = [];
+            window = 1048576;
+            requests = record {
+              patience = 0;
+              timeout = 50;
+              ceiling = 1000;
+              requests = 1000;
+              in_flight = 256;
+              give_up = 0;
+            };
+            audit = 65536;
+            quiet = 0;
+            stats = 0;
+            blocks = false;
+          };
+          journal = codes "J";
+          sync = true;
+        })) }
+    ensures unsynced { Say
+        (codes "receive" ∷ codes "--no-sync" ∷ codes "--learn" ∷ codes "--next" ∷ codes "1" ∷ codes "--a"
+        ∷ codes "fd:3" ∷ codes "--give-up" ∷ codes "0" ∷ codes "--journal" ∷ codes "J" ∷ [])
+        (record_wanted (record {
+          receive = record {
+            session = None;
+            next = Some 1;
+            lines = record { a = opened_as 3; b = None; source_a = None; source_b = None };
+            servers = [];
+            window = 1048576;
+            requests = record {
+              patience = 0;
+              timeout = 50;
+              ceiling = 1000;
+              requests = 1000;
+              in_flight = 256;
+              give_up = 0;
+            };
+            audit = 65536;
+            quiet = 0;
+            stats = 0;
+            blocks = false;
+          };
+          journal = codes "J";
+          sync = false;
+        })) }
+    ensures no_journal { order_of
+        (codes "receive" ∷ codes "--learn" ∷ codes "--a" ∷ codes "fd:3" ∷ codes "--no-sync" ∷ []) ≡ None }
+    ensures from_now { order_of
+        (codes "receive" ∷ codes "--learn" ∷ codes "--a" ∷ codes "fd:3" ∷ codes "--journal" ∷ codes "J"
+        ∷ codes "--from-now" ∷ []) ≡ None }
+    ensures next { order_of
+        (codes "receive" ∷ codes "--learn" ∷ codes "--a" ∷ codes "fd:3" ∷ codes "--journal" ∷ codes "J"
+        ∷ codes "--next" ∷ codes "2" ∷ []) ≡ None }
+    ensures give_up { order_of
+        (codes "receive" ∷ codes "--learn" ∷ codes "--a" ∷ codes "fd:3" ∷ codes "--journal" ∷ codes "J"
+        ∷ codes "--give-up" ∷ codes "1" ∷ []) ≡ None }
+    ensures blocks { order_of
+        (codes "receive" ∷ codes "--learn" ∷ codes "--a" ∷ codes "fd:3" ∷ codes "--journal" ∷ codes "J"
+        ∷ codes "--blocks" ∷ []) ≡ None }
 {}
 
 /// `loop --session MKT` is accepted, and asks to run the session `MKT` in one process. The limits are 1,400 bytes, the

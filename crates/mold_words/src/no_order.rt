@@ -59,6 +59,12 @@ pub(crate) enum NoOrder {
     SameFiles,
     /// `--end-at-empty` is given without `--blocks`.
     EndWithoutBlocks,
+    /// `--no-sync` is given without `--journal`.
+    NoSyncWithoutJournal,
+    /// `--next` is above 1, and `--journal` is given.
+    NextWithJournal,
+    /// `--give-up` is above 0, and `--journal` is given.
+    GiveUpWithJournal,
     /// An allocation failed.
     Memory,
 }
@@ -141,7 +147,10 @@ impl NoOrder {
             | NoOrder::Ceiling
             | NoOrder::ServerLimit
             | NoOrder::SameFiles
-            | NoOrder::EndWithoutBlocks => String::from_str(alloc, self.fixed_text()),
+            | NoOrder::EndWithoutBlocks
+            | NoOrder::NoSyncWithoutJournal
+            | NoOrder::NextWithJournal
+            | NoOrder::GiveUpWithJournal => String::from_str(alloc, self.fixed_text()),
         }
     }
 
@@ -156,6 +165,12 @@ impl NoOrder {
             NoOrder::ServerLimit => "error: '--server-limit' is below '--limit'\n",
             NoOrder::SameFiles => "error: '--journal' and '--to' name one file\n",
             NoOrder::EndWithoutBlocks => "error: '--end-at-empty' requires '--blocks'\n",
+            NoOrder::NoSyncWithoutJournal => "error: '--no-sync' requires '--journal'\n",
+            NoOrder::NextWithJournal =>
+                "error: '--next' above 1 and '--journal' exclude each other\n",
+            NoOrder::GiveUpWithJournal => {
+                "error: '--give-up' above 0 and '--journal' exclude each other\n"
+            }
             _ => "",
         }
     }

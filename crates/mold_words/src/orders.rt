@@ -1,11 +1,12 @@
 //! Makes the order of the command that a parse found.
 
-ghost use Rattle.std.specs.Prelude.{◌≡◌, ◌⊎◌, MatchResult, None, Some};
+ghost use Rattle.std.specs.Prelude.{◌≡◌, ◌⊎◌, MatchResult, None, Some, false, not, true};
 ghost use Rattle.clap.specs.Words.{found_of, rows_of, subcommand_rows_of};
 ghost use Rattle.mold_words.specs.NoOrders.{LacksOrder, is_address};
-ghost use Rattle.mold_words.specs.Orders.{check_of, dump_of, lacks_address, listen_of, loop_of, order_at, order_in};
-ghost use Rattle.mold_words.specs.Orders.{pack_of, publish_of, receive_of, serve_of, show_of, sim_of, upgrade_of};
-ghost use Rattle.mold_words.specs.Arguments.{view};
+ghost use Rattle.mold_words.specs.Orders.{check_of, dump_of, excludes_journal, kept_in, lacks_address, listen_of};
+ghost use Rattle.mold_words.specs.Orders.{loop_of, order_at, order_in, pack_of, publish_of, receive_in, receive_of};
+ghost use Rattle.mold_words.specs.Orders.{serve_of, show_of, sim_of, upgrade_of};
+ghost use Rattle.mold_words.specs.Arguments.{receive_view, view};
 
 use crate::address_checks::check_addresses;
 use crate::dump_order::DumpOrder;
@@ -21,6 +22,7 @@ use crate::pack_order::PackOrder;
 use crate::publish_order::PublishOrder;
 use crate::receive_options::{learned_in, lines_in, requests_in, servers_in, start_in};
 use crate::receive_order::ReceiveOrder;
+use crate::record_order::RecordOrder;
 use crate::serve_order::ServeOrder;
 use crate::sim_order::SimOrder;
 use crate::types::Order;
@@ -253,11 +255,12 @@ fn listen_order(options: &ArgMatches<'_>) -> Result<Order, NoOrder>
     }))
 }
 
-#[tactic(auto, unfolding(crate::specs::Orders::receive_of))]
-fn receive_order(alloc: Global, options: &ArgMatches<'_>) -> Result<Order, NoOrder>
+// Returns how `receive` receives, apart from a journal.
+#[tactic(auto, unfolding(crate::specs::Orders::receive_in))]
+fn receive_in(alloc: Global, options: &ArgMatches<'_>) -> Result<ReceiveOrder, NoOrder>
     ensures { MatchResult result
-        (λ order. receive_of (rows_of (found_of options.now)) ≡ Some (view order))
-        (LacksOrder (receive_of (rows_of (found_of options.now)))) }
+        (λ order. receive_in (rows_of (found_of options.now)) ≡ Some (receive_view order))
+        (LacksOrder (receive_in (rows_of (found_of options.now)))) }
 {
     let session = learned_in(options)?;
     let next = start_in(options)?;
@@ -269,7 +272,7 @@ fn receive_order(alloc: Global, options: &ArgMatches<'_>) -> Result<Order, NoOrd
     let quiet = number_in(options, "quiet", 0, 0, 86_400)?;
     let stats = number_in(options, "stats", 0, 0, 86_400)?;
     let servers = servers_in(alloc, options)?;
-    Ok(Order::Receive(ReceiveOrder {
+    Ok(ReceiveOrder {
         session,
         next,
         a: lines.a,
@@ -288,7 +291,71 @@ fn receive_order(alloc: Global, options: &ArgMatches<'_>) -> Result<Order, NoOrd
         quiet: quiet as u32,
         stats: stats as u32,
         blocks: flag_in(options, "blocks"),
+    })
+}
+
+// Checks that a receiver with these options can keep a journal.
+fn check_kept(receive: &ReceiveOrder) -> Result<(), NoOrder>
+    ensures { MatchResult result
+        (λ done. excludes_journal (receive_view receive.now) ≡ false)
+        (λ none. (excludes_journal (receive_view receive.now) ≡ true) × (is_address none ≡ false)) }
+{
+    match receive.next {
+        Some(1) => {}
+        Some(_) => return Err(NoOrder::NextWithJournal),
+        None => {
+            return Err(NoOrder::Both {
+                first: "journal",
+                second: "from-now",
+            });
+        }
+    }
+    if receive.give_up > 0 {
+        return Err(NoOrder::GiveUpWithJournal);
+    }
+    if receive.blocks {
+        return Err(NoOrder::Both {
+            first: "journal",
+            second: "blocks",
+        });
+    }
+    Ok(())
+}
+
+// Returns the order to keep a session in this journal.
+fn record_order(
+    alloc: Global,
+    receive: ReceiveOrder,
+    journal: &str,
+    sync: bool,
+) -> Result<Order, NoOrder>
+    ensures { MatchResult result
+        (λ order. kept_in (Some journal.now) (not sync) (receive_view receive) ≡ Some (view order))
+        (LacksOrder (kept_in (Some journal.now) (not sync) (receive_view receive))) }
+{
+    check_kept(&receive)?;
+    Ok(Order::Record(RecordOrder {
+        receive,
+        journal: String::from_str(alloc, journal)?,
+        sync,
     }))
+}
+
+#[tactic(auto, unfolding(crate::specs::Orders::receive_of))]
+fn receive_order(alloc: Global, options: &ArgMatches<'_>) -> Result<Order, NoOrder>
+    ensures { MatchResult result
+        (λ order. receive_of (rows_of (found_of options.now)) ≡ Some (view order))
+        (LacksOrder (receive_of (rows_of (found_of options.now)))) }
+{
+    let receive = receive_in(alloc, options)?;
+    let no_sync = flag_in(options, "no-sync");
+    let Some(journal) = text_in(options, "journal") else {
+        if no_sync {
+            return Err(NoOrder::NoSyncWithoutJournal);
+        }
+        return Ok(Order::Receive(receive));
+    };
+    record_order(alloc, receive, journal, !no_sync)
 }
 
 #[tactic(auto, unfolding(crate::specs::Orders::loop_of))]

@@ -439,6 +439,18 @@ pub static LAST_COMMANDS: [CommandRow; 4] = [
                 help: "The time between two lines of statistics on standard error, 0 to 86400\n\
                     [default: 0]. 0 prints none",
             },
+            OptionRow {
+                name: "journal",
+                kind: Kind::Optional,
+                help: "The file to keep the session in, instead of printing its messages. If\n\
+                    it exists, the session is continued",
+            },
+            OptionRow {
+                name: "no-sync",
+                kind: Kind::Flag,
+                help: "Do not wait for the disk. If the machine fails, the file of --journal\n\
+                    can't be continued",
+            },
             BLOCKS_OUT,
         ],
         example: "Example:\n  mold receive --session SESSION001 --a 127.0.0.1:9001 --b 127.0.0.1:9002 \\\

@@ -7,11 +7,12 @@ use crate::pack_journal_order::PackJournalOrder;
 use crate::pack_order::PackOrder;
 use crate::publish_order::PublishOrder;
 use crate::receive_order::ReceiveOrder;
+use crate::record_order::RecordOrder;
 use crate::serve_order::ServeOrder;
 use crate::sim_order::SimOrder;
 use crate::upgrade_order::UpgradeOrder;
 
-/// The parsed command line. There is one variant for each command, and two for `check` and for `pack`.
+/// The parsed command line. There is one variant for each command, and two for `check`, `pack` and `receive`.
 #[derive(Drop)]
 pub enum Order {
     /// Prints the packets on standard input, each given as a line of hexadecimal digits.
@@ -41,6 +42,8 @@ pub enum Order {
     /// Prints the messages of a session that is received on one or two lines, and repairs gaps in the time that its
     /// options give.
     Receive(ReceiveOrder),
+    /// Keeps the messages of such a session in a journal file, and prints none.
+    Record(RecordOrder),
     /// Publishes a session, whose messages are read from standard input, and receives it in the same process.
     Loop(LoopOrder),
     /// Writes the journal of one file to another one, in the newest version of the format.

@@ -200,6 +200,31 @@ const EXCLUDED: &[FaultLine] = &[
         "error: '--server' is given more than 8 times\n",
     ),
     (
+        "receive --a fd:3 --learn --no-sync",
+        "usage",
+        "error: '--no-sync' requires '--journal'\n",
+    ),
+    (
+        "receive --a fd:3 --learn --journal J --from-now",
+        "usage",
+        "error: '--journal' and '--from-now' exclude each other\n",
+    ),
+    (
+        "receive --a fd:3 --learn --journal J --next 2",
+        "usage",
+        "error: '--next' above 1 and '--journal' exclude each other\n",
+    ),
+    (
+        "receive --a fd:3 --learn --journal J --give-up 1",
+        "usage",
+        "error: '--give-up' above 0 and '--journal' exclude each other\n",
+    ),
+    (
+        "receive --a fd:3 --learn --journal J --blocks",
+        "usage",
+        "error: '--journal' and '--blocks' exclude each other\n",
+    ),
+    (
         "receive --a fd:3 --learn --patience 0",
         "usage",
         "error: invalid value for '--patience <US>': not a number from 200 to 1000000\n",

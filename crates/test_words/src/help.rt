@@ -126,6 +126,10 @@ Options:
                            [default: 0]. 0 never ends
       --stats <SECONDS>    The time between two lines of statistics on standard error, 0 to 86400
                            [default: 0]. 0 prints none
+      --journal <FILE>     The file to keep the session in, instead of printing its messages. If
+                           it exists, the session is continued
+      --no-sync            Do not wait for the disk. If the machine fails, the file of --journal
+                           can't be continued
       --blocks             Print messages as message blocks (BinaryFILE), and all other text on
                            standard error
   -h, --help               Print help

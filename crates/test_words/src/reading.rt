@@ -283,6 +283,11 @@ fn expect_order(rt: &impl Abort, order: &Order, wanted: &Values<'_>, line: &str)
         Order::Serve(order) => expect_serve(rt, order, wanted, line),
         Order::Listen(order) => expect_listen(rt, order, wanted, line),
         Order::Receive(order) => expect_receive(rt, order, wanted, line),
+        Order::Record(order) => {
+            let texts = [order.journal.as_str()];
+            let numbers = [u64::from(order.sync)];
+            expect_small(rt, "receive --journal", b"", &numbers, &texts, wanted, line);
+        }
         Order::Loop(order) => expect_loop(rt, order, wanted, line),
         Order::Upgrade(order) => {
             let texts = [order.journal.as_str(), order.to.as_str()];

@@ -305,7 +305,8 @@ fn arguments_of_listen(rt: HostRuntime) {
 }
 
 // The first message, the ports and the senders of lines A and B, the window, the numbers of the requests, the audit,
-// the seconds of --quiet and --stats, and --blocks. The addresses are those of the servers.
+// the seconds of --quiet and --stats, and --blocks. The addresses are those of the servers. With --journal the number is 1
+// if it waits for the disk.
 const RECEIVE: &[OrderLine] = &[
     (
         "receive --session MKT --a 127.0.0.1:9000",
@@ -434,6 +435,26 @@ const RECEIVE: &[OrderLine] = &[
                 },
             ],
             texts: &[],
+        },
+    ),
+    (
+        "receive --learn --a fd:3 --journal day.journal",
+        Values {
+            command: "receive --journal",
+            session: b"",
+            numbers: &[1],
+            addresses: &[],
+            texts: &["day.journal"],
+        },
+    ),
+    (
+        "receive --session MKT --a fd:3 --no-sync --next 1 --give-up 0 --journal J",
+        Values {
+            command: "receive --journal",
+            session: b"",
+            numbers: &[0],
+            addresses: &[],
+            texts: &["J"],
         },
     ),
 ];

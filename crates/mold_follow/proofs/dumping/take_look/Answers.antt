@@ -18,15 +18,15 @@ returns-in_err-status-in-Err-clause-broken g c = λ told start first counted goi
 
 pub returns-in-Err-clause-looks : goal.returns-in-Err-clause-looks
 returns-in-Err-clause-looks g c = λ told start first counted going. record {
-  fault = Some c.file_error.result;
+  fault = Some c.load_error.result;
   proper = λ writer bytes writes within follows.
       absurd
-      (not_of_device c.in-Err.error (ap device_fault (sym c.file_error.ensures) ∙ c.in_ok-status-in-Err.ensures.refused)
+      (not_of_device c.in-Err.error (ap device_fault (sym c.load_error.ensures) ∙ c.in_ok-status-in-Err.ensures.refused)
       (c.in-Err.ensures.accepted writer bytes told writes within follows));
   left =
       without_news
       (λ (messages : List (List ℕ)).
-      EndsAfter c.args.options messages (Some c.file_error.result) c.poll.new.self.closed c.in_ok-status-in-Err.status
+      EndsAfter c.args.options messages (Some c.load_error.result) c.poll.new.self.closed c.in_ok-status-in-Err.status
       (start, g.K.Sink.held c.end_refused.new.devices.sink) (first, g.E.Sink.held c.end_refused.new.devices.errors))
       told _ (ap (λ (f : FollowerState _). f.news) c.in-Err.ensures.same)
       (c.in_ok-status-in-Err.ensures.left told start first c.poll.new.self.closed going);
