@@ -1,32 +1,57 @@
 -- The delays between two lines, by which the patience adapts. Times are in nanoseconds.
-use Rattle.std.specs.Prelude.{ℕ, ◌+◌, ◌*◌, ◌/◌, ◌%◌, ◌<◌, ◌&&◌, Bool, not, List, [], ◌∷◌, ◌++◌, length, max}
-use Rattle.std.specs.Prelude.{if◌then◌else◌, min, nat_eq, nat_lt, replicate, set}
+use Rattle.std.specs.Prelude.{ℕ, ◌+◌, ◌*◌, ◌/◌, ◌%◌, ◌<◌, ◌&&◌, Bool, not, List, [], ◌∷◌, max}
+use Rattle.std.specs.Prelude.{if◌then◌else◌, min, nat_eq, nat_lt, replicate}
+use Rattle.std.specs.List.{list_any}
 use Rattle.mold_pacing.specs.declared.arrival.Arrival.{Arrival}
+use Rattle.mold_pacing.specs.declared.delay.Delay.{Delay}
 use Rattle.mold_pacing.specs.declared.delays.TheConstants.{DELAYS, FIRST_PATIENCE, GREATEST_PATIENCE, LEAST_PATIENCE}
 use Rattle.mold_pacing.specs.declared.mark.Mark.{Mark}
 use Rattle.mold_pacing.specs.declared.mark.TheConstants.{BOTH, LINES, PART, PARTS, SLOTS, TIMES}
 
+-- The record of a delay: its length, and the line that brought the datagram second.
+abbrev pub delay_of : ℕ → ℕ → Delay
+delay_of span line = record { stamp = span % TIMES * LINES + (line + 1) % LINES }
+
+-- The record before a delay is known.
+abbrev pub no_delay : Delay
+no_delay = record { stamp = 0 }
+
+-- The records before any delay is known.
+abbrev pub no_delays : List Delay
+no_delays = replicate DELAYS no_delay
+
+-- Whether this is the record of a delay.
+abbrev pub is_delay : Delay → Bool
+is_delay d = nat_lt 0 d.stamp
+
+-- The length of a delay.
+abbrev pub span_of : Delay → ℕ
+span_of d = d.stamp / LINES
+
+-- The length of a delay if it is of this line, and otherwise 0.
+abbrev pub delay_on : ℕ → Delay → ℕ
+delay_on line d = if nat_eq (d.stamp % LINES) (line + 1) then span_of d else 0
+
 -- The greatest of the delays, or 0 without a delay.
-abbrev pub greatest_of : List ℕ → ℕ
+abbrev pub greatest_of : List Delay → ℕ
 greatest_of [] = 0
-greatest_of (delay ∷ delays) = max delay (greatest_of delays)
+greatest_of (d ∷ ds) = max (span_of d) (greatest_of ds)
 
--- The delay if it is of this line, and otherwise 0.
-abbrev pub delay_on : ℕ → ℕ → ℕ → ℕ
-delay_on line delay of = if nat_eq of line then delay else 0
+-- The greatest stamp of the delays. A greater delay has a greater stamp.
+abbrev pub greatest_stamp : List Delay → ℕ
+greatest_stamp [] = 0
+greatest_stamp (d ∷ ds) = max d.stamp (greatest_stamp ds)
 
--- The greatest of the delays of this line, or 0 if it has none. `lines` has, for each delay, the line that brought the
--- datagram second.
-abbrev pub greatest_on : ℕ → List ℕ → List ℕ → ℕ
-greatest_on line [] lines = 0
-greatest_on line (delay ∷ delays) [] = 0
-greatest_on line (delay ∷ delays) (of ∷ lines) = max (delay_on line delay of) (greatest_on line delays lines)
+-- The greatest of the delays of this line, or 0 if it has none.
+abbrev pub greatest_on : ℕ → List Delay → ℕ
+greatest_on line [] = 0
+greatest_on line (d ∷ ds) = max (delay_on line d) (greatest_on line ds)
 
 -- The patience that fits the delays: twice the greatest one, but at least 200 microseconds and at most 100
 -- milliseconds. Without a delay it is a millisecond.
-abbrev pub patience_for : List ℕ → ℕ
-patience_for [] = FIRST_PATIENCE
-patience_for (delay ∷ delays) = max LEAST_PATIENCE (min (greatest_of (delay ∷ delays) * 2) GREATEST_PATIENCE)
+abbrev pub patience_for : List Delay → ℕ
+patience_for ds =
+    if list_any is_delay ds then max LEAST_PATIENCE (min (greatest_of ds * 2) GREATEST_PATIENCE) else FIRST_PATIENCE
 
 -- The slot of a first number. Only numbers that differ by a multiple of `SLOTS` have the same slot.
 abbrev pub slot_of : ℕ → ℕ
@@ -77,13 +102,3 @@ kept before a =
     if is_second before a then record before { stamp = time_of before * LINES + BOTH }
     else if is_same before a then before
     else mark_of a
-
--- The last `DELAYS` delays after another one, or their lines. The one at the index leaves, if there are as many.
-abbrev pub pushed : ℕ → ℕ → List ℕ → List ℕ
-pushed delay index delays =
-    if nat_lt (length delays) DELAYS then delays ++ delay ∷ [] else set delays index delay
-
--- The index of the delay that leaves next.
-abbrev pub index_after : ℕ → List ℕ → ℕ
-index_after index delays =
-    if nat_lt (length delays) DELAYS then index else if nat_lt (index + 1) DELAYS then index + 1 else 0

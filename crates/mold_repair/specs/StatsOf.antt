@@ -21,7 +21,7 @@ pub record IsStats (r : Repairer) (s : RepairStats) : Type 0 where
   pub stored : s.stored ≡ finite.len r.arbiter.view.store
   pub patience : s.patience ≡ r.pacer.state.patience
   pub line_a : s.a ≡ line_stats r.arbiter.reports.a r.counts.again_a
-      (greatest_on (line_index (Line A)) r.delays.recent.items r.delays.lines.items)
+      (greatest_on (line_index (Line A)) r.delays.recent.items)
   pub line_b : s.b ≡ line_stats r.arbiter.reports.b r.counts.again_b
-      (greatest_on (line_index (Line B)) r.delays.recent.items r.delays.lines.items)
+      (greatest_on (line_index (Line B)) r.delays.recent.items)
   pub counts : s.counts ≡ r.counts

@@ -46,7 +46,7 @@ impl Repairer {
     ghost use Rattle.mold_audit.specs.Kept.{size_of};
     ghost use Rattle.mold_pacing.specs.declared.flight.Flight.{Flight};
     ghost use Rattle.mold_pacing.specs.State.{advanced, fresh};
-    ghost use Rattle.mold_pacing.specs.Delays.{greatest_on, no_arrivals};
+    ghost use Rattle.mold_pacing.specs.Delays.{greatest_on, no_arrivals, no_delays};
     ghost use Rattle.mold_pacing.specs.Deadline.{CanAsk};
     ghost use Rattle.mold_receiver.specs.Arbiter.{HasArbitrated, HasRefused, report_on};
     ghost use Rattle.mold_receiver.specs.Batch.{Follows};
@@ -81,8 +81,7 @@ impl Repairer {
         ensures empty { IfOk result (λ repairer. repairer.pacer.flights.items ≡ []) }
         ensures arrivals { IfOk result (λ repairer. repairer.delays.arrivals.items ≡ no_arrivals) }
         ensures counts { IfOk result (λ repairer. repairer.counts ≡ no_counts) }
-        ensures recent { IfOk result (λ repairer. repairer.delays.recent.items ≡ []) }
-        ensures lines { IfOk result (λ repairer. repairer.delays.lines.items ≡ []) }
+        ensures recent { IfOk result (λ repairer. repairer.delays.recent.items ≡ no_delays) }
         ensures size { IfOk result (λ repairer. size_of repairer.audit ≡ options.audit) }
         ensures noted { IfOk result (λ repairer. repairer.audit.next ≡ 0) }
         ensures ok { OnOk result (are_options options ≡ true) }
@@ -454,7 +453,7 @@ impl Repairer {
     // Returns the statistics of a line.
     fn line_stats(&self, line: Line, again: u64) -> LineStats
         ensures { result ≡ line_stats (report_on line self.now.arbiter.reports) again
-            (greatest_on (line_index (OnLine line)) self.now.delays.recent.items self.now.delays.lines.items) }
+            (greatest_on (line_index (OnLine line)) self.now.delays.recent.items) }
     {
         let index = RepairOrigin::Line(line).line_index();
         LineStats::new(self.arbiter.report(line), again, self.delays.late(index))

@@ -4,5 +4,4 @@ use Rattle.mold_pacing.proofs.delays.greatest_on.Given as goal
 
 abbrev pub invariant-loop-index : goal.invariant-loop-index
 invariant-loop-index l =
-    max l.greatest (greatest_on l.line (drop l.index l.delays) (drop l.index l.lines))
-    ≡ greatest_on l.line l.delays l.lines
+    max l.greatest (greatest_on l.line (drop l.index l.delays)) ≡ greatest_on l.line l.delays

@@ -1,14 +1,17 @@
-use Rattle.std.proofs.Common.{arith}
-use Rattle.mold_pacing.proofs.DelayLemmas.{patience_some}
+use Rattle.std.proofs.Common.{◌∙◌, arith, cond, ap, nat_lt, subst, sym}
+use Rattle.mold_pacing.proofs.DelayLemmas.{patience_none, patience_some}
 use Rattle.mold_pacing.proofs.delays.patience_after.Goals as goal
 
+pub returns-then-greatest-eq0 : goal.returns-then-greatest-eq0
+returns-then-greatest-eq0 c delays is = sym (patience_none delays (omega (arith, is, c.if-greatest-eq0.true)))
+
 pub returns : goal.returns
-returns c delays some is =
+returns c delays is =
     omega (
       arith,
-      patience_some delays some,
+      patience_some delays (omega (arith, is, c.if-greatest-eq0.false)),
       is,
-      c.saturating_mul.ensures,
+      c.span.ensures,
       c.min.ensures,
       c.max.ensures,
     )

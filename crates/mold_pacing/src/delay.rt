@@ -1,0 +1,44 @@
+//! A delay between the lines, and the line that was late.
+
+ghost use Rattle.std.specs.Prelude.{◌≡◌};
+ghost use Rattle.mold_pacing.specs.Delays.{delay_of, delay_on, span_of};
+
+use crate::mark::{LINES, TIMES};
+
+/// A delay between the lines, in 8 bytes: how much later the second line brought a datagram, and which line that was.
+#[derive(Clone, Copy, Debug, PartialEq, Eq)]
+pub struct Delay {
+    /// Four times the delay in nanoseconds, plus the line's index, plus 1. It is 0 if there is no delay.
+    pub stamp: u64,
+}
+
+impl Delay {
+    /// Returns the delay of this line. `span` is its length in nanoseconds.
+    #[inline(always)]
+    pub(crate) fn new(span: u64, line: u32) -> Delay
+        ensures { result ≡ delay_of span line }
+    {
+        Delay {
+            stamp: span % TIMES * LINES + (u64::from(line) + 1) % LINES,
+        }
+    }
+
+    /// Returns the length in nanoseconds, or 0 if there is no delay.
+    #[inline(always)]
+    pub(crate) fn span(self) -> u64
+        ensures { result ≡ span_of self }
+    {
+        self.stamp / LINES
+    }
+
+    /// Returns the length if the delay is of this line, and otherwise 0.
+    pub(crate) fn span_on(self, line: u32) -> u64
+        ensures { result ≡ delay_on line self }
+    {
+        if self.stamp % LINES == u64::from(line) + 1 {
+            self.span()
+        } else {
+            0
+        }
+    }
+}
