@@ -1,10 +1,10 @@
 -- The greatest of the last delays.
-use Rattle.std.proofs.Common.{◌≡◌, ℕ, zero, suc, ◌+◌, ◌<◌, ◌≤◌, List, [], ◌∷◌, Some, arith, inl, inr, length, max, set, slice_get}
-use Rattle.std.proofs.Common.{◌||◌, ◌∙◌, Bool, cond, ◌*◌, ◌/◌, ap, drop, min, nat_lt, refl, sym}
+use Rattle.std.proofs.Common.{◌≡◌, ℕ, zero, suc, ◌<◌, ◌≤◌, List, [], ◌∷◌, Some, arith, inl, inr, length, max, set, slice_get}
+use Rattle.std.proofs.Common.{◌||◌, ◌∙◌, Bool, cond, ◌*◌, ◌/◌, ap, min, nat_lt, refl, sym}
 use Rattle.std.proofs.lemmas.Bool.{cases_lt}
 use Rattle.std.proofs.lemmas.Bool.Decides.{nat_tests}
 use Rattle.std.specs.List.{list_any}
-use Rattle.mold_pacing.specs.Delays.{delay_on, greatest_of, greatest_on, greatest_stamp, is_delay, patience_for}
+use Rattle.mold_pacing.specs.Delays.{greatest_of, greatest_stamp, is_delay, patience_for}
 use Rattle.mold_pacing.specs.declared.delay.Delay.{Delay}
 use Rattle.mold_pacing.specs.declared.delays.TheConstants.{FIRST_PATIENCE, GREATEST_PATIENCE, LEAST_PATIENCE}
 

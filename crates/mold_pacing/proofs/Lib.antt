@@ -12,3 +12,4 @@ pub mod FrugalLemmas
 pub mod FrugalRunLemmas
 pub mod AttemptsLemmas
 pub mod DelayLemmas
+pub mod ArrivalLemmas

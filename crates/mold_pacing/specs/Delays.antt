@@ -1,16 +1,17 @@
 -- The delays between two lines, by which the patience adapts. Times are in nanoseconds.
-use Rattle.std.specs.Prelude.{ℕ, ◌+◌, ◌*◌, ◌/◌, ◌%◌, ◌<◌, ◌&&◌, Bool, not, List, [], ◌∷◌, max}
+use Rattle.std.specs.Prelude.{ℕ, ◌+◌, ◌*◌, ◌/◌, ◌%◌, ◌<◌, ◌≤◌, ◌&&◌, Bool, not, List, [], ◌∷◌, max}
 use Rattle.std.specs.Prelude.{if◌then◌else◌, min, nat_eq, nat_lt, replicate}
 use Rattle.std.specs.List.{list_any}
 use Rattle.mold_pacing.specs.declared.arrival.Arrival.{Arrival}
 use Rattle.mold_pacing.specs.declared.delay.Delay.{Delay}
+use Rattle.mold_pacing.specs.declared.delay.TheConstants.{LAST_LINE}
 use Rattle.mold_pacing.specs.declared.delays.TheConstants.{DELAYS, FIRST_PATIENCE, GREATEST_PATIENCE, LEAST_PATIENCE}
 use Rattle.mold_pacing.specs.declared.mark.Mark.{Mark}
 use Rattle.mold_pacing.specs.declared.mark.TheConstants.{BOTH, LINES, PART, PARTS, SLOTS, TIMES}
 
 -- The record of a delay: its length, and the line that brought the datagram second.
 abbrev pub delay_of : ℕ → ℕ → Delay
-delay_of span line = record { stamp = span % TIMES * LINES + (line + 1) % LINES }
+delay_of span line = record { stamp = span % TIMES * LINES + 1 + min line LAST_LINE }
 
 -- The record before a delay is known.
 abbrev pub no_delay : Delay
@@ -57,17 +58,14 @@ patience_for ds =
 abbrev pub slot_of : ℕ → ℕ
 slot_of first = first % SLOTS / PARTS + first % SLOTS % PARTS * PART
 
--- What is kept of an arrival's numbers. Its slot has the rest of the first number.
-abbrev pub key_of : Arrival → ℕ
-key_of a = a.first / SLOTS * SLOTS + a.count
-
 -- The record of an arrival: what is kept of it.
 abbrev pub mark_of : Arrival → Mark
-mark_of a = record { key = key_of a; stamp = a.time % TIMES * LINES + a.line % LINES }
+mark_of a = record { end = a.end; stamp = a.time % TIMES * LINES + a.line % LINES }
 
 -- The record of the arrival keeps all of it.
 pub record IsMarked (a : Arrival) : Type 0 where
-  pub count : a.count < SLOTS
+  pub some : a.first ≤ a.end
+  pub few : a.end < a.first + SLOTS
   pub time : a.time < TIMES
   pub line : a.line < LINES
 
@@ -81,24 +79,29 @@ line_of mark = mark.stamp % LINES
 
 -- The record of a slot before the first arrival.
 abbrev pub no_arrival : Mark
-no_arrival = record { key = 0; stamp = BOTH }
+no_arrival = record { end = 0; stamp = BOTH }
 
 -- The records before the first arrival.
 abbrev pub no_arrivals : List Mark
 no_arrivals = replicate SLOTS no_arrival
 
--- Whether this is the same datagram: it has the same numbers. The record is in the slot of the arrival.
+-- Whether this is the same datagram: it has the same numbers. The record is in the slot of the arrival, and a datagram
+-- has fewer than `SLOTS` messages.
 abbrev pub is_same : Mark → Arrival → Bool
-is_same before a = nat_eq before.key (key_of a)
+is_same before a = nat_eq before.end a.end
 
 -- Whether the datagram arrived before, and the other line alone brought it. The line `BOTH` means both lines.
 abbrev pub is_second : Mark → Arrival → Bool
 is_second before a =
     is_same before a && (not (nat_eq (line_of before) a.line) && not (nat_eq (line_of before) BOTH))
 
+-- The record after both lines brought the datagram.
+abbrev pub of_both : Mark → Mark
+of_both before = record before { stamp = time_of before * LINES + BOTH }
+
 -- The record after a datagram arrived, in place of the earlier one.
 abbrev pub kept : Mark → Arrival → Mark
 kept before a =
-    if is_second before a then record before { stamp = time_of before * LINES + BOTH }
+    if is_second before a then of_both before
     else if is_same before a then before
     else mark_of a

@@ -3,15 +3,15 @@
 ghost use Rattle.std.specs.Prelude.{◌≡◌};
 ghost use Rattle.mold_pacing.specs.Delays.{mark_of};
 
-use crate::mark::{LINES, Mark, SLOTS, TIMES};
+use crate::mark::{LINES, Mark, TIMES};
 
 /// A datagram that a line brought.
 #[derive(Clone, Copy, Debug, PartialEq, Eq)]
 pub struct Arrival {
     /// The number of its first message.
     pub first: u64,
-    /// The count of its messages.
-    pub count: u16,
+    /// One more than the number of its last message.
+    pub end: u64,
     /// The time at which it arrived, in nanoseconds. It is below 2^62.
     pub time: u64,
     /// The index of the line: 0, 1 or 2.
@@ -25,7 +25,7 @@ impl Arrival {
         ensures { result ≡ mark_of self }
     {
         Mark {
-            key: self.first / SLOTS * SLOTS + u64::from(self.count),
+            end: self.end,
             stamp: self.time % TIMES * LINES + u64::from(self.line) % LINES,
         }
     }

@@ -5,10 +5,13 @@ ghost use Rattle.mold_pacing.specs.Delays.{delay_of, delay_on, span_of};
 
 use crate::mark::{LINES, TIMES};
 
+// The greatest index of a line.
+pub(crate) const LAST_LINE: u64 = 2;
+
 /// A delay between the lines, in 8 bytes: how much later the second line brought a datagram, and which line that was.
 #[derive(Clone, Copy, Debug, PartialEq, Eq)]
 pub struct Delay {
-    /// Four times the delay in nanoseconds, plus the line's index, plus 1. It is 0 if there is no delay.
+    /// Four times the delay in nanoseconds, plus 1, plus the line's index. It is 0 if there is no delay.
     pub stamp: u64,
 }
 
@@ -19,7 +22,7 @@ impl Delay {
         ensures { result ≡ delay_of span line }
     {
         Delay {
-            stamp: span % TIMES * LINES + (u64::from(line) + 1) % LINES,
+            stamp: span % TIMES * LINES + 1 + u64::from(line).min(LAST_LINE),
         }
     }
 

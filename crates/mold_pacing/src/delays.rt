@@ -23,7 +23,7 @@ pub(crate) const LEAST_PATIENCE: u64 = 200_000;
 pub(crate) const GREATEST_PATIENCE: u64 = 100_000_000;
 
 const NO_ARRIVAL: Mark = Mark {
-    key: 0,
+    end: 0,
     stamp: BOTH,
 };
 
@@ -132,9 +132,10 @@ impl Delays {
         ensures recent { self.new.recent.items ≡ set self.old.recent.items self.old.next delay }
         ensures next { self.new.next ≡ (self.old.next + 1) % DELAYS }
     {
-        let left = self.recent[self.next];
-        self.recent[self.next] = delay;
-        self.next = (self.next + 1) % DELAYS;
+        let index = self.next;
+        self.next = (index + 1) % DELAYS;
+        let left = self.recent[index];
+        self.recent[index] = delay;
         let greatest = next_greatest(&self.recent, self.greatest, left.stamp, delay.stamp);
         if greatest == self.greatest {
             return;
@@ -156,11 +157,17 @@ impl Delays {
             self.arrivals[slot] = arrival.mark();
             return;
         }
-        self.arrivals[slot] = before.keep(arrival);
-        if before.is_second(arrival) {
-            let span = arrival.time.saturating_sub(before.time());
-            self.push(Delay::new(span, arrival.line));
+        if before.line() == u64::from(arrival.line) {
+            return;
         }
+        // For the optimizer: the mark of a datagram that both lines brought before is written again, unchanged. Without
+        // a step between the two tests they would be merged, which takes more instructions.
+        self.arrivals[slot] = before.of_both();
+        if before.line() == BOTH {
+            return;
+        }
+        let span = arrival.time.saturating_sub(before.time());
+        self.push(Delay::new(span, arrival.line));
     }
 
     /// Returns the greatest of the delays with which this line brought a datagram after the other line, in nanoseconds.

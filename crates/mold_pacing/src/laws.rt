@@ -5,7 +5,8 @@ ghost use Rattle.std.specs.Prelude.{◌≡◌, ◌+◌, ◌-◌, ◌*◌, ◌<�
 ghost use Rattle.mold_pacing.specs.Asks.{are_gaps};
 ghost use Rattle.mold_pacing.specs.Attempts.{count_asks_for};
 ghost use Rattle.mold_pacing.specs.Deadline.{CanAsk};
-ghost use Rattle.mold_pacing.specs.Delays.{IsMarked, is_same, line_of, mark_of, slot_of, time_of};
+ghost use Rattle.mold_pacing.specs.Delays.{IsMarked, delay_of, delay_on, is_delay, is_same, line_of, mark_of, slot_of};
+ghost use Rattle.mold_pacing.specs.Delays.{span_of, time_of};
 ghost use Rattle.mold_pacing.specs.Frugal.{AreMissingOnce, IsFrugal};
 ghost use Rattle.mold_pacing.specs.Laws.{AreApart, count_asks};
 ghost use Rattle.mold_pacing.specs.Polls.{HasAsked, IsIdle, last_request};
@@ -14,7 +15,9 @@ ghost use Rattle.mold_pacing.specs.Run.{IsRun};
 ghost use Rattle.mold_pacing.specs.State.{IsRipened, advanced, fresh};
 ghost use Rattle.mold_pacing.specs.declared.arrival.Arrival.{Arrival};
 ghost use Rattle.mold_pacing.specs.declared.ask.Ask.{Ask};
+ghost use Rattle.mold_pacing.specs.declared.delay.TheConstants.{LAST_LINE};
 ghost use Rattle.mold_pacing.specs.declared.gap.Gap.{Gap};
+ghost use Rattle.mold_pacing.specs.declared.mark.TheConstants.{TIMES};
 ghost use Rattle.mold_pacing.specs.declared.options.PacerOptions.{PacerOptions};
 ghost use Rattle.mold_pacing.specs.declared.pacer.Pacer.{Pacer};
 ghost use Rattle.mold_pacing.specs.declared.state.PacerState.{PacerState};
@@ -74,12 +77,21 @@ pub fn attempts_law()
         attempts_of (last_request new number) ≤ count_asks_for number asks }
 {}
 
-/// The record of an arrival keeps all of it, if its time is below 2^62 and its line is below 4. In one slot, no two
-/// datagrams have the same record.
+/// The record of an arrival keeps all of it, if it has fewer than 65,536 messages, its time is below 2^62 and its line
+/// is below 4. In one slot, no two datagrams have the same record.
 pub fn mark_law()
     ensures same { (a b : Arrival) → IsMarked a → IsMarked b → slot_of a.first ≡ slot_of b.first →
-        is_same (mark_of a) b ≡ true → (a.first ≡ b.first) × (a.count ≡ b.count) }
-    ensures again { (a b : Arrival) → a.first ≡ b.first → a.count ≡ b.count → is_same (mark_of a) b ≡ true }
+        is_same (mark_of a) b ≡ true → (a.first ≡ b.first) × (a.end ≡ b.end) }
+    ensures again { (a b : Arrival) → a.first ≡ b.first → a.end ≡ b.end → is_same (mark_of a) b ≡ true }
     ensures time { (a : Arrival) → IsMarked a → time_of (mark_of a) ≡ a.time }
     ensures line { (a : Arrival) → IsMarked a → line_of (mark_of a) ≡ a.line }
+{}
+
+/// The record of a delay keeps all of it, if the delay is below 2^62 and the line is 0, 1 or 2.
+pub fn delay_law()
+    ensures known { (span line : ℕ) → is_delay (delay_of span line) ≡ true }
+    ensures span { (span line : ℕ) → span < TIMES → span_of (delay_of span line) ≡ span }
+    ensures line { (span line : ℕ) → span < TIMES → line ≤ LAST_LINE → delay_on line (delay_of span line) ≡ span }
+    ensures other { (span line other : ℕ) → line ≤ LAST_LINE → (other ≡ line → ⊥) →
+        delay_on other (delay_of span line) ≡ 0 }
 {}

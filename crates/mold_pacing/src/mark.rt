@@ -1,7 +1,7 @@
 //! What is kept of a datagram that a line brought.
 
 ghost use Rattle.std.specs.Prelude.{◌≡◌, ◌<◌};
-ghost use Rattle.mold_pacing.specs.Delays.{is_same, is_second, kept, line_of, slot_of, time_of};
+ghost use Rattle.mold_pacing.specs.Delays.{is_same, line_of, of_both, slot_of, time_of};
 
 use crate::arrival::Arrival;
 
@@ -23,11 +23,12 @@ pub(crate) const LINES: u64 = 4;
 /// The line in the mark of a datagram that both lines brought.
 pub(crate) const BOTH: u64 = 3;
 
-/// What is kept of an arrival, in 16 bytes. The low 16 bits of its first number are in the index of its slot.
+/// What is kept of an arrival, in 16 bytes. Its slot and `end` determine its first number, because a datagram has fewer
+/// than 65,536 messages.
 #[derive(Clone, Copy, Debug, PartialEq, Eq)]
 pub struct Mark {
-    /// Its first number without the low 16 bits, plus the count of its messages.
-    pub key: u64,
+    /// One more than the number of its last message.
+    pub end: u64,
     /// Four times the time, plus the line.
     pub stamp: u64,
 }
@@ -66,33 +67,17 @@ impl Mark {
     pub(crate) fn is_same(self, arrival: Arrival) -> bool
         ensures { result ≡ is_same self arrival }
     {
-        self.key == arrival.mark().key
+        self.end == arrival.end
     }
 
-    /// Returns whether the arrival is of the same datagram, and the other line alone brought it before.
+    /// Returns the mark after both lines brought the datagram.
     #[inline(always)]
-    pub(crate) fn is_second(self, arrival: Arrival) -> bool
-        ensures { result ≡ is_second self arrival }
+    pub(crate) fn of_both(self) -> Mark
+        ensures { result ≡ of_both self }
     {
-        let line = self.line();
-        self.is_same(arrival) && line != u64::from(arrival.line) && line != BOTH
-    }
-
-    /// Returns what is kept in place of this mark after the arrival.
-    #[inline(always)]
-    pub(crate) fn keep(self, arrival: Arrival) -> Mark
-        ensures { result ≡ kept self arrival }
-    {
-        if self.is_second(arrival) {
-            return Mark {
-                stamp: self.time() * LINES + BOTH,
-                ..self
-            };
-        }
-        if self.is_same(arrival) {
-            self
-        } else {
-            arrival.mark()
+        Mark {
+            stamp: self.time() * LINES + BOTH,
+            ..self
         }
     }
 }

@@ -6,9 +6,10 @@ ghost use Rattle.mold_receiver.specs.Arbiter.{HasArbitrated, HasRefused, report_
 ghost use Rattle.mold_receiver.specs.Batch.{Follows, followed_by};
 ghost use Rattle.mold_receiver.specs.Origin.{line_of};
 ghost use Rattle.mold_receiver.specs.Own.{HasArbitratedOwn, HasRefusedOwn};
-ghost use Rattle.mold_receiver.specs.Receive.{IsRefusedFor};
+ghost use Rattle.mold_receiver.specs.Receive.{IsRefusedFor, top_read};
 ghost use Rattle.mold_receiver.specs.Skip.{AreMissing, skipped, skipped_run};
 ghost use Rattle.mold_receiver.specs.Wanted.{HasNoGap, IsFirstAbsent, IsNextGap};
+ghost use Rattle.mold_wire.specs.Reading.{reading};
 
 use crate::batch::Batch;
 use crate::gap::Gap;
@@ -52,19 +53,18 @@ impl Arbiter {
         Arbiter { receiver, reports }
     }
 
-    /// Takes a datagram as the receiver does. If it came on a line, that line's report counts it as accepted or
-    /// refused. A failed allocation changes no report. The batch must be empty or end just before the receiver's
-    /// `next`.
+    /// Takes a datagram as `take_from` does, and also returns the top of an accepted packet.
     #[inline(always)]
-    pub fn take_from(
+    pub fn take_top(
         &mut self,
         origin: Origin,
         bytes: &[u8],
         batch: &mut Batch,
-    ) -> Result<Taken, Refusal>
+    ) -> Result<Accepted, Refusal>
         requires { Follows batch.old self.old.view.next }
-        ensures taken { IfOk result
-            (λ taken. HasArbitrated (line_of origin) self.old bytes.now batch.old self.new batch.new taken) }
+        ensures taken { IfOk result (λ accepted.
+            HasArbitrated (line_of origin) self.old bytes.now batch.old self.new batch.new accepted.taken) }
+        ensures top { IfOk result (λ accepted. accepted.top ≡ top_read (reading bytes.now)) }
         ensures refused { IfErr result
             (λ refused. HasRefused (line_of origin) self.old bytes.now self.new refused) }
         ensures batch { OnErr result (batch.new ≡ batch.old) }
@@ -85,10 +85,13 @@ impl Arbiter {
                 if let Origin::Line(line) = origin {
                     self.reports.note_taken(line, top);
                 }
-                Ok(Taken {
-                    handed,
-                    kept,
-                    beyond,
+                Ok(Accepted {
+                    taken: Taken {
+                        handed,
+                        kept,
+                        beyond,
+                    },
+                    top,
                 })
             }
             Err(refused) => {
@@ -97,6 +100,42 @@ impl Arbiter {
                 }
                 Err(refused)
             }
+        }
+    }
+
+    /// Takes a datagram as the receiver does. If it came on a line, that line's report counts it as accepted or
+    /// refused. A failed allocation changes no report. The batch must be empty or end just before the receiver's
+    /// `next`.
+    #[inline(always)]
+    pub fn take_from(
+        &mut self,
+        origin: Origin,
+        bytes: &[u8],
+        batch: &mut Batch,
+    ) -> Result<Taken, Refusal>
+        requires { Follows batch.old self.old.view.next }
+        ensures taken { IfOk result
+            (λ taken. HasArbitrated (line_of origin) self.old bytes.now batch.old self.new batch.new taken) }
+        ensures refused { IfErr result
+            (λ refused. HasRefused (line_of origin) self.old bytes.now self.new refused) }
+        ensures batch { OnErr result (batch.new ≡ batch.old) }
+    {
+        match self.take_top(origin, bytes, batch) {
+            Ok(
+                Accepted {
+                    taken: Taken {
+                        handed,
+                        kept,
+                        beyond,
+                    },
+                    ..
+                },
+            ) => Ok(Taken {
+                handed,
+                kept,
+                beyond,
+            }),
+            Err(refused) => Err(refused),
         }
     }
 

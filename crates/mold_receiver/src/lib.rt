@@ -37,4 +37,4 @@ pub use mold_rule::{Refusal, Refusal as Refused};
 pub use mold_wire::{MAX_WIDE_WINDOW, MAX_WINDOW};
 pub use origin::Origin;
 pub use receiver::Receiver;
-pub use taken::Taken;
+pub use taken::{Accepted, Taken};

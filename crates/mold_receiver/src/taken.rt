@@ -15,7 +15,9 @@ pub struct Taken {
 
 /// What a receiver did with a packet that it accepted, and the packet's top.
 #[derive(Clone, Copy, Debug)]
-pub(crate) struct Accepted {
+pub struct Accepted {
+    /// The counts.
     pub taken: Taken,
+    /// The packet's top: one more than the number of its last message, or its number if it has no message.
     pub top: u64,
 }

@@ -105,7 +105,7 @@ pub not_timed : (options : RepairOptions) (origin : RepairOrigin) (came : Head) 
     is_timed options origin came ≡ false
 not_timed options origin came some =
     let off : (options.patience == 0) ≡ false = grind (arith, nat_tests, some) in
-    ap (λ b. b && (is_line origin && not (came.count == 0))) off
+    ap (λ b. b && (is_line origin && not (came.first == came.end))) off
 
 now_of : (b : Bool) (s t : PacerState) → t.now ≡ s.now → (cond b s t).now ≡ s.now
 now_of true s t same = refl

@@ -25,12 +25,12 @@ is_line (Server server) = false
 
 -- Whether a datagram with this head counts for the delays: the patience adapts, and it brought messages on a line.
 abbrev pub is_timed : RepairOptions → RepairOrigin → Head → Bool
-is_timed options origin head = (options.patience == 0) && (is_line origin && not (head.count == 0))
+is_timed options origin head = (options.patience == 0) && (is_line origin && not (head.first == head.end))
 
 -- The arrival of this head.
 abbrev pub arrival_of : ℕ → RepairOrigin → Head → Arrival
 arrival_of now origin head =
-    record { first = head.first; count = head.count; time = now; line = line_index origin }
+    record { first = head.first; end = head.end; time = now; line = line_index origin }
 
 -- The delays after a datagram with this head.
 pub record IsTimed (options : RepairOptions) (now : ℕ) (origin : RepairOrigin) (head : Head) (old new : Delays) :

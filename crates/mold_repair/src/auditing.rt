@@ -5,7 +5,7 @@ ghost use Rattle.mold_audit.specs.Kept.{HasNoted};
 ghost use Rattle.mold_repair.specs.Auditing.{IsCompared};
 ghost use Rattle.mold_repair.specs.Header.{IsRead};
 
-use crate::header::head_in;
+use crate::header::first_in;
 use mold_audit::Audit;
 use mold_audit::laws::{agrees_law, off_law};
 use mold_receiver::Batch;
@@ -19,7 +19,7 @@ fn find_contradiction(audit: &Audit, datagram: &[u8], next: u64) -> Option<u64>
     ensures { IsCompared audit.now datagram.now result }
 {
     agrees_law();
-    if head_in(datagram).first >= next {
+    if first_in(datagram) >= next {
         return None;
     }
     let Ok(packet) = decode(datagram) else {

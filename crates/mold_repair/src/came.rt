@@ -117,5 +117,5 @@ pub(crate) fn report(arbiter: &Arbiter, pacer: &mut Pacer, origin: RepairOrigin,
 pub(crate) fn is_timed(options: &RepairOptions, origin: RepairOrigin, head: Head) -> bool
     ensures { result ≡ is_timed options.now origin head }
 {
-    options.patience == 0 && origin.is_line() && head.count != 0
+    options.patience == 0 && origin.is_line() && head.first != head.end
 }

@@ -1,43 +1,41 @@
-//! The first number and the message count of an accepted datagram, from its header alone.
+//! The numbers of an accepted datagram's messages, from its header alone.
 
 ghost use Rattle.std.specs.Prelude.{◌≡◌};
+ghost use Rattle.mold_receiver.specs.Receive.{top_read};
 ghost use Rattle.mold_repair.specs.Header.{IsRead, head};
-ghost use Rattle.mold_wire.specs.Packet.{stated_blocks};
 ghost use Rattle.mold_wire.specs.Reading.{reading};
 
 use byteorder::{BigEndian, ByteOrder};
-use mold_wire::{END_OF_SESSION, SESSION_LENGTH};
+use mold_wire::SESSION_LENGTH;
 
-// The offset of the message count in a header.
-pub(crate) const COUNT_AT: usize = SESSION_LENGTH + 8;
-
-// Returns how many messages follow a header with this message count.
-#[inline(always)]
-fn stated(count: u16) -> u16
-    ensures { result ≡ stated_blocks count }
-{
-    if count == END_OF_SESSION { 0 } else { count }
-}
-
-/// The head of a packet, without its session.
+/// The numbers of a packet's messages.
 #[derive(Clone, Copy, Debug)]
 pub(crate) struct Head {
     /// The number of the first message, or of the next one if there is no message.
     pub(crate) first: u64,
-    /// The count of the messages that follow.
-    pub(crate) count: u16,
+    /// One more than the number of the last message, or `first` if there is no message.
+    pub(crate) end: u64,
 }
 
-/// Returns the head of a datagram that encodes a packet. It reads the header only.
+/// Returns the number in the header of a datagram that encodes a packet.
 #[inline(always)]
-pub(crate) fn head_in(datagram: &[u8]) -> Head
+pub(crate) fn first_in(datagram: &[u8]) -> u64
     requires { IsRead datagram.now }
-    ensures { result ≡ head (reading datagram.now) }
+    ensures { result ≡ (head (reading datagram.now)).first }
 {
     let (_, numbers) = datagram.split_at(SESSION_LENGTH);
-    let (_, behind) = datagram.split_at(COUNT_AT);
+    BigEndian::read_u64(numbers)
+}
+
+/// Returns the head of a datagram that encodes a packet with this top. It reads the header only.
+#[inline(always)]
+pub(crate) fn head_in(datagram: &[u8], top: u64) -> Head
+    requires read { IsRead datagram.now }
+    requires top { top ≡ top_read (reading datagram.now) }
+    ensures { result ≡ head (reading datagram.now) }
+{
     Head {
-        first: BigEndian::read_u64(numbers),
-        count: stated(BigEndian::read_u16(behind)),
+        first: first_in(datagram),
+        end: top,
     }
 }

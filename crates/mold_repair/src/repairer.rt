@@ -17,7 +17,7 @@ use mold_audit::Audit;
 use mold_audit::laws::next_law;
 use mold_pacing::{Arrival, Delays, Gap, Pacer};
 use mold_receiver::laws::{taken_law, wanted_law};
-use mold_receiver::{Arbiter, Batch, Line, Refusal, Taken};
+use mold_receiver::{Accepted, Arbiter, Batch, Line, Refusal, Taken};
 use mold_wire::Request;
 use std::alloc::{AllocError, Global};
 
@@ -51,6 +51,7 @@ impl Repairer {
     ghost use Rattle.mold_receiver.specs.Arbiter.{HasArbitrated, HasRefused, report_on};
     ghost use Rattle.mold_receiver.specs.Batch.{Follows};
     ghost use Rattle.mold_receiver.specs.Origin.{line_of};
+    ghost use Rattle.mold_receiver.specs.Receive.{top_read};
     ghost use Rattle.mold_receiver.specs.Wanted.{HasNoGap, IsNextGap};
     ghost use Rattle.mold_repair.specs.Auditing.{HasAudited, HasAuditedLoss};
     ghost use Rattle.mold_repair.specs.Came.{noted};
@@ -152,8 +153,9 @@ impl Repairer {
 
     // Adapts the patience, if it adapts and the datagram brought messages on a line.
     #[inline(always)]
-    fn adapt(&mut self, origin: RepairOrigin, datagram: &[u8])
+    fn adapt(&mut self, origin: RepairOrigin, datagram: &[u8], top: u64)
         requires read { IsRead datagram.now }
+        requires top { top ≡ top_read (reading datagram.now) }
         ensures timed { IsTimed self.old.options self.old.pacer.state.now origin (head (reading datagram.now))
             self.old.delays self.new.delays }
         ensures learned { HasLearned self.old.pacer self.new.pacer
@@ -166,13 +168,13 @@ impl Repairer {
         if self.options.patience != 0 {
             return;
         }
-        let head = head_in(datagram);
+        let head = head_in(datagram, top);
         if !is_timed(&self.options, origin, head) {
             return;
         }
         self.delays.take(Arrival {
             first: head.first,
-            count: head.count,
+            end: head.end,
             time: self.pacer.state().now,
             line: origin.line_index(),
         });
@@ -220,17 +222,20 @@ impl Repairer {
         let known = receiver.known();
         let is_missing = receiver.next() < known;
         self.pacer.advance(now, known);
-        // For the optimizer: `Taken` is rebuilt field by field, as in `Arbiter::take_from`. `contradict` follows
+        // For the optimizer: `Taken` is rebuilt field by field, as in `Arbiter::take_top`. `contradict` follows
         // `audit_taken` at once, so that both are one test without an audit.
         match self
             .arbiter
-            .take_from(origin.receiver_origin(), datagram, batch)
+            .take_top(origin.receiver_origin(), datagram, batch)
         {
             Ok(
-                Taken {
-                    handed,
-                    kept,
-                    beyond,
+                Accepted {
+                    taken: Taken {
+                        handed,
+                        kept,
+                        beyond,
+                    },
+                    top,
                 },
             ) => {
                 let taken = Taken {
@@ -243,7 +248,7 @@ impl Repairer {
                 self.counts.contradict(found);
                 self.counts.take(origin, taken);
                 self.learn(origin, datagram, is_missing);
-                self.adapt(origin, datagram);
+                self.adapt(origin, datagram, top);
                 Ok(taken)
             }
             Err(refused) => Err(refused),

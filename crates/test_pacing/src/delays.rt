@@ -11,7 +11,7 @@ fn same(rt: &impl Abort, found: u64, wanted: u64) {
 fn arrive(delays: &mut Delays, first: u64, time: u64, line: u32) {
     delays.take(Arrival {
         first,
-        count: 5,
+        end: first.saturating_add(5),
         time,
         line,
     });

@@ -1,4 +1,4 @@
-use Rattle.std.proofs.Common.{◌∙◌, arith, cond, ap, nat_lt, subst, sym}
+use Rattle.std.proofs.Common.{arith, sym}
 use Rattle.mold_pacing.proofs.DelayLemmas.{patience_none, patience_some}
 use Rattle.mold_pacing.proofs.delays.patience_after.Goals as goal
 

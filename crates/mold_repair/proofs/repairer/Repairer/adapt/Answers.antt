@@ -18,7 +18,7 @@ returns-clause-timed c =
     let on = sym (ap (is_timed old.options c.args.origin) came) ∙ sym c.is_timed.ensures ∙ c.if-not-is_timed.false in
     record {
       taken = λ _. subst (IsTaken old.delays c.take.new.self)
-          (λ i. record { first = (came i).first; count = (came i).count; time = now i; line = line i }) c.take.ensures;
+          (λ i. record { first = (came i).first; end = (came i).end; time = now i; line = line i }) c.take.ensures;
       same = λ off. absurd (true_is_false (sym on ∙ off));
     }
 

@@ -45,7 +45,7 @@ returns-in-Ok-clause-learned c =
     let between = c.advance.new.self in
     let time = ap (λ (s : PacerState). s.now) c.advance.ensures.state ∙ advanced_now now c.known-known.result old.pacer.state in
     let flights = c.advance.ensures.flights in
-    let taken = c.take_from.new.self.view in
+    let taken = c.take_top.new.self.view in
     let learned = subst (λ (steps : List Step). HasLearned between c.learn.new.self.pacer
     (cond (nat_lt c.next.result c.known-known.result) steps []))
     (λ i. noted origin bytes taken (time i) (flights i)) c.learn.ensures.learned in
@@ -74,9 +74,9 @@ returns-in-Ok-clause-timed c =
 pub returns-in-Ok-clause-taken : goal.returns-in-Ok-clause-taken
 returns-in-Ok-clause-taken c =
     subst (λ (o : Origin). HasArbitrated (line_of o) c.args.self.now.arbiter c.args.datagram.now c.args.batch.now
-    c.adapt.new.self.arbiter c.take_from.new.batch c.in-Ok.field-0) c.receiver_origin.ensures
+    c.adapt.new.self.arbiter c.take_top.new.batch c.in-Ok.field-0.taken) c.receiver_origin.ensures
     (subst (λ (a : Arbitration). HasArbitrated (line_of c.receiver_origin.result) c.args.self.now.arbiter
-    c.args.datagram.now c.args.batch.now a c.take_from.new.batch c.in-Ok.field-0)
+    c.args.datagram.now c.args.batch.now a c.take_top.new.batch c.in-Ok.field-0.taken)
     (sym (c.adapt.ensures.arbiter ∙ c.learn.ensures.arbiter)) c.in-Ok.ensures.taken)
 
 pub audit_taken-found-requires-clause-there : goal.audit_taken-found-requires-clause-there
@@ -87,30 +87,30 @@ audit_taken-found-requires-clause-there c =
 pub invariant_of-self-clause-noted : goal.invariant_of-self-clause-noted
 invariant_of-self-clause-noted c =
     let old = c.args.self.now in
-    let batch = c.take_from.new.batch in
+    let batch = c.take_top.new.batch in
     let is = is_delivered c.taken_law.ensures _ _ _ _ _ _ _ c.in-Ok.ensures.taken in
     let next = c.next-next.ensures ∙ ap (λ (v : View). v.next) c.receiver.ensures in
-    let noted = noted_last old.audit c.audit_taken-found.new.audit old.arbiter c.take_from.new.self c.args.batch.now
-    batch c.in-Ok.field-0.handed is (rw next at c.audit_taken-found.ensures.noted) in
-    noted_within old.audit c.audit_taken-found.new.audit old.arbiter c.take_from.new.self c.args.batch.now batch
-    c.in-Ok.field-0.handed is (c.next_law.ensures old.audit c.audit_taken-found.new.audit old.arbiter.view.next
+    let noted = noted_last old.audit c.audit_taken-found.new.audit old.arbiter c.take_top.new.self c.args.batch.now
+    batch c.in-Ok.field-0.taken.handed is (rw next at c.audit_taken-found.ensures.noted) in
+    noted_within old.audit c.audit_taken-found.new.audit old.arbiter c.take_top.new.self c.args.batch.now batch
+    c.in-Ok.field-0.taken.handed is (c.next_law.ensures old.audit c.audit_taken-found.new.audit old.arbiter.view.next
     (drop (length c.args.batch.now.messages) batch.messages) old.noted noted)
 
 pub returns-in-Ok-clause-audited : goal.returns-in-Ok-clause-audited
 returns-in-Ok-clause-audited c =
     let old = c.args.self.now in
-    let batch = c.take_from.new.batch in
+    let batch = c.take_top.new.batch in
     let is = is_delivered c.taken_law.ensures _ _ _ _ _ _ _ c.in-Ok.ensures.taken in
     let next = c.next-next.ensures ∙ ap (λ (v : View). v.next) c.receiver.ensures in
-    let noted = noted_last old.audit c.audit_taken-found.new.audit old.arbiter c.take_from.new.self c.args.batch.now
-    batch c.in-Ok.field-0.handed is (rw next at c.audit_taken-found.ensures.noted) in
+    let noted = noted_last old.audit c.audit_taken-found.new.audit old.arbiter c.take_top.new.self c.args.batch.now
+    batch c.in-Ok.field-0.taken.handed is (rw next at c.audit_taken-found.ensures.noted) in
     record {
       found = c.audit_taken-found.result;
       is = c.audit_taken-found.ensures.compared;
       counts =
           c.adapt.ensures.counts ∙ c.learn.ensures.counts ∙ c.take.ensures
-          ∙ ap (counted_taken c.args.origin c.in-Ok.field-0) c.contradict.ensures
-          ∙ counted_either c.args.origin c.in-Ok.field-0 c.audit_taken-found.result old.counts;
+          ∙ ap (counted_taken c.args.origin c.in-Ok.field-0.taken) c.contradict.ensures
+          ∙ counted_either c.args.origin c.in-Ok.field-0.taken c.audit_taken-found.result old.counts;
       noted =
           subst (λ (a : Audit). HasNoted old.audit a old.arbiter.view.next
           (drop (length c.args.batch.now.messages) batch.messages))
@@ -120,6 +120,6 @@ returns-in-Ok-clause-audited c =
 pub returns-in-Ok-clause-given_up : goal.returns-in-Ok-clause-given_up
 returns-in-Ok-clause-given_up c =
     ap (λ (k : RepairCounts). k.lost) (c.adapt.ensures.counts ∙ c.learn.ensures.counts ∙ c.take.ensures)
-    ∙ taken_lost c.args.origin c.in-Ok.field-0 c.contradict.new.self
+    ∙ taken_lost c.args.origin c.in-Ok.field-0.taken c.contradict.new.self
     ∙ ap (λ (k : RepairCounts). k.lost) c.contradict.ensures
     ∙ contradicted_lost c.audit_taken-found.result c.args.self.now.counts

@@ -3,7 +3,7 @@ use Rattle.mold_receiver.specs.Arbiter.{Arbitration, HasArbitrated, IsArbitratio
 use Rattle.mold_receiver.specs.Origin.{line_of}
 use Rattle.mold_receiver.specs.declared.line.Line.{Line}
 use Rattle.mold_receiver.proofs.ArbiterLemmas.{taken_kept}
-use Rattle.mold_receiver.proofs.arbiter.Arbiter.take_from.Goals as goal
+use Rattle.mold_receiver.proofs.arbiter.Arbiter.take_top.Goals as goal
 
 pub invariant_of-self : goal.invariant_of-self
 invariant_of-self c =
