@@ -1,5 +1,7 @@
 -- What a durable journal has after messages were appended to it.
-use Rattle.std.proofs.Common.{◌≡◌, ⊎_elim, inl, inr, ℕ, ◌+◌, Bool, List, [], ◌∷◌, ◌++◌, length, refl, sym, ap, subst}
+use Rattle.std.proofs.Common.{Err, Ok, OnErr, OnOk, Result, true}
+use Rattle.std.proofs.Common.{◌≡◌, ◌⊎◌, ⊎_elim, inl, inr, ℕ, ◌+◌, Bool, List, [], ◌∷◌, ◌++◌, length, refl, sym, ap}
+use Rattle.std.proofs.Common.{subst}
 use Rattle.std.proofs.Common.{◌∙◌, append_assoc, append-nil, length-append, arith}
 use Rattle.mold_wire.specs.declared.session.Session.{Session}
 use Rattle.mold_session.specs.Records.{SpellsJournal3}
@@ -7,7 +9,9 @@ use Rattle.mold_durable.specs.DurableJournal.{DurableState}
 use Rattle.mold_durable.specs.Life.{IsFileAround, IsFileOf, Life, Lives, after as after_moment}
 use Rattle.mold_durable.specs.Life.Moment.{Append, Commit}
 use Rattle.mold_durable.specs.Storage.{LeavesOnly}
-use Rattle.mold_recorder.specs.Appending.{HasAppended, IsPartFile, LeavesParts, committed_life}
+use Rattle.mold_durable.specs.declared.error.CommitError.{CommitError}
+use Rattle.mold_recorder.specs.Appending.{HasAppended, HasAppendedSome, IsPartFile, IsSaved, LeavesParts}
+use Rattle.mold_recorder.specs.Appending.{committed_life}
 
 -- ---- files
 
@@ -146,7 +150,8 @@ module _ {S : Type 0} (shows may_leave : S → List ℕ → Type 0) where
       appended_one old new message added lives = record {
         done = [];
         parts = sym (ap (λ (j : DurableState S). j.waiting) added);
-        counted = let e : new.committed ≡ old.committed = ap (λ (j : DurableState S). j.committed) added in omega (arith, e);
+        counted = let e : new.committed ≡ old.committed = ap (λ (j : DurableState S). j.committed) added in omega
+            (arith, e);
         named = ap (λ (j : DurableState S). j.session) added;
         closed = ap (λ (j : DurableState S). j.closed) added;
         lives = λ life old_lives. lives_as new (after_moment life (Append message)) (life.committed ++ []) new.waiting
@@ -223,6 +228,151 @@ module _ {S : Type 0} (shows may_leave : S → List ℕ → Type 0) where
         leaves = leaves_then old mid new first last one two.leaves;
       }
 
+-- ---- a prefix of the messages
+
+module _ {S : Type 0} (shows may_leave : S → List ℕ → Type 0) (moment : S → ℕ) (left_since : S → ℕ → List ℕ → Type 0)
+  where
+    -- All of the messages were appended.
+    pub some_all : (old new : DurableState S) (messages : List (List ℕ)) →
+        HasAppended shows may_leave moment left_since old new messages →
+        HasAppendedSome shows may_leave moment left_since old new messages
+    some_all old new messages appended = record {
+      front = messages;
+      rest = [];
+      parts = sym (append-nil messages);
+      state = inr appended;
+      leaves = appended.leaves;
+    }
+
+    -- More messages follow, which were not appended.
+    pub some_longer : (old new : DurableState S) (first last : List (List ℕ)) →
+        HasAppendedSome shows may_leave moment left_since old new first →
+        HasAppendedSome shows may_leave moment left_since old new (first ++ last)
+    some_longer old new first last some = record {
+      front = some.front;
+      rest = some.rest ++ last;
+      parts = ap (λ (ms : List (List ℕ)). ms ++ last) some.parts ∙ append_assoc some.front some.rest last;
+      state = some.state;
+      leaves = λ life lives.
+          weaker moment left_since old.storage new.storage (IsPartFile life first) (IsPartFile life (first ++ last))
+          (some.leaves life lives) (part_longer life first last);
+    }
+
+    -- A commit failed.
+    pub some_commit : (old new : DurableState S) → new.broken ≡ true → ((life : Life) → Lives shows may_leave old life →
+        LeavesOnly moment left_since old.storage new.storage (IsFileAround life Commit)) →
+        HasAppendedSome shows may_leave moment left_since old new []
+    some_commit old new broken around = record {
+      front = [];
+      rest = [];
+      parts = refl;
+      state = inl broken;
+      leaves = λ life lives.
+          weaker moment left_since old.storage new.storage (IsFileAround life Commit) (IsPartFile life [])
+          (around life lives) (part_around life []);
+    }
+
+    module _ (only_now : (storage : S) (bytes : List ℕ) → left_since storage (moment storage) bytes →
+        may_leave storage bytes) where
+      -- None of the messages was appended.
+      pub some_none : (journal : DurableState S) (messages : List (List ℕ)) →
+          HasAppendedSome shows may_leave moment left_since journal journal messages
+      some_none journal messages = record {
+        front = [];
+        rest = messages;
+        parts = refl;
+        state = inr (appended_none shows may_leave moment left_since only_now journal);
+        leaves = leaves_still shows may_leave moment left_since only_now journal journal messages refl;
+      }
+
+      -- Messages were appended, and then some more.
+      pub some_then : (old mid new : DurableState S) (first last : List (List ℕ)) →
+          HasAppended shows may_leave moment left_since old mid first →
+          HasAppendedSome shows may_leave moment left_since mid new last →
+          HasAppendedSome shows may_leave moment left_since old new (first ++ last)
+      some_then old mid new first last one two = record {
+        front = first ++ two.front;
+        rest = two.rest;
+        parts = ap (λ (ms : List (List ℕ)). first ++ ms) two.parts ∙ sym (append_assoc first two.front two.rest);
+        state = ⊎_elim (λ broken. inl broken)
+            (λ more. inr (appended_then shows may_leave moment left_since only_now old mid new first two.front one
+            more))
+            two.state;
+        leaves = leaves_then shows may_leave moment left_since only_now old mid new first last one two.leaves;
+      }
+
+      saved_leaves : (old mid new : DurableState S) (messages front rest : List (List ℕ)) → messages ≡ front ++ rest →
+          LeavesParts shows may_leave moment left_since old mid messages → (mid.broken ≡ true → new ≡ mid) →
+          LeavesParts shows may_leave moment left_since mid new [] →
+          (mid.broken ≡ true) ⊎ HasAppended shows may_leave moment left_since old mid front →
+          LeavesParts shows may_leave moment left_since old new messages
+      saved_leaves old mid new messages front rest parts leaves unwritten more (inl broken) =
+          subst (λ (j : DurableState S). LeavesParts shows may_leave moment left_since old j messages)
+          (sym (unwritten broken)) leaves
+      saved_leaves old mid new messages front rest parts leaves unwritten more (inr appended) = λ life lives.
+          subst (λ (ms : List (List ℕ)). LeavesOnly moment left_since old.storage new.storage (IsPartFile life ms))
+          (ap (λ (ms : List (List ℕ)). ms ++ rest) (append-nil front) ∙ sym parts)
+          (weaker moment left_since old.storage new.storage (IsPartFile life (front ++ []))
+          (IsPartFile life ((front ++ []) ++ rest))
+          (leaves_then shows may_leave moment left_since only_now old mid new front [] appended more life lives)
+          (part_longer life (front ++ []) rest))
+
+      saved_state : (old mid new : DurableState S) (front : List (List ℕ)) → (mid.broken ≡ true → new ≡ mid) →
+          (new.broken ≡ true) ⊎ HasAppended shows may_leave moment left_since mid new [] →
+          (mid.broken ≡ true) ⊎ HasAppended shows may_leave moment left_since old mid front →
+          (new.broken ≡ true) ⊎ HasAppended shows may_leave moment left_since old new front
+      saved_state old mid new front unwritten committed (inl broken) =
+          inl (ap (λ (j : DurableState S). j.broken) (unwritten broken) ∙ broken)
+      saved_state old mid new front unwritten (inl broken) (inr appended) = inl broken
+      saved_state old mid new front unwritten (inr more) (inr appended) =
+          inr (subst (λ (ms : List (List ℕ)). HasAppended shows may_leave moment left_since old new ms)
+          (append-nil front)
+          (appended_then shows may_leave moment left_since only_now old mid new front [] appended more))
+
+      -- Some messages were appended, and then what waits was committed, unless the journal was broken.
+      pub some_saved : (old mid new : DurableState S) (messages : List (List ℕ)) →
+          HasAppendedSome shows may_leave moment left_since old mid messages → (mid.broken ≡ true → new ≡ mid) →
+          (new.broken ≡ true) ⊎ HasAppended shows may_leave moment left_since mid new [] →
+          LeavesParts shows may_leave moment left_since mid new [] →
+          HasAppendedSome shows may_leave moment left_since old new messages
+      some_saved old mid new messages some unwritten committed leaves = record {
+        front = some.front;
+        rest = some.rest;
+        parts = some.parts;
+        state = saved_state old mid new some.front unwritten committed some.state;
+        leaves = saved_leaves old mid new messages some.front some.rest some.parts some.leaves unwritten leaves
+            some.state;
+      }
+
+      -- A commit, whether it succeeds or not.
+      pub commit_outcome : (old new : DurableState S) (result : Result (Unit {0}) CommitError) →
+          OnOk result (new ≡ record old {
+            storage = new.storage;
+            committed = old.committed + length old.waiting;
+            end = new.end;
+            waiting = [];
+          }) → ((life : Life) → Lives shows may_leave old life →
+          OnOk result (Lives shows may_leave new (after_moment life Commit))) →
+          ((life : Life) → Lives shows may_leave old life →
+          LeavesOnly moment left_since old.storage new.storage (IsFileAround life Commit)) →
+          OnErr result (new ≡ record old { storage = new.storage; broken = true }) →
+          (new.broken ≡ true) ⊎ HasAppended shows may_leave moment left_since old new []
+      commit_outcome old new (Ok _) done lives around failed =
+          inr (appended_commit shows may_leave moment left_since only_now old new done lives around)
+      commit_outcome old new (Err _) done lives around failed =
+          inl (ap (λ (j : DurableState S). j.broken) failed)
+
+-- After a commit nothing waits, or a write failed.
+pub commit_saved : {S : Type 0} (old new : DurableState S) (result : Result (Unit {0}) CommitError) →
+    OnOk result (new ≡ record old {
+      storage = new.storage;
+      committed = old.committed + length old.waiting;
+      end = new.end;
+      waiting = [];
+    }) → OnErr result (new ≡ record old { storage = new.storage; broken = true }) → IsSaved new
+commit_saved old new (Ok _) done failed = inr (ap (λ (j : DurableState _). j.waiting) done)
+commit_saved old new (Err _) done failed = inl (ap (λ (j : DurableState _). j.broken) failed)
+
 -- ---- a batch
 
 -- The first messages of a batch are appended, and these remain.
@@ -240,11 +390,6 @@ module _ {S : Type 0} (shows may_leave : S → List ℕ → Type 0) (moment : S 
     front_all old new messages left none is =
         subst (λ (ms : List (List ℕ)). HasAppended shows may_leave moment left_since old new ms)
         (sym (is.parts ∙ ap (λ (ms : List (List ℕ)). is.front ++ ms) none ∙ append-nil is.front)) is.appended
-
-    pub leaves_all : (old new : DurableState S) (messages left : List (List ℕ)) → left ≡ [] →
-        AppendsFront shows may_leave moment left_since old new messages left →
-        LeavesParts shows may_leave moment left_since old new messages
-    leaves_all old new messages left none is = (front_all old new messages left none is).leaves
 
     module _ (only_now : (storage : S) (bytes : List ℕ) → left_since storage (moment storage) bytes →
         may_leave storage bytes) where
@@ -265,22 +410,19 @@ module _ {S : Type 0} (shows may_leave : S → List ℕ → Type 0) (moment : S 
         front = is.front ++ message ∷ [];
         parts = is.parts ∙ ap (λ (ms : List (List ℕ)). is.front ++ ms) steps
             ∙ sym (append_assoc is.front (message ∷ []) rest);
-        appended = appended_then shows may_leave moment left_since only_now old mid new is.front (message ∷ []) is.appended
+        appended = appended_then shows may_leave moment left_since only_now old mid new is.front (message ∷ [])
+            is.appended
             one;
       }
 
       pub front_stopped : (old mid new : DurableState S) (messages left : List (List ℕ)) (message : List ℕ)
           (rest : List (List ℕ)) → left ≡ message ∷ rest →
           AppendsFront shows may_leave moment left_since old mid messages left →
-          LeavesParts shows may_leave moment left_since mid new (message ∷ []) →
-          LeavesParts shows may_leave moment left_since old new messages
+          HasAppendedSome shows may_leave moment left_since mid new (message ∷ []) →
+          HasAppendedSome shows may_leave moment left_since old new messages
       front_stopped old mid new messages left message rest steps is one =
-          subst (λ (ms : List (List ℕ)). LeavesParts shows may_leave moment left_since old new ms)
+          subst (λ (ms : List (List ℕ)). HasAppendedSome shows may_leave moment left_since old new ms)
           (sym (is.parts ∙ ap (λ (ms : List (List ℕ)). is.front ++ ms) steps
           ∙ sym (append_assoc is.front (message ∷ []) rest)))
-          (λ life lives.
-          weaker moment left_since old.storage new.storage (IsPartFile life (is.front ++ message ∷ []))
-          (IsPartFile life ((is.front ++ message ∷ []) ++ rest))
-          (leaves_then shows may_leave moment left_since only_now old mid new is.front (message ∷ []) is.appended one life
-          lives)
-          (part_longer life (is.front ++ message ∷ []) rest))
+          (some_longer shows may_leave moment left_since old new (is.front ++ message ∷ []) rest
+          (some_then shows may_leave moment left_since only_now old mid new is.front (message ∷ []) is.appended one))

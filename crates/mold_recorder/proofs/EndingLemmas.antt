@@ -15,7 +15,8 @@ use Rattle.mold_durable.specs.Storage.{LeavesOnly}
 use Rattle.mold_recorder.specs.Appending.{HasAppended, IsPartFile, LeavesParts, committed_life}
 use Rattle.mold_recorder.specs.Recording.{HasBroken, HasDelivered, HasEnded, HasEndedJournal, HasRecorded, HasStopped}
 use Rattle.mold_recorder.specs.Recording.{IsFileLeft, LeavesFiles, RecorderState}
-use Rattle.mold_recorder.proofs.AppendingLemmas.{joined, leaves_still, part_around, part_later, part_longer, part_none, weaker}
+use Rattle.mold_recorder.proofs.AppendingLemmas.{joined, leaves_still, part_around, part_later, part_longer}
+use Rattle.mold_recorder.proofs.AppendingLemmas.{part_none, weaker}
 use Rattle.mold_recorder.proofs.RecordingLemmas.{OrderLaws, delivered_none, delivered_number, delivered_then}
 
 -- ---- files
@@ -127,7 +128,8 @@ module _ {S : Type 0} (shows may_leave : S → List ℕ → Type 0) where
         HasEndedJournal shows may_leave mid after last finished →
         HasEndedJournal shows may_leave before after (first ++ last) finished
     ended_then before mid after first last finished one two =
-        let split : (life : Life) → Lives shows may_leave before life → life.waiting ++ first ≡ one.done ++ mid.waiting =
+        let split : (life : Life) → Lives shows may_leave before life → life.waiting ++ first ≡ one.done ++
+        mid.waiting =
         λ life lives. ap (λ (ms : List Message). ms ++ first) lives.waiting ∙ one.parts in
         let lengths : length before.waiting + length first ≡ length one.done + length mid.waiting =
         sym (length-append before.waiting first) ∙ ap (λ (ms : List Message). length ms) one.parts
@@ -214,7 +216,8 @@ started_as old new same = ap (λ (s : ReceiverState _). without_text s) same
 -- A prefix of no datagrams.
 begins_none : {A : Type 0} (some rest : List A) → [] ≡ some ++ rest → some ≡ []
 begins_none [] rest parts = refl
-begins_none {A = A} (x ∷ some) rest parts = let e : length {A = A} [] ≡ length (x ∷ (some ++ rest)) = ap length parts in cc
+begins_none {A = A} (x ∷ some) rest parts =
+    let e : length {A = A} [] ≡ length (x ∷ (some ++ rest)) = ap length parts in cc
 
 begins_whole : {A : Type 0} (xs : List A) → Begins xs xs
 begins_whole xs = record { rest = []; parts = sym (append-nil xs) }
@@ -272,7 +275,7 @@ module _ {S : Type 0} (shows may_leave : S → List ℕ → Type 0) (moment : S 
     messages = stopped.messages;
     delivered = stopped.delivered;
     leaves = files_of_parts shows may_leave moment left_since before after stopped.messages (is_finished new.repairer)
-        stopped.leaves;
+        stopped.some.leaves;
   }
 
   -- The first packet was taken, and then the recorder ran to its end.

@@ -1,13 +1,15 @@
 -- Calls of the repairer whose messages are appended to a durable journal.
-use Rattle.std.proofs.Common.{◌≡◌, ℕ, ◌+◌, length, length-append, arith}
-use Rattle.std.proofs.Common.{Bool, false, true, List, [], ◌∷◌, ◌++◌, refl, sym, ap, subst, ◌∙◌, append_assoc, append-nil}
+use Rattle.std.proofs.Common.{◌≡◌, ◌⊎◌, ℕ, ◌+◌, length, length-append, arith}
+use Rattle.std.proofs.Common.{Bool, false, true, List, [], ◌∷◌, ◌++◌, refl, sym, ap, subst, ◌∙◌, append_assoc}
+use Rattle.std.proofs.Common.{append-nil}
 use Rattle.std.proofs.KnownBytes.{Appends-nil, Appends-trans}
 use Rattle.std.specs.Io.KnownBytes.{Appends}
-use Rattle.std.specs.Prelude.{Err, None, Ok, OnOk, Option, Result}
+use Rattle.std.specs.Prelude.{Err, None, Ok, Option}
 use Rattle.mold_durable.specs.DurableJournal.{DurableState}
 use Rattle.mold_input.specs.declared.message_format.MessageFormat.{MessageFormat}
 use Rattle.mold_port_set.specs.PortSet.{Given, PortSetState, Sent}
-use Rattle.mold_receive.specs.Receiving.{AreAsking, Call, EndsIn, Follow, HasAsked, IsAsking, ReceiverState, all_sent, all_taken, taken_by}
+use Rattle.mold_receive.specs.Receiving.{AreAsking, Call, EndsIn, Follow, HasAsked, IsAsking, ReceiverState, all_sent}
+use Rattle.mold_receive.specs.Receiving.{all_taken, taken_by}
 use Rattle.mold_receive.proofs.CallLemmas.{appended, follow_then, sent_then, sends_none, taken_then}
 use Rattle.mold_receiver.specs.Batch.{Handed, followed_by}
 use Rattle.mold_receiver.specs.Store.{Message}
@@ -17,14 +19,10 @@ use Rattle.mold_repair.specs.declared.outcome.Outcome.{Outcome}
 use Rattle.mold_repair.specs.declared.repairer.Repairer.{Repairer}
 use Rattle.mold_repair.specs.declared.step.RepairStep.{RepairStep}
 use Rattle.mold_repair.specs.declared.step.RepairStep.TheVariants.{Take, Poll, Lost, Pass}
-use Rattle.mold_recorder.specs.Appending.{HasAppended, LeavesParts}
-use Rattle.mold_recorder.specs.Recording.{AreWhole, HasCalled, HasDelivered, HasRecorded, HasSaid, HasStopped, HasTaken, RecorderState, all_delivered}
-use Rattle.mold_recorder.proofs.AppendingLemmas.{appended_none, appended_then, leaves_then}
-
-pub on_ok_each : {T E A B : Type 0} (R : A → B → Type 0) (result : Result T E) →
-    ((a : A) (b : B) → OnOk result (R a b)) → OnOk result ((a : A) (b : B) → R a b)
-on_ok_each R (Ok _) each = each
-on_ok_each R (Err _) each = tt
+use Rattle.mold_recorder.specs.Appending.{HasAppended, HasAppendedSome, LeavesParts}
+use Rattle.mold_recorder.specs.Recording.{AreWhole, HasCalled, HasDelivered, HasRecorded, HasSaid, HasStopped}
+use Rattle.mold_recorder.specs.Recording.{HasTaken, RecorderState, all_delivered}
+use Rattle.mold_recorder.proofs.AppendingLemmas.{appended_none, appended_then, some_all, some_saved, some_then}
 
 -- ---- lists of calls
 
@@ -209,7 +207,7 @@ module _ {S : Type 0} (shows may_leave : S → List ℕ → Type 0) (moment : S 
   stopped_of first old new before after recorded = record {
     messages = recorded.messages;
     delivered = recorded.delivered;
-    leaves = recorded.appended.leaves;
+    some = some_all shows may_leave moment left_since before after recorded.messages recorded.appended;
   }
 
   -- The journal was not used, and nothing was delivered.
@@ -226,7 +224,8 @@ module _ {S : Type 0} (shows may_leave : S → List ℕ → Type 0) (moment : S 
   pub recorded_yet : (state : RecorderState P) (journal : DurableState S) →
       HasRecorded lines servers modeled shows may_leave moment left_since [] state state journal journal
   recorded_yet state journal =
-      recorded_still [] state state journal (delivered_none lines servers modeled state state refl (λ is. refl) (λ is. refl))
+      recorded_still [] state state journal (delivered_none lines servers modeled state state refl (λ is. refl)
+      (λ is. refl))
 
   -- One part after the other.
   pub recorded_then : (first : List Given) (old mid new : RecorderState P) (before between after : DurableState S) →
@@ -249,33 +248,31 @@ module _ {S : Type 0} (shows may_leave : S → List ℕ → Type 0) (moment : S 
     messages = one.messages ++ two.messages;
     delivered = delivered_then lines servers modeled first old mid new one.messages two.messages one.delivered
         two.delivered;
-    leaves = leaves_then shows may_leave moment left_since only_now before between after one.messages two.messages
-        one.appended two.leaves;
+    some = some_then shows may_leave moment left_since only_now before between after one.messages two.messages
+        one.appended two.some;
   }
 
   -- A datagram was taken, which the ports gave before, or none was.
   pub recorded_first : {T E : Type 0} (step : RepairStep) (old new : RecorderState P) (before after : DurableState S)
-      (result : Result T E) →
-      HasTaken shows may_leave moment left_since step old.repairer new.repairer before after result →
+      (value : T) →
+      HasTaken {E = E} shows may_leave moment left_since step old.repairer new.repairer before after (Ok value) →
       new.ports ≡ old.ports →
-      OnOk result
-      (HasRecorded lines servers modeled shows may_leave moment left_since (taken_by lines step) old new before after)
-  recorded_first step old new before after (Ok _) taken ports = record {
+      HasRecorded lines servers modeled shows may_leave moment left_since (taken_by lines step) old new before after
+  recorded_first step old new before after value taken ports = record {
     messages = taken.messages;
     delivered = delivered_first lines servers modeled step old new taken.messages taken.called ports;
     appended = taken.appended;
   }
-  recorded_first step old new before after (Err _) taken ports = tt
 
   pub stopped_first : {T E : Type 0} (step : RepairStep) (old new : RecorderState P) (before after : DurableState S)
-      (result : Result T E) →
-      HasTaken shows may_leave moment left_since step old.repairer new.repairer before after result →
+      (error : E) →
+      HasTaken {T = T} shows may_leave moment left_since step old.repairer new.repairer before after (Err error) →
       new.ports ≡ old.ports →
       HasStopped lines servers modeled shows may_leave moment left_since (taken_by lines step) old new before after
-  stopped_first step old new before after result taken ports = record {
+  stopped_first step old new before after error taken ports = record {
     messages = taken.messages;
     delivered = delivered_first lines servers modeled step old new taken.messages taken.called ports;
-    leaves = taken.leaves;
+    some = taken.some;
   }
 
   -- A datagram was taken that the ports just gave.
@@ -292,15 +289,15 @@ module _ {S : Type 0} (shows may_leave : S → List ℕ → Type 0) (moment : S 
   }
 
   pub stopped_one : {T E : Type 0} (step : RepairStep) (old new : RecorderState P) (before after : DurableState S)
-      (result : Result T E) →
-      HasTaken shows may_leave moment left_since step old.repairer new.repairer before after result →
+      (error : E) →
+      HasTaken {T = T} shows may_leave moment left_since step old.repairer new.repairer before after (Err error) →
       (modeled ≡ true → new.ports.given ≡ old.ports.given ++ taken_by lines step) →
       (modeled ≡ true → new.ports.sent ≡ old.ports.sent) →
       HasStopped lines servers modeled shows may_leave moment left_since [] old new before after
-  stopped_one step old new before after result taken given sent = record {
+  stopped_one step old new before after error taken given sent = record {
     messages = taken.messages;
     delivered = delivered_one lines servers modeled step old new taken.messages taken.called given sent;
-    leaves = taken.leaves;
+    some = taken.some;
   }
 
   -- The receiver did nothing, and a commit was made.
@@ -314,12 +311,26 @@ module _ {S : Type 0} (shows may_leave : S → List ℕ → Type 0) (moment : S 
   }
 
   pub stopped_commit : (state : RecorderState P) (before after : DurableState S) →
-      LeavesParts shows may_leave moment left_since before after [] →
+      HasAppendedSome shows may_leave moment left_since before after [] →
       HasStopped lines servers modeled shows may_leave moment left_since [] state state before after
-  stopped_commit state before after leaves = record {
+  stopped_commit state before after some = record {
     messages = [];
     delivered = delivered_none lines servers modeled state state refl (λ is. refl) (λ is. refl);
-    leaves = leaves;
+    some = some;
+  }
+
+  -- There was a fault, and then what waits was committed.
+  pub stopped_saved : (first : List Given) (old new : RecorderState P) (before between after : DurableState S) →
+      HasStopped lines servers modeled shows may_leave moment left_since first old new before between →
+      (between.broken ≡ true → after ≡ between) →
+      (after.broken ≡ true) ⊎ HasAppended shows may_leave moment left_since between after [] →
+      LeavesParts shows may_leave moment left_since between after [] →
+      HasStopped lines servers modeled shows may_leave moment left_since first old new before after
+  stopped_saved first old new before between after stopped unwritten committed leaves = record {
+    messages = stopped.messages;
+    delivered = stopped.delivered;
+    some = some_saved shows may_leave moment left_since only_now before between after stopped.messages stopped.some
+        unwritten committed leaves;
   }
 
   -- Nothing was done, and then there was a fault.

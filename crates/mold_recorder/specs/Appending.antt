@@ -1,5 +1,5 @@
 -- What a durable journal has after messages were appended to it, and what a crash leaves of them.
-use Rattle.std.specs.Prelude.{◌≡◌, ℕ, ◌+◌, List, ◌++◌, length}
+use Rattle.std.specs.Prelude.{◌≡◌, ◌⊎◌, ℕ, ◌+◌, true, List, [], ◌++◌, length}
 use Rattle.mold_session.specs.Records.{SpellsJournal3}
 use Rattle.mold_durable.specs.DurableJournal.{DurableState}
 use Rattle.mold_durable.specs.Life.{Life, Lives}
@@ -38,3 +38,16 @@ pub record HasAppended {S : Type 0} (shows may_leave : S → List ℕ → Type 0
   pub lives : (life : Life) → Lives shows may_leave old life →
       Lives shows may_leave new (committed_life life done new.waiting)
   pub leaves : LeavesParts shows may_leave moment left_since old new messages
+
+-- A prefix of the messages was appended, in order. Then all was well, or a write of the journal failed.
+pub record HasAppendedSome {S : Type 0} (shows may_leave : S → List ℕ → Type 0) (moment : S → ℕ)
+    (left_since : S → ℕ → List ℕ → Type 0) (old new : DurableState S) (messages : List (List ℕ)) : Type 0 where
+  pub front : List (List ℕ)
+  pub rest : List (List ℕ)
+  pub parts : messages ≡ front ++ rest
+  pub state : (new.broken ≡ true) ⊎ HasAppended shows may_leave moment left_since old new front
+  pub leaves : LeavesParts shows may_leave moment left_since old new messages
+
+-- No message waits, unless a write of the journal failed.
+abbrev pub IsSaved : {S : Type 0} → DurableState S → Type 0
+IsSaved journal = (journal.broken ≡ true) ⊎ (journal.waiting ≡ [])

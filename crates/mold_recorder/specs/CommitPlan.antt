@@ -1,5 +1,6 @@
 -- When the messages that wait in a durable journal are committed.
-use Rattle.std.specs.Prelude.{◌≡◌, ℕ, ◌+◌, ◌<◌, Bool, false, if◌then◌else◌, nat_le, List, [], length, Option, None, Some}
+use Rattle.std.specs.Prelude.{◌≡◌, ℕ, ◌+◌, ◌<◌, Bool, false, if◌then◌else◌, nat_le, List, [], length, Option, None}
+use Rattle.std.specs.Prelude.{Some}
 use Rattle.mold_session.specs.Records.{records}
 use Rattle.mold_recorder.specs.declared.commit_plan.CommitPlan.{CommitPlan}
 use Rattle.mold_recorder.specs.declared.commit_plan.TheConstants.{BUSY_SPAN, IDLE_SPAN, MOST_WAITING, RECORD_HEAD}

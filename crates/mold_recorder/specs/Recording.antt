@@ -1,5 +1,6 @@
 -- The calls that a receiver over ports makes of its repairer, if what they deliver is kept in a durable journal.
-use Rattle.std.specs.Prelude.{◌≡◌, ◌⊎◌, ℕ, ◌+◌, Bool, true, List, [], ◌∷◌, ◌++◌, length, None, OnOk, Result}
+use Rattle.std.specs.Prelude.{◌≡◌, ◌⊎◌, ℕ, ◌+◌, Bool, true, List, [], ◌∷◌, ◌++◌, length, None, OnErr, OnOk}
+use Rattle.std.specs.Prelude.{Result}
 use Rattle.std.specs.Io.KnownBytes.{Appends}
 use Rattle.std.specs.Prelude.{Option, if◌then◌else◌}
 use Rattle.mold_durable.specs.DurableJournal.{DurableState}
@@ -9,7 +10,7 @@ use Rattle.mold_port_set.specs.PortSet.{Given, PortSetState}
 use Rattle.mold_receive.specs.Receiving.{Call, Follow, all_sent, all_taken, is_finished}
 use Rattle.mold_receive.specs.declared.feed_receiver.FeedReceiver.{FeedReceiver}
 use Rattle.mold_receiver.specs.Store.{Message}
-use Rattle.mold_recorder.specs.Appending.{HasAppended, IsPartFile, LeavesParts}
+use Rattle.mold_recorder.specs.Appending.{HasAppended, HasAppendedSome, IsPartFile}
 use Rattle.mold_repair.specs.declared.repairer.Repairer.{Repairer}
 use Rattle.mold_repair.specs.declared.step.RepairStep.{RepairStep}
 use Rattle.mold_session.specs.Records.{SpellsJournal3}
@@ -61,14 +62,14 @@ pub record HasCalled (step : RepairStep) (old new : Repairer) (messages : List M
   pub delivered : messages ≡ call.is.handed.messages
 
 -- One call was made of the repairer, as in `HasCalled`. After a success, what it delivered was appended to the journal.
--- After a fault, a crash leaves a prefix of it.
+-- After a fault, a prefix of it was.
 pub record HasTaken {S T E : Type 0} (shows may_leave : S → List ℕ → Type 0) (moment : S → ℕ)
     (left_since : S → ℕ → List ℕ → Type 0) (step : RepairStep) (old new : Repairer) (before after : DurableState S)
     (result : Result T E) : Type 0 where
   pub messages : List Message
   pub called : HasCalled step old new messages
   pub appended : OnOk result (HasAppended shows may_leave moment left_since before after messages)
-  pub leaves : LeavesParts shows may_leave moment left_since before after messages
+  pub some : OnErr result (HasAppendedSome shows may_leave moment left_since before after messages)
 
 -- The receiver delivered messages as in `HasDelivered`, and they were appended to the journal.
 pub record HasRecorded {P S : Type 0} (lines : ℕ) (servers : List P) (modeled : Bool)
@@ -78,14 +79,13 @@ pub record HasRecorded {P S : Type 0} (lines : ℕ) (servers : List P) (modeled 
   pub delivered : HasDelivered lines servers modeled first old new messages
   pub appended : HasAppended shows may_leave moment left_since before after messages
 
--- A fault: the receiver delivered messages as in `HasDelivered`. A crash leaves the messages that were committed before,
--- and a prefix of those that waited and of the delivered ones.
+-- A fault: the receiver delivered messages as in `HasDelivered`, and a prefix of them was appended to the journal.
 pub record HasStopped {P S : Type 0} (lines : ℕ) (servers : List P) (modeled : Bool)
     (shows may_leave : S → List ℕ → Type 0) (moment : S → ℕ) (left_since : S → ℕ → List ℕ → Type 0)
     (first : List Given) (old new : RecorderState P) (before after : DurableState S) : Type 0 where
   pub messages : List Message
   pub delivered : HasDelivered lines servers modeled first old new messages
-  pub leaves : LeavesParts shows may_leave moment left_since before after messages
+  pub some : HasAppendedSome shows may_leave moment left_since before after messages
 
 -- The bytes are a file of the session. It has the committed messages of this life, and then a prefix of those that
 -- wait and of `more`. If the receiver is finished, it may instead be the closed file of all of them.
@@ -119,8 +119,8 @@ LeavesFiles shows may_leave moment left_since old new messages finished =
     (life : Life) → Lives shows may_leave old life →
     LeavesOnly moment left_since old.storage new.storage (IsFileLeft life messages finished)
 
--- A recorder has ended. All messages that the receiver delivered are committed, after those that the journal had. If the
--- receiver is finished, and only then, the session was closed.
+-- A recorder has ended. All messages that the receiver delivered are committed, after those that the journal had. The
+-- session is closed if the receiver is finished.
 pub record HasEnded {P S : Type 0} (lines : ℕ) (servers : List P) (modeled : Bool)
     (shows may_leave : S → List ℕ → Type 0) (moment : S → ℕ) (left_since : S → ℕ → List ℕ → Type 0)
     (first : List Given) (old new : RecorderState P) (before after : DurableState S) : Type 0 where

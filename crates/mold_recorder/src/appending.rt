@@ -1,7 +1,7 @@
 //! Appends messages to a durable journal, and commits them when they are due.
 
-ghost use Rattle.std.specs.Prelude.{◌≡◌, ◌∷◌, [], OnOk};
-ghost use Rattle.mold_recorder.specs.Appending.{HasAppended, LeavesParts};
+ghost use Rattle.std.specs.Prelude.{◌≡◌, ◌⊎◌, ◌∷◌, [], true, OnErr, OnOk};
+ghost use Rattle.mold_recorder.specs.Appending.{HasAppended, HasAppendedSome, IsSaved, LeavesParts};
 ghost use Rattle.mold_recorder.specs.CommitPlan.{IsPlanOf, plan_of_none};
 
 use crate::commit_plan::CommitPlan;
@@ -27,7 +27,9 @@ pub(crate) fn commit<S: Storage>(
         (HasAppended S.shows S.may_leave S.moment S.left_since journal.old journal.new []) }
     ensures plan { OnOk result (IsPlanOf plan.new journal.new.waiting) }
     ensures none { OnOk result (plan.new ≡ plan_of_none) }
-    ensures leaves { LeavesParts S.shows S.may_leave S.moment S.left_since journal.old journal.new [] }
+    ensures broken { OnErr result (journal.new.broken ≡ true) }
+    ensures some { OnErr result
+        (HasAppendedSome S.shows S.may_leave S.moment S.left_since journal.old journal.new []) }
 {
     match journal.commit() {
         Ok(()) => {
@@ -49,8 +51,8 @@ fn append<S: Storage>(
     ensures appended { OnOk result
         (HasAppended S.shows S.may_leave S.moment S.left_since journal.old journal.new (message.now ∷ [])) }
     ensures plan { OnOk result (IsPlanOf plan.new journal.new.waiting) }
-    ensures leaves { LeavesParts S.shows S.may_leave S.moment S.left_since journal.old journal.new
-        (message.now ∷ []) }
+    ensures some { OnErr result
+        (HasAppendedSome S.shows S.may_leave S.moment S.left_since journal.old journal.new (message.now ∷ [])) }
 {
     match journal.append(message) {
         Ok(_) => {}
@@ -75,11 +77,23 @@ pub(crate) fn append_batch<S: Storage>(
     ensures appended { OnOk result
         (HasAppended S.shows S.may_leave S.moment S.left_since journal.old journal.new batch.now.messages) }
     ensures plan { OnOk result (IsPlanOf plan.new journal.new.waiting) }
-    ensures leaves { LeavesParts S.shows S.may_leave S.moment S.left_since journal.old journal.new
-        batch.now.messages }
+    ensures some { OnErr result
+        (HasAppendedSome S.shows S.may_leave S.moment S.left_since journal.old journal.new batch.now.messages) }
 {
     for message in batch.iter() {
         append(journal, plan, message, now)?;
     }
     Ok(())
+}
+
+/// Commits the waiting messages before the loop ends with a fault, so that none of them is lost. If the journal is
+/// broken, it does nothing.
+pub(crate) fn save<S: Storage>(journal: &mut DurableJournal<S>)
+    ensures unwritten { journal.old.broken ≡ true → journal.new ≡ journal.old }
+    ensures committed { (journal.new.broken ≡ true)
+        ⊎ HasAppended S.shows S.may_leave S.moment S.left_since journal.old journal.new [] }
+    ensures leaves { LeavesParts S.shows S.may_leave S.moment S.left_since journal.old journal.new [] }
+    ensures saved { IsSaved journal.new }
+{
+    let _ = journal.commit();
 }

@@ -1,14 +1,15 @@
 //! A receiver over ports that keeps what it delivers in a durable journal: what it does in a turn.
 
-ghost use Rattle.std.specs.Prelude.{◌≡◌, ◌+◌, ◌<◌, ◌^◌, [], ℕ, List, IfOk, false, OnErr, OnOk};
+ghost use Rattle.std.specs.Prelude.{◌≡◌, ◌+◌, ◌<◌, ◌^◌, [], ℕ, List, IfOk, false, true, OnErr, OnOk};
 ghost use Rattle.mold_input.specs.declared.message_format.MessageFormat.TheVariants.{Blocks};
 ghost use Rattle.mold_receive.specs.Receiving.{datagram_of_first, is_finished, last_line, last_status};
+ghost use Rattle.mold_recorder.specs.Appending.{IsSaved};
 ghost use Rattle.mold_recorder.specs.CommitPlan.{IsPlanOf, is_due};
 ghost use Rattle.mold_recorder.specs.Recording.{HasBroken, HasEnded, HasEndedJournal, HasRecorded, HasSaid};
 ghost use Rattle.mold_recorder.specs.Recording.{HasStopped, HasTaken, LeavesFiles, state_of};
 ghost use Rattle.mold_repair.specs.declared.step.RepairStep.TheVariants.{Take};
 
-use crate::appending::{append_batch, commit};
+use crate::appending::{append_batch, commit, save};
 use crate::commit_plan::CommitPlan;
 use mold_devices::{CommandFault, Sink};
 use mold_durable::{DurableJournal, Storage};
@@ -61,12 +62,19 @@ impl<D: PortSet + Drop> FeedRecorder<D> {
         ensures stopped { OnErr result ((lines : ℕ) (servers : List D.Peer) → HasStopped lines servers D.modeled
             S.shows S.may_leave S.moment S.left_since (datagram_of_first lines first.now)
             (state_of D.state self.old.feed) (state_of D.state self.new.feed) journal.old journal.new) }
+        ensures saved { OnErr result (IsSaved journal.new) }
         ensures plan { OnOk result (IsPlanOf self.new.plan journal.new.waiting) }
         ensures format { self.new.feed.outgoing.format ≡ self.old.feed.outgoing.format }
     {
-        match first {
-            Some(first) => self.take(first.origin, first.datagram.as_slice(), journal),
-            None => Ok(()),
+        let Some(first) = first else {
+            return Ok(());
+        };
+        match self.take(first.origin, first.datagram.as_slice(), journal) {
+            Ok(()) => Ok(()),
+            Err(fault) => {
+                save(journal);
+                Err(fault)
+            }
         }
     }
 
@@ -265,6 +273,7 @@ impl<D: PortSet + Drop> FeedRecorder<D> {
             (is_finished self.old.feed.repairer)) }
         ensures leaves { LeavesFiles S.shows S.may_leave S.moment S.left_since journal.old journal.new []
             (is_finished self.old.feed.repairer) }
+        ensures saved { OnErr result (IsSaved journal.new) }
         ensures state { state_of D.state self.new.feed ≡ state_of D.state self.old.feed }
         ensures status { IfOk result (λ status. status ≡ last_status self.old.feed.repairer) }
         ensures said { self.old.feed.outgoing.format ≡ Blocks → OnOk result (HasSaid (E.held errors.old)
@@ -291,13 +300,19 @@ impl<D: PortSet + Drop> FeedRecorder<D> {
             journal.new) }
         ensures broken { OnErr result (HasBroken options.now.lines options.now.servers.items D.modeled S.shows
             S.may_leave S.moment S.left_since [] (state_of D.state self.old.feed) journal.old journal.new) }
+        ensures saved { OnErr result (IsSaved journal.new) }
         ensures status { IfOk result (λ status. status ≡ last_status self.new.feed.repairer) }
         ensures said { self.old.feed.outgoing.format ≡ Blocks → OnOk result (HasSaid (E.held errors.old)
             (E.held errors.new)
             (last_line self.new.feed.repairer (D.state self.new.feed.ports).failures)) }
     {
-        self.take_turns(options, buffer, journal, errors)?;
-        self.end(options, journal, errors)
+        match self.take_turns(options, buffer, journal, errors) {
+            Ok(()) => self.end(options, journal, errors),
+            Err(fault) => {
+                save(journal);
+                Err(fault)
+            }
+        }
     }
 }
 
@@ -315,6 +330,7 @@ fn end_journal<S: Storage>(
 ) -> Result<(), CommandFault>
     ensures ended { OnOk result (HasEndedJournal S.shows S.may_leave journal.old journal.new []
         (is_finished repairer.now)) }
+    ensures broken { OnErr result (journal.new.broken ≡ true) }
     ensures leaves { LeavesFiles S.shows S.may_leave S.moment S.left_since journal.old journal.new []
         (is_finished repairer.now) }
 {

@@ -3,6 +3,7 @@
 ghost use Rattle.std.specs.Prelude.{◌≡◌, ◌+◌, [], false, length, IfOk, OnErr};
 ghost use Rattle.mold_receive.specs.Receiving.{datagram_of_first, is_finished, last_line, last_status};
 ghost use Rattle.mold_receiver.specs.View.{fresh};
+ghost use Rattle.mold_recorder.specs.Appending.{IsSaved};
 ghost use Rattle.mold_recorder.specs.Recording.{HasBroken, HasEnded, HasSaid};
 
 use crate::commit_plan::CommitPlan;
@@ -34,14 +35,15 @@ pub fn receiver_of<S: Storage>(
 /// continues after the messages of the journal. It never gives up messages, so its option `give_up` has to be 0.
 ///
 /// Each message that is delivered is appended to the journal, in order. The messages that wait are committed when their
-/// records have 1 MiB, when the oldest has waited for 20 milliseconds and no port has a datagram, when it has waited for
-/// a second, and in the end. If the session is finished in the end, the journal is closed.
+/// records have 1 MiB, when the oldest has waited for 20 milliseconds and no port has a datagram, when it has waited
+/// for a second, and in the end. If the session is finished in the end, the journal is closed.
 ///
 /// A crash at any moment leaves all messages that were committed, and a prefix of those that were delivered after them.
 /// It leaves a closed journal only if the session is finished and the journal has all its messages.
 ///
-/// Refused datagrams, contradictions, statistics and the last line are printed on `errors`. If the journal can't be
-/// written, the fault is `Write`. The options state when the loop ends.
+/// Refused datagrams, contradictions, statistics and the last line are printed on `errors`. The options state when the
+/// loop ends. If the journal can't be written, the fault is `Write`. Before the loop ends with another fault, it
+/// commits the messages that wait.
 pub fn record_loop<D: PortSet + Drop, S: Storage, E: Sink>(
     alloc: Global,
     parts: ReceiveParts<D>,
@@ -66,6 +68,7 @@ pub fn record_loop<D: PortSet + Drop, S: Storage, E: Sink>(
     ensures broken { OnErr result (HasBroken options.now.lines options.now.servers.items D.modeled S.shows S.may_leave
         S.moment S.left_since (datagram_of_first options.now.lines parts.first)
         (record { repairer = parts.repairer; ports = D.state parts.ports }) journal.old journal.new) }
+    ensures saved { OnErr result (IsSaved journal.new) }
 {
     order_law();
     let ReceiveParts {

@@ -1,4 +1,4 @@
-//! Tests of `mold_receive`: worked examples over a set of ports in memory.
+//! Tests of `mold_receive` and `mold_recorder`: worked examples over a set of ports in memory.
 #![tactic(auto)]
 
 #[cfg(test)]
@@ -7,5 +7,7 @@ mod opening;
 mod parts;
 #[cfg(test)]
 mod receiving;
+#[cfg(test)]
+mod recording;
 #[cfg(test)]
 mod reporting;

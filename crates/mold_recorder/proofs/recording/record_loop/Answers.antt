@@ -5,7 +5,8 @@ use Rattle.mold_recorder.specs.declared.commit_plan.CommitPlan.{CommitPlan}
 use Rattle.mold_receive.proofs.CallLemmas.{on_err_of}
 use Rattle.mold_receive.specs.Receiving.{datagram_of_first, is_finished}
 use Rattle.mold_recorder.specs.Recording.{HasBroken, HasEnded, RecorderState, state_of}
-use Rattle.mold_recorder.proofs.EndingLemmas.{broken_after, broken_yet, closed_if, ended_after, ended_number, started_as}
+use Rattle.mold_recorder.proofs.EndingLemmas.{broken_after, broken_yet, closed_if, ended_after, ended_number}
+use Rattle.mold_recorder.proofs.EndingLemmas.{started_as}
 use Rattle.mold_recorder.proofs.EndingLemmas.{stopped_broken}
 use Rattle.mold_recorder.proofs.recording.record_loop.Goals as goal
 
@@ -23,7 +24,8 @@ take_first-requires g c =
 pub returns-in_err-buffer-clause-broken : goal.returns-in_err-buffer-clause-broken
 returns-in_err-buffer-clause-broken g c =
     on_err_of c.from_residual.result
-    (broken_yet g.S.Storage.shows g.S.Storage.may_leave g.S.Storage.moment g.S.Storage.left_since _ _ _ g.met.S.Storage.only_now
+    (broken_yet g.S.Storage.shows g.S.Storage.may_leave g.S.Storage.moment g.S.Storage.left_since _ _ _
+    g.met.S.Storage.only_now
     _ _ _)
 
 pub returns-in_err-take_first-clause-broken : goal.returns-in_err-take_first-clause-broken
@@ -31,7 +33,8 @@ returns-in_err-take_first-clause-broken g c =
     let lines = c.args.options.now.lines in
     let servers = c.args.options.now.servers.items in
     on_err_of c.from_residual-in_err-take_first.result
-    (subst (λ (s : RecorderState g.row.D-Peer.Denot). HasBroken lines servers g.D.PortSet.modeled g.S.Storage.shows g.S.Storage.may_leave g.S.Storage.moment g.S.Storage.left_since
+    (subst (λ (s : RecorderState g.row.D-Peer.Denot). HasBroken lines servers g.D.PortSet.modeled g.S.Storage.shows
+    g.S.Storage.may_leave g.S.Storage.moment g.S.Storage.left_since
     (datagram_of_first lines c.args.parts.first) s c.args.journal.now c.take_first.new.journal)
     (started_as _ _ c.new-feed.ensures.started)
     (stopped_broken g.S.Storage.shows g.S.Storage.may_leave g.S.Storage.moment g.S.Storage.left_since lines servers
@@ -42,7 +45,8 @@ returns-in_err-status-clause-broken g c =
     let lines = c.args.options.now.lines in
     let servers = c.args.options.now.servers.items in
     on_err_of c.from_residual-in_err-status.result
-    (subst (λ (s : RecorderState g.row.D-Peer.Denot). HasBroken lines servers g.D.PortSet.modeled g.S.Storage.shows g.S.Storage.may_leave g.S.Storage.moment g.S.Storage.left_since
+    (subst (λ (s : RecorderState g.row.D-Peer.Denot). HasBroken lines servers g.D.PortSet.modeled g.S.Storage.shows
+    g.S.Storage.may_leave g.S.Storage.moment g.S.Storage.left_since
     (datagram_of_first lines c.args.parts.first) s c.args.journal.now c.run.new.journal)
     (started_as _ _ c.new-feed.ensures.started)
     (broken_after g.S.Storage.shows g.S.Storage.may_leave g.S.Storage.moment g.S.Storage.left_since lines servers
@@ -53,7 +57,8 @@ ended : goal.returns-clause-ended
 ended g c =
     let lines = c.args.options.now.lines in
     let servers = c.args.options.now.servers.items in
-    subst (λ (s : RecorderState g.row.D-Peer.Denot). HasEnded lines servers g.D.PortSet.modeled g.S.Storage.shows g.S.Storage.may_leave g.S.Storage.moment g.S.Storage.left_since
+    subst (λ (s : RecorderState g.row.D-Peer.Denot). HasEnded lines servers g.D.PortSet.modeled g.S.Storage.shows
+    g.S.Storage.may_leave g.S.Storage.moment g.S.Storage.left_since
     (datagram_of_first lines c.args.parts.first) s (state_of g.D.PortSet.state c.run.new.self.feed)
     c.args.journal.now c.run.new.journal)
     (started_as _ _ c.new-feed.ensures.started)
@@ -79,3 +84,11 @@ returns-clause-closed g c =
 
 pub returns-clause-said : goal.returns-clause-said
 returns-clause-said g c = c.in_ok-status.ensures.said (c.take_first.ensures.format ∙ c.new-feed.ensures.format)
+
+pub returns-in_err-take_first-clause-saved : goal.returns-in_err-take_first-clause-saved
+returns-in_err-take_first-clause-saved g c =
+    on_err_of c.from_residual-in_err-take_first.result c.in_err-take_first.ensures.saved
+
+pub returns-in_err-status-clause-saved : goal.returns-in_err-status-clause-saved
+returns-in_err-status-clause-saved g c =
+    on_err_of c.from_residual-in_err-status.result c.in_err-status.ensures.saved

@@ -1,5 +1,4 @@
-use Rattle.mold_receive.proofs.CallLemmas.{on_err_of}
-use Rattle.std.proofs.lemmas.Result.{on_ok_weaker}
+use Rattle.std.proofs.lemmas.Result.{on_err_weaker, on_ok_weaker}
 use Rattle.mold_recorder.specs.Recording.{state_of}
 use Rattle.mold_recorder.proofs.RecordingLemmas.{recorded_commit, recorded_yet, stopped_commit}
 use Rattle.mold_recorder.proofs.feed_recorder.FeedRecorder.commit_due.Goals as goal
@@ -21,7 +20,9 @@ returns-clause-recorded g c =
 
 pub returns-clause-stopped : goal.returns-clause-stopped
 returns-clause-stopped g c =
-    on_err_of c.commit.result (λ lines servers.
+    on_err_weaker c.commit.result
+    (λ some. λ lines servers.
     stopped_commit g.S.Storage.shows g.S.Storage.may_leave g.S.Storage.moment g.S.Storage.left_since
     g.met.S.Storage.only_now lines servers g.D.PortSet.modeled
-    (state_of g.D.PortSet.state c.args.self.now.feed) c.args.journal.now c.commit.new.journal c.commit.ensures.leaves)
+    (state_of g.D.PortSet.state c.args.self.now.feed) c.args.journal.now c.commit.new.journal some)
+    c.commit.ensures.some

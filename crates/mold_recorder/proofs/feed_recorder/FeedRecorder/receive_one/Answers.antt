@@ -43,7 +43,8 @@ returns-in-Ok-None-clause-recorded g c =
     recorded_still g.S.Storage.shows g.S.Storage.may_leave g.S.Storage.moment g.S.Storage.left_since
     g.met.S.Storage.only_now _ _ _ _ _ _ _
     (delivered_none _ _ _ _ _ refl
-    (λ is. gave_none _ _ c.args.port c.receive.result c.in-Ok-None.field-0 c.receive.new.buffer (c.receive.ensures.given is)
+    (λ is. gave_none _ _ c.args.port c.receive.result c.in-Ok-None.field-0 c.receive.new.buffer
+    (c.receive.ensures.given is)
     c.in-Ok-None.is c.in-Ok-None.field-0-is)
     c.receive.ensures.sent)
 
@@ -52,6 +53,7 @@ returns-in-Err-clause-recorded g c =
     recorded_still g.S.Storage.shows g.S.Storage.may_leave g.S.Storage.moment g.S.Storage.left_since
     g.met.S.Storage.only_now _ _ _ _ _ _ _
     (delivered_none _ _ _ _ _ refl
-    (λ is. gave_fault _ _ c.args.port c.receive.result c.in-Err.field-0 c.receive.new.buffer (c.receive.ensures.given is)
+    (λ is. gave_fault _ _ c.args.port c.receive.result c.in-Err.field-0 c.receive.new.buffer
+    (c.receive.ensures.given is)
     c.in-Err.is)
     c.receive.ensures.sent)

@@ -1,6 +1,6 @@
 use Rattle.std.proofs.Common.{refl}
 use Rattle.mold_repair.specs.declared.step.RepairStep.TheVariants.{Take}
-use Rattle.mold_recorder.proofs.AppendingLemmas.{leaves_still}
+use Rattle.mold_recorder.proofs.AppendingLemmas.{some_none}
 use Rattle.mold_recorder.proofs.RecordingLemmas.{called_step}
 use Rattle.mold_recorder.proofs.feed_recorder.FeedRecorder.take.Goals as goal
 
@@ -13,9 +13,9 @@ returns-in-Err-clause-taken g c =
       called = called_step (Take (g.D.PortSet.state old.ports).now c.args.origin c.args.datagram) old.repairer
           new.repairer new.batch (c.deliver.ensures.taken, refl) c.deliver.ensures.options;
       appended = tt;
-      leaves = leaves_still g.S.Storage.shows g.S.Storage.may_leave g.S.Storage.moment g.S.Storage.left_since
+      some = some_none g.S.Storage.shows g.S.Storage.may_leave g.S.Storage.moment g.S.Storage.left_since
           g.met.S.Storage.only_now
-          c.args.journal.now c.args.journal.now new.batch.messages refl;
+          c.args.journal.now new.batch.messages;
     }
 
 pub returns-clause-taken : goal.returns-clause-taken
@@ -27,5 +27,5 @@ returns-clause-taken g c =
       called = called_step (Take (g.D.PortSet.state old.ports).now c.args.origin c.args.datagram) old.repairer
           new.repairer new.batch (c.deliver.ensures.taken, refl) c.deliver.ensures.options;
       appended = c.append_batch.ensures.appended;
-      leaves = c.append_batch.ensures.leaves;
+      some = c.append_batch.ensures.some;
     }

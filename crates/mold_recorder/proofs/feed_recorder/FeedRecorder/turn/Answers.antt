@@ -2,7 +2,8 @@ use Rattle.std.proofs.Common.{ap}
 use Rattle.std.proofs.lemmas.Result.{on_ok_weaker}
 use Rattle.mold_port_set.specs.PortSet.{PortSetState}
 use Rattle.mold_receive.proofs.CallLemmas.{on_err_of, on_ok_all}
-use Rattle.mold_recorder.proofs.RecordingLemmas.{delivered_asked, delivered_none, recorded_still, recorded_then, said_one}
+use Rattle.mold_recorder.proofs.RecordingLemmas.{delivered_asked, delivered_none, recorded_still, recorded_then}
+use Rattle.mold_recorder.proofs.RecordingLemmas.{said_one}
 use Rattle.mold_recorder.proofs.RecordingLemmas.{stopped_of, stopped_then}
 use Rattle.mold_recorder.proofs.feed_recorder.FeedRecorder.turn.Goals as goal
 
