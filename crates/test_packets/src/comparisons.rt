@@ -1,4 +1,6 @@
-//! Comparisons that several modules make. Each is in a function of its own, so that its proof is made once.
+//! The comparisons of all modules: each costs its proof once.
+
+ghost use Rattle.std.specs.Prelude.{IsTrue};
 
 use mold_devices::DeviceFault;
 use std::process::Abort;
@@ -20,15 +22,6 @@ pub fn same_message(rt: &impl Abort, i: usize, found: Option<&[u8]>, wanted: Opt
     assert!(rt; found == wanted, "message {i}");
 }
 
-/// How many bytes a device read or wrote.
-pub fn same_count(
-    rt: &impl Abort,
-    found: Result<usize, DeviceFault>,
-    wanted: Result<usize, DeviceFault>,
-) {
-    assert!(rt; found == wanted, "another count");
-}
-
 /// Whether all bytes were written or sent.
 pub fn same_outcome(
     rt: &impl Abort,
@@ -36,4 +29,16 @@ pub fn same_outcome(
     wanted: Result<(), DeviceFault>,
 ) {
     assert!(rt; found.is_ok() == wanted.is_ok(), "another outcome");
+}
+
+/// Fails if a fact does not hold.
+pub fn holds(rt: &impl Abort, fact: bool)
+    ensures { IsTrue fact }
+{
+    assert!(rt; fact);
+}
+
+/// Fails if the case or the step of this index is not as it states.
+pub fn holds_at(rt: &impl Abort, fact: bool, name: &str, at: usize) {
+    assert!(rt; fact, "{name} {at}");
 }

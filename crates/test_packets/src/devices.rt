@@ -1,6 +1,6 @@
 //! Devices in memory, and devices made of readers and writers. A device makes one call and reports its failure.
 
-use crate::comparisons::{same_bytes, same_count, same_number, same_outcome, same_size};
+use crate::comparisons::{holds, holds_at, same_bytes, same_number, same_outcome, same_size};
 use mold_devices::{
     DeviceFault, FromRead, IntoWrite, MemorySink, MemorySource, Sink, Source, write_all,
 };
@@ -16,10 +16,9 @@ type Reads = &'static [(Count, &'static [u8], u64)];
 
 fn expect_reads<S: Source>(rt: &impl Abort, source: &mut S, reads: Reads) {
     let mut buffer = [0u8; 8];
-    for (wanted, bytes, failures) in reads {
-        same_count(rt, source.read(&mut buffer), *wanted);
-        assert!(rt; buffer.starts_with(bytes), "not {bytes:?}");
-        same_number(rt, source.failures(), *failures);
+    for (i, (wanted, bytes, failures)) in reads.iter().enumerate() {
+        let is_read = source.read(&mut buffer) == *wanted && buffer.starts_with(bytes);
+        holds_at(rt, is_read && source.failures() == *failures, "read", i);
     }
 }
 
@@ -27,23 +26,10 @@ fn expect_reads<S: Source>(rt: &impl Abort, source: &mut S, reads: Reads) {
 type Writes = &'static [(&'static [u8], Count, u64)];
 
 fn expect_writes<S: Sink>(rt: &impl Abort, sink: &mut S, writes: Writes) {
-    for (bytes, wanted, failures) in writes {
-        same_count(rt, sink.write(bytes), *wanted);
-        same_number(rt, sink.failures(), *failures);
+    for (i, (bytes, wanted, failures)) in writes.iter().enumerate() {
+        let is_written = sink.write(bytes) == *wanted;
+        holds_at(rt, is_written && sink.failures() == *failures, "write", i);
     }
-}
-
-#[test]
-fn memory_source_gives_its_bytes(rt: HostRuntime) {
-    expect_bytes_read(&rt, &mut MemorySource::new(b"abcde"));
-}
-
-fn expect_bytes_read(rt: &impl Abort, source: &mut MemorySource<'_>) {
-    source.at_most(3);
-    expect_reads(rt, source, &[(Ok(3), b"abc", 0)]);
-    source.fail_at(2);
-    source.at_most(1);
-    expect_reads(rt, source, SINGLE_READS);
 }
 
 const SINGLE_READS: Reads = &[
@@ -54,43 +40,41 @@ const SINGLE_READS: Reads = &[
 ];
 
 #[test]
-fn memory_sink_takes_bytes(rt: HostRuntime) {
-    let mut sink = MemorySink::new(rt.alloc());
-    expect_bytes_taken(&rt, &mut sink);
+fn memory_source_gives_its_bytes(rt: HostRuntime) {
+    let mut source = MemorySource::new(b"abcde");
+    source.at_most(3);
+    expect_reads(&rt, &mut source, &[(Ok(3), b"abc", 0)]);
+    source.fail_at(2);
+    source.at_most(1);
+    expect_reads(&rt, &mut source, SINGLE_READS);
 }
 
 const SINGLE_WRITES: Writes = &[(b"cd", Ok(1), 0), (b"d", Err(DeviceFault), 1)];
 
-fn expect_bytes_taken(rt: &impl Abort, sink: &mut MemorySink) {
-    expect_writes(rt, sink, &[(b"ab", Ok(2), 0)]);
+#[test]
+fn memory_sink_takes_bytes(rt: HostRuntime) {
+    let mut sink = MemorySink::new(rt.alloc());
+    expect_writes(&rt, &mut sink, &[(b"ab", Ok(2), 0)]);
     sink.at_most(1);
     sink.fail_at(2);
-    expect_writes(rt, sink, SINGLE_WRITES);
-    same_outcome(rt, write_all(sink, b"de"), Ok(()));
-    same_bytes(rt, sink.bytes(), b"abcde");
+    expect_writes(&rt, &mut sink, SINGLE_WRITES);
+    same_outcome(&rt, write_all(&mut sink, b"de"), Ok(()));
+    same_bytes(&rt, sink.bytes(), b"abcde");
     sink.fail_at(2);
-    same_outcome(rt, write_all(sink, b"fg"), Err(DeviceFault));
-    same_bytes(rt, sink.bytes(), b"abcdef");
-    same_number(rt, sink.failures(), 2);
+    same_outcome(&rt, write_all(&mut sink, b"fg"), Err(DeviceFault));
+    same_bytes(&rt, sink.bytes(), b"abcdef");
+    same_number(&rt, sink.failures(), 2);
 }
 
 #[test]
 fn readers_and_writers_are_devices(rt: HostRuntime) {
-    expect_reader(&rt);
-    expect_writer(&rt, Vec::new(rt.alloc()));
-}
-
-fn expect_reader(rt: &impl Abort) {
     let mut source = FromRead::new(b"abc".as_slice());
-    expect_reads(rt, &mut source, &[(Ok(3), b"abc", 0), (Ok(0), b"", 0)]);
-    same_size(rt, source.into_inner().len(), 0);
-}
-
-fn expect_writer(rt: &impl Abort, written: Vec<u8>) {
-    let mut sink = IntoWrite::new(written);
-    same_outcome(rt, write_all(&mut sink, b"abc"), Ok(()));
-    same_number(rt, sink.failures(), 0);
-    same_bytes(rt, sink.into_inner().as_slice(), b"abc");
+    expect_reads(&rt, &mut source, &[(Ok(3), b"abc", 0), (Ok(0), b"", 0)]);
+    same_size(&rt, source.into_inner().len(), 0);
+    let mut sink = IntoWrite::new(Vec::new(rt.alloc()));
+    same_outcome(&rt, write_all(&mut sink, b"abc"), Ok(()));
+    same_number(&rt, sink.failures(), 0);
+    same_bytes(&rt, sink.into_inner().as_slice(), b"abc");
 }
 
 /// Returns one byte a call. The second call is interrupted.
@@ -136,23 +120,11 @@ impl Write for Reluctant {
     }
 }
 
-#[test]
-fn interrupted_and_idle_calls_are_failures(rt: HostRuntime) {
-    expect_interrupted(&rt);
-    expect_writes(&rt, &mut IntoWrite::new(Reluctant { calls: 0 }), RELUCTANT);
-}
-
 const INTERRUPTED: Reads = &[
     (Ok(1), b"x", 0),
     (Err(DeviceFault), b"", 1),
     (Ok(1), b"x", 1),
 ];
-
-fn expect_interrupted(rt: &impl Abort) {
-    let mut source = FromRead::new(Interrupted { calls: 0 });
-    expect_reads(rt, &mut source, INTERRUPTED);
-    same_number(rt, source.into_inner().calls, 3);
-}
 
 const RELUCTANT: Writes = &[
     (b"ab", Ok(1), 0),
@@ -161,6 +133,14 @@ const RELUCTANT: Writes = &[
     (b"", Ok(0), 2),
     (b"ab", Ok(1), 2),
 ];
+
+#[test]
+fn interrupted_and_idle_calls_are_failures(rt: HostRuntime) {
+    let mut source = FromRead::new(Interrupted { calls: 0 });
+    expect_reads(&rt, &mut source, INTERRUPTED);
+    same_number(&rt, source.into_inner().calls, 3);
+    expect_writes(&rt, &mut IntoWrite::new(Reluctant { calls: 0 }), RELUCTANT);
+}
 
 // Writes bytes. If an allocation fails, the write fails and the sink is as before, and the bytes are written again.
 fn write_again(
@@ -184,7 +164,7 @@ fn write_two(rt: &impl Abort, sink: &mut MemorySink) -> Result<(), DeviceFault> 
     write_again(rt, sink, b"ab", b"")?;
     write_again(rt, sink, &[b'c'; 62], b"ab")?;
     same_size(rt, sink.bytes().len(), 64);
-    assert!(rt; sink.bytes().starts_with(b"abc"));
+    holds(rt, sink.bytes().starts_with(b"abc"));
     Ok(())
 }
 

@@ -2,9 +2,9 @@
 
 ghost use Rattle.std.specs.Prelude.{◌≡◌, []};
 
-use crate::comparisons::{same_message, same_size};
+use crate::comparisons::{holds, same_message, same_size};
 use mold_messages::{MessageList, PartList};
-use std::alloc::{AllocError, Global};
+use std::alloc::AllocError;
 use std::process::Abort;
 use std::test::Fail;
 
@@ -22,7 +22,7 @@ enum Step {
     Joined(usize, usize, usize),
 }
 
-// The messages from an index on, one after the other.
+// These are the messages from an index on, one after the other.
 fn expect_from<'w, 'm>(rt: &impl Abort, list: &MessageList, first: usize, wanted: &'w [&'m [u8]]) {
     let mut i = first;
     for message in list.iter_from(first) {
@@ -32,55 +32,47 @@ fn expect_from<'w, 'm>(rt: &impl Abort, list: &MessageList, first: usize, wanted
     same_size(rt, i, wanted.len().max(first));
 }
 
-fn expect_each<'w, 'm>(rt: &impl Abort, list: &MessageList, wanted: &'w [&'m [u8]]) {
+// These are the messages, from each index on.
+fn expect_list<'w, 'm>(rt: &impl Abort, list: &MessageList, wanted: &'w [&'m [u8]]) {
     let mut i = 0usize;
     for message in list {
-        same_message(rt, i, Some(message), wanted.get(i).copied());
-        same_message(rt, i, list.get(i), Some(message));
+        same_message(rt, i, Some(message), list.get(i));
         expect_from(rt, list, i, wanted);
         i = i.saturating_add(1);
     }
     same_size(rt, i, wanted.len());
+    same_size(rt, list.len(), i);
+    holds(rt, list.is_empty() == (i == 0));
+    same_message(rt, i, list.get(i), None);
+    expect_from(rt, list, i, wanted);
+    expect_from(rt, list, i.saturating_add(1), wanted);
 }
 
-fn expect_list<'w, 'm>(rt: &impl Abort, list: &MessageList, wanted: &'w [&'m [u8]]) {
-    let len = wanted.len();
-    same_size(rt, list.len(), len);
-    same_size(rt, usize::from(list.is_empty()), usize::from(len == 0));
-    same_message(rt, len, list.get(len), None);
-    expect_each(rt, list, wanted);
-    expect_from(rt, list, len, wanted);
-    expect_from(rt, list, len.saturating_add(1), wanted);
-}
-
-fn expect_joined(rt: &impl Abort, list: &MessageList, from: usize, to: usize, wanted: usize) {
-    assert!(rt; from <= to && to <= list.len());
-    same_size(rt, list.joined_length(from, to), wanted);
-}
-
-fn extend_last(rt: &impl Abort, list: &mut MessageList, part: &[u8]) -> Result<(), AllocError> {
-    assert!(rt; list.len() > 0);
-    list.extend_last(part)
+fn joined(rt: &impl Abort, list: &MessageList, from: usize, to: usize) -> usize {
+    holds(rt, from <= to);
+    holds(rt, to <= list.len());
+    list.joined_length(from, to)
 }
 
 fn take_step(rt: &impl Abort, list: &mut MessageList, step: Step) -> Result<(), AllocError> {
     match step {
         Step::Push(message) => return list.push(message),
-        Step::ExtendLast(part) => return extend_last(rt, list, part),
+        Step::ExtendLast(part) => {
+            holds(rt, list.len() > 0);
+            return list.extend_last(part);
+        }
         Step::Truncate(keep) => list.truncate(keep),
         Step::Clear => list.clear(),
         Step::Reserve(messages, bytes) => return list.reserve(messages, bytes),
         Step::Has(wanted) => expect_list(rt, list, wanted),
-        Step::Joined(from, to, wanted) => expect_joined(rt, list, from, to, wanted),
+        Step::Joined(from, to, wanted) => same_size(rt, joined(rt, list, from, to), wanted),
     }
     Ok(())
 }
 
-// A new list takes the steps.
-fn expect_steps(rt: &impl Abort, alloc: Global, steps: &[Step]) -> Result<(), Fail> {
-    let mut list = MessageList::new(alloc);
+fn take_steps(rt: &impl Abort, list: &mut MessageList, steps: &[Step]) -> Result<(), AllocError> {
     for step in steps {
-        take_step(rt, &mut list, *step)?;
+        take_step(rt, list, *step)?;
     }
     Ok(())
 }
@@ -94,11 +86,6 @@ const PUSHED: &[Step] = &[
     Step::Joined(1, 3, 1),
     Step::Joined(2, 2, 0),
 ];
-
-#[test]
-fn messages_are_returned_as_they_were_pushed(rt: HostRuntime) -> Result<(), Fail> {
-    expect_steps(&rt, rt.alloc(), PUSHED)
-}
 
 const TRUNCATED: &[Step] = &[
     Step::Push(b"AB"),
@@ -118,11 +105,7 @@ const TRUNCATED: &[Step] = &[
     Step::Has(&[b"AB", b"CD"]),
 ];
 
-#[test]
-fn a_list_is_truncated_and_filled_again(rt: HostRuntime) -> Result<(), Fail> {
-    expect_steps(&rt, rt.alloc(), TRUNCATED)
-}
-
+// A message that comes in parts.
 const EXTENDED: &[Step] = &[
     Step::Push(b"AB"),
     Step::Push(b""),
@@ -134,8 +117,12 @@ const EXTENDED: &[Step] = &[
 ];
 
 #[test]
-fn a_message_comes_in_parts(rt: HostRuntime) -> Result<(), Fail> {
-    expect_steps(&rt, rt.alloc(), EXTENDED)
+fn messages_are_pushed_truncated_and_extended(rt: HostRuntime) -> Result<(), Fail> {
+    for steps in [PUSHED, TRUNCATED, EXTENDED] {
+        let mut list = MessageList::new(rt.alloc());
+        take_steps(&rt, &mut list, steps)?;
+    }
+    Ok(())
 }
 
 fn push_thousand(list: &mut MessageList) -> Result<(), AllocError> {
@@ -151,7 +138,7 @@ fn a_thousand_messages_are_pushed(rt: HostRuntime) -> Result<(), Fail> {
     let mut list = MessageList::new(rt.alloc());
     push_thousand(&mut list)?;
     same_size(&rt, list.len(), 1000);
-    expect_joined(&rt, &list, 0, 1000, 1000);
+    same_size(&rt, joined(&rt, &list, 0, 1000), 1000);
     Ok(())
 }
 
@@ -170,13 +157,13 @@ fn expect_parts<'w, 'm>(rt: &impl Abort, list: &PartList, wanted: &'w [&'m [u8]]
     let mut i = 0usize;
     for message in list {
         same_message(rt, i, Some(message), wanted.get(i).copied());
-        same_message(rt, i, list.get(i), Some(message));
+        same_message(rt, i, Some(message), list.get(i));
         i = i.saturating_add(1);
     }
     same_size(rt, i, wanted.len());
     same_size(rt, list.len(), i);
+    holds(rt, list.is_empty() == (i == 0));
     same_message(rt, i, list.get(i), None);
-    same_size(rt, usize::from(list.is_empty()), usize::from(i == 0));
 }
 
 fn expect_truncated(rt: &impl Abort, list: &mut PartList) {

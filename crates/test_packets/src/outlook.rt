@@ -1,9 +1,9 @@
 //! The states of a UDP port beside another one: each transition of the table at `Outlook`, over loopback sockets.
 
+use crate::comparisons::{holds, holds_at};
 use crate::ports::{Ports, Side, nowhere};
 use mold_devices::DeviceFault;
 use mold_ports::{Datagrams, Outlook};
-use std::net::Net;
 use std::process::Abort;
 use std::test::Fail;
 
@@ -82,25 +82,20 @@ fn happens(ports: &mut Ports, event: Event) -> bool {
 }
 
 /// The port at `busy` has a datagram that is never received, so the waits of the port at `quiet` end at once.
-fn expect_path(
-    rt: &(impl Abort + Net),
-    path: usize,
-    events: &[(Event, Outlook)],
-) -> Result<(), Fail> {
-    let mut ports = Ports::new(rt)?;
+fn expect_events(rt: &impl Abort, ports: &mut Ports, path: usize, events: &[(Event, Outlook)]) {
     ports.stand_beside();
-    assert!(rt; ports.is_sent(Side::Busy, Side::Busy, b"stays"));
+    holds(rt, ports.is_sent(Side::Busy, Side::Busy, b"stays"));
     for (event, wanted) in events {
-        let happened = happens(&mut ports, *event);
-        assert!(rt; happened && ports.quiet.outlook() == *wanted, "path {path}");
+        holds_at(rt, happens(ports, *event), "path", path);
+        holds_at(rt, ports.quiet.outlook() == *wanted, "path", path);
     }
-    Ok(())
 }
 
 #[test]
 fn states_follow_the_table(rt: HostRuntime) -> Result<(), Fail> {
     for (i, events) in PATHS.iter().enumerate() {
-        expect_path(&rt, i, events)?;
+        let mut ports = Ports::new(&rt)?;
+        expect_events(&rt, &mut ports, i, events);
     }
     Ok(())
 }

@@ -1,6 +1,6 @@
 //! Sets of ports: UDP ports over the loopback address, and scripts in memory.
 
-use crate::comparisons::{same_bytes, same_number, same_outcome, same_size};
+use crate::comparisons::{holds, same_number, same_outcome, same_size};
 use mold_devices::DeviceFault;
 use mold_port_set::{
     MemoryPortSet, Opened, PORTS, PortDatagram, PortSet, PortSetCall, PortSetStep, UdpPortSet,
@@ -45,21 +45,19 @@ fn address(set: &UdpPortSet, port: usize) -> SocketAddrV4 {
 // A receive on the port gives these bytes.
 fn expect_datagram(rt: &impl Abort, set: &mut impl PortSet, port: usize, wanted: &[u8]) {
     let mut buffer = [0u8; 16];
-    match set.receive(port, &mut buffer) {
-        Ok(Some(count)) => same_bytes(rt, &buffer[..count], wanted),
-        _ => assert!(rt; false, "no datagram"),
-    }
+    holds(rt, set.receive(port, &mut buffer) == Ok(Some(wanted.len())));
+    holds(rt, buffer.starts_with(wanted));
 }
 
 fn expect_nothing(rt: &impl Abort, set: &mut impl PortSet, port: usize) {
     let mut buffer = [0u8; 16];
-    assert!(rt; set.receive(port, &mut buffer) == Ok(None), "a datagram");
+    holds(rt, set.receive(port, &mut buffer) == Ok(None));
 }
 
 fn expect_wait(rt: &impl Abort, set: &mut UdpPortSet, nanos: u64, wanted: bool) {
     let until = later(set, nanos);
-    assert!(rt; set.wait(until) == Ok(wanted), "another wait");
-    assert!(rt; wanted || set.now() >= until, "a wait that is too short");
+    holds(rt, set.wait(until) == Ok(wanted));
+    holds(rt, wanted || set.now() >= until);
 }
 
 fn expect_exchange(rt: &impl Abort, set: &mut UdpPortSet) -> Result<(), DeviceFault> {
@@ -82,22 +80,18 @@ fn a_set_waits_for_all_its_ports(rt: HostRuntime) -> Result<(), Fail> {
     let mut set = open(&rt, 2)?;
     expect_exchange(&rt, &mut set)?;
     // Without the system's table the number is not known.
-    assert!(&rt; matches!(set.drops(), None | Some(0)), "dropped datagrams");
+    holds(&rt, matches!(set.drops(), None | Some(0)));
     Ok(())
-}
-
-fn expect_failures(rt: &impl Abort, set: &mut UdpPortSet) {
-    let mut buffer = [0u8; 16];
-    same_outcome(rt, set.send(0, loopback(0), b"abc"), Err(DeviceFault));
-    same_outcome(rt, set.send(1, loopback(1), b"abc"), Err(DeviceFault));
-    assert!(rt; set.receive(1, &mut buffer).is_err(), "a port too many");
-    same_number(rt, set.failures(), 3);
 }
 
 #[test]
 fn a_set_counts_failures(rt: HostRuntime) -> Result<(), Fail> {
     let mut set = open(&rt, 1)?;
-    expect_failures(&rt, &mut set);
+    let mut buffer = [0u8; 16];
+    same_outcome(&rt, set.send(0, loopback(0), b"abc"), Err(DeviceFault));
+    same_outcome(&rt, set.send(1, loopback(1), b"abc"), Err(DeviceFault));
+    holds(&rt, set.receive(1, &mut buffer).is_err());
+    same_number(&rt, set.failures(), 3);
     Ok(())
 }
 
@@ -105,10 +99,7 @@ fn a_set_counts_failures(rt: HostRuntime) -> Result<(), Fail> {
 fn a_set_has_ten_ports(rt: HostRuntime) -> Result<(), Fail> {
     let mut set = open(&rt, PORTS)?;
     same_outcome(&rt, set.bind(&rt, loopback(0), None), Err(DeviceFault));
-    assert!(&rt;
-        set.opened(9) == Some(Opened::Bound(loopback(0))),
-        "another port"
-    );
+    holds(&rt, set.opened(9) == Some(Opened::Bound(loopback(0))));
     Ok(())
 }
 
@@ -154,17 +145,15 @@ fn a_tcp_socket_is_not_adopted(rt: HostRuntime) -> Result<(), Fail> {
     let listener = TcpListener::bind(&rt, SocketAddr::V4(loopback(0)))?;
     let descriptor = u16::try_from(listener.as_raw_fd()).unwrap_or(0);
     expect_refused(&rt, &mut set, &[descriptor]);
-    assert!(&rt; listener.local_addr().is_ok(), "closed");
+    holds(&rt, listener.local_addr().is_ok());
     Ok(())
 }
 
-// Returns a set of three ports. The first gives only datagrams of the second's address. The third is at another one.
-fn filtered<R: Net + Files<File = File>>(rt: &R) -> Result<UdpPortSet, DeviceFault> {
-    let mut set = UdpPortSet::new(rt);
+// Binds three ports. The first gives only datagrams of the second's address. The third is at another one.
+fn bind_filtered(rt: &impl Net, set: &mut UdpPortSet) -> Result<(), DeviceFault> {
     set.bind(rt, loopback(0), Some(*loopback(0).ip()))?;
     set.bind(rt, loopback(0), None)?;
-    set.bind(rt, other(), None)?;
-    Ok(set)
+    set.bind(rt, other(), None)
 }
 
 // Sends datagrams of another sender to the first port, and then one of its sender.
@@ -176,7 +165,8 @@ fn send_after(set: &mut UdpPortSet, others: u32, bytes: &[u8]) -> Result<(), Dev
     set.send(1, first, bytes)
 }
 
-fn expect_filtered(rt: &impl Abort, set: &mut UdpPortSet) -> Result<(), DeviceFault> {
+fn expect_filtered(rt: &(impl Abort + Net), set: &mut UdpPortSet) -> Result<(), DeviceFault> {
+    bind_filtered(rt, set)?;
     send_after(set, 63, b"abc")?;
     expect_wait(rt, set, SOON, true);
     expect_datagram(rt, set, 0, b"abc");
@@ -195,7 +185,7 @@ fn expect_filtered(rt: &impl Abort, set: &mut UdpPortSet) -> Result<(), DeviceFa
 /// A receive passes over at most 64 datagrams.
 #[test]
 fn a_port_gives_datagrams_of_its_sender(rt: HostRuntime) -> Result<(), Fail> {
-    let mut set = filtered(&rt)?;
+    let mut set = UdpPortSet::new(&rt);
     expect_filtered(&rt, &mut set)?;
     Ok(())
 }
@@ -233,7 +223,7 @@ fn expect_wait_to(
     (until, time): (u64, u64),
     wanted: Result<bool, DeviceFault>,
 ) {
-    assert!(rt; set.wait(until) == wanted, "another wait until {until}");
+    holds(rt, set.wait(until) == wanted);
     same_number(rt, set.now(), time);
 }
 
@@ -241,10 +231,10 @@ fn expect_script(rt: &impl Abort, set: &mut MemoryPortSet) {
     let mut short = [0u8; 2];
     expect_wait_to(rt, set, (10, 0), Ok(true));
     expect_nothing(rt, set, 1);
-    assert!(rt; set.receive(0, &mut short) == Ok(Some(2)), "not truncated");
+    holds(rt, set.receive(0, &mut short) == Ok(Some(2)));
     expect_wait_to(rt, set, (3, 3), Ok(false));
     expect_wait_to(rt, set, (10, 5), Ok(true));
-    assert!(rt; set.receive(0, &mut short).is_err(), "no failure");
+    holds(rt, set.receive(0, &mut short).is_err());
     expect_datagram(rt, set, 0, b"");
     expect_datagram(rt, set, 1, b"de");
     expect_wait_to(rt, set, (u64::MAX, 7), Err(DeviceFault));
@@ -264,16 +254,15 @@ fn is_datagram(found: &PortDatagram, port: usize, bytes: &[u8]) -> bool {
     found.port == port && found.bytes.as_slice() == bytes
 }
 
-// The set gave these datagrams, the first of them truncated.
-fn expect_given(rt: &impl Abort, set: &MemoryPortSet) {
-    match set.given() {
-        [first, second, third] => assert!(rt;
+// Whether a set gave these datagrams, the first of them truncated.
+fn are_given(given: &[PortDatagram]) -> bool {
+    match given {
+        [first, second, third] => {
             is_datagram(first, 0, b"ab")
                 && is_datagram(second, 0, b"")
-                && is_datagram(third, 1, b"de"),
-            "other datagrams"
-        ),
-        _ => assert!(rt; false, "another number of datagrams"),
+                && is_datagram(third, 1, b"de")
+        }
+        _ => false,
     }
 }
 
@@ -281,25 +270,31 @@ fn is_sent(found: &(u32, PortDatagram), to: u32, port: usize, bytes: &[u8]) -> b
     found.0 == to && is_datagram(&found.1, port, bytes)
 }
 
-fn expect_sent(rt: &impl Abort, set: &MemoryPortSet) {
-    match set.sent() {
-        [first, second] => assert!(rt;
-            is_sent(first, 9, 1, b"x") && is_sent(second, 8, 0, b""),
-            "other datagrams"
-        ),
-        _ => assert!(rt; false, "another number of datagrams"),
+// Whether a set sent these datagrams.
+fn are_sent(sent: &[(u32, PortDatagram)]) -> bool {
+    match sent {
+        [first, second] => is_sent(first, 9, 1, b"x") && is_sent(second, 8, 0, b""),
+        _ => false,
     }
+}
+
+fn scripted(alloc: Global) -> Result<MemoryPortSet, Fail> {
+    let mut script = Vec::new(alloc);
+    push_script(alloc, &mut script)?;
+    Ok(MemoryPortSet::new(alloc, script)?)
+}
+
+fn expect_steps(rt: &impl Abort, set: &mut MemoryPortSet) {
+    expect_script(rt, set);
+    expect_sends(rt, set);
+    holds(rt, are_given(set.given()));
+    holds(rt, are_sent(set.sent()));
 }
 
 #[test]
 fn memory_port_set_takes_its_steps_at_their_times(rt: HostRuntime) -> Result<(), Fail> {
-    let mut script = Vec::new(rt.alloc());
-    push_script(rt.alloc(), &mut script)?;
-    let mut set = MemoryPortSet::new(rt.alloc(), script)?;
-    expect_script(&rt, &mut set);
-    expect_sends(&rt, &mut set);
-    expect_given(&rt, &set);
-    expect_sent(&rt, &set);
+    let mut set = scripted(rt.alloc())?;
+    expect_steps(&rt, &mut set);
     Ok(())
 }
 
@@ -326,9 +321,7 @@ fn receive_and_send(rt: &impl Abort, set: &mut MemoryPortSet) -> Result<(), Devi
 /// A receive allocates nothing.
 #[test]
 fn out_of_memory_is_a_failed_send_from_a_set(rt: HostRuntime) -> Result<(), Fail> {
-    let mut script = Vec::new(rt.alloc());
-    push_datagram(rt.alloc(), &mut script, 0, (0, b"abc"))?;
-    let mut set = MemoryPortSet::new(rt.alloc(), script)?;
+    let mut set = scripted(rt.alloc())?;
     match receive_and_send(&rt, &mut set) {
         Ok(()) => Ok(()),
         Err(DeviceFault) => Err(Fail::from("Memory")),

@@ -1,6 +1,6 @@
 //! Ports in memory, and ports of UDP over the loopback address.
 
-use crate::comparisons::{same_bytes, same_number, same_outcome, same_size};
+use crate::comparisons::{holds, holds_at, same_bytes, same_number, same_outcome, same_size};
 use mold_devices::DeviceFault;
 use mold_ports::{Datagrams, MemoryPort, Step, UdpPort};
 use std::alloc::{AllocError, Global};
@@ -23,10 +23,6 @@ fn push_script(alloc: Global, script: &mut Vec<Step>) -> Result<(), AllocError> 
 // What a receive in memory returns: how many bytes from which peer.
 type Receipt = Result<Option<(usize, u32)>, DeviceFault>;
 
-fn same_receipt(rt: &impl Abort, found: Receipt, wanted: Receipt) {
-    assert!(rt; found == wanted, "another receipt");
-}
-
 // What receives return after the first, and how many steps are left.
 const RECEIPTS: &[(Receipt, usize)] = &[
     (Ok(Some((2, 8))), 2),
@@ -39,10 +35,10 @@ fn expect_steps_once(rt: &impl Abort, port: &mut MemoryPort) {
     let mut long = [0u8; 8];
     let mut short = [0u8; 2];
     same_size(rt, port.left(), 4);
-    same_receipt(rt, port.receive(&mut long), Ok(Some((3, 7))));
+    holds(rt, port.receive(&mut long) == Ok(Some((3, 7))));
     same_bytes(rt, &long[..3], b"abc");
     for (wanted, left) in RECEIPTS {
-        same_receipt(rt, port.receive(&mut short), *wanted);
+        holds_at(rt, port.receive(&mut short) == *wanted, "left", *left);
         same_size(rt, port.left(), *left);
     }
     same_bytes(rt, &short, b"ab");
@@ -54,8 +50,7 @@ fn expect_steps_once(rt: &impl Abort, port: &mut MemoryPort) {
 fn memory_port_takes_its_steps_once(rt: HostRuntime) -> Result<(), Fail> {
     let mut script = Vec::new(rt.alloc());
     push_script(rt.alloc(), &mut script)?;
-    let mut port = MemoryPort::new(rt.alloc(), script);
-    expect_steps_once(&rt, &mut port);
+    expect_steps_once(&rt, &mut MemoryPort::new(rt.alloc(), script));
     Ok(())
 }
 
@@ -69,16 +64,12 @@ const SENDS: &[(u32, &[u8], Result<(), DeviceFault>)] = &[
 #[test]
 fn memory_port_keeps_what_it_sends(rt: HostRuntime) {
     let mut port = MemoryPort::new(rt.alloc(), Vec::new(rt.alloc()));
-    expect_sent_kept(&rt, &mut port);
-}
-
-fn expect_sent_kept(rt: &impl Abort, port: &mut MemoryPort) {
     port.fail_send(2);
     for (to, bytes, wanted) in SENDS {
-        same_outcome(rt, port.send(*to, bytes), *wanted);
+        same_outcome(&rt, port.send(*to, bytes), *wanted);
     }
-    same_number(rt, port.failures(), 1);
-    expect_sent(rt, port, &[(1, b"ab"), (2, b"")]);
+    same_number(&rt, port.failures(), 1);
+    expect_sent(&rt, &port, &[(1, b"ab"), (2, b"")]);
 }
 
 fn is_sent(sent: &[(u32, Vec<u8>)], i: usize, to: u32, bytes: &[u8]) -> bool {
@@ -93,7 +84,7 @@ fn expect_sent<'w, 'd>(rt: &impl Abort, port: &MemoryPort, wanted: &'w [(u32, &'
     let sent = port.sent();
     same_size(rt, sent.len(), wanted.len());
     for (i, (to, bytes)) in wanted.iter().enumerate() {
-        assert!(rt; is_sent(sent, i, *to, bytes), "datagram {i}");
+        holds_at(rt, is_sent(sent, i, *to, bytes), "datagram", i);
     }
 }
 
@@ -141,23 +132,12 @@ fn open(rt: &impl Net) -> Result<UdpPort, DeviceFault> {
     UdpPort::bind(rt, loopback(0))
 }
 
-fn is_taken(rt: &impl Net, port: u16) -> bool {
-    UdpPort::bind(rt, loopback(port)).is_err()
-}
-
-fn expect_taken(rt: &(impl Abort + Net), address: SocketAddr) {
-    let port = address.port();
-    assert!(rt;
-        address == SocketAddr::V4(loopback(port)),
-        "another address"
-    );
-    assert!(rt; is_taken(rt, port), "bound again");
-}
-
 #[test]
 fn a_taken_port_is_not_bound_again(rt: HostRuntime) -> Result<(), Fail> {
     let port = open(&rt)?;
-    expect_taken(&rt, port.address());
+    let taken = loopback(port.address().port());
+    holds(&rt, port.address() == SocketAddr::V4(taken));
+    holds(&rt, UdpPort::bind(&rt, taken).is_err());
     Ok(())
 }
 
@@ -234,12 +214,9 @@ impl Ports {
     }
 
     fn is_received(&mut self, at: Side, bytes: &[u8], from: Side) -> bool {
-        let mut buffer = [0u8; 65507];
-        let wanted = (bytes.len(), self.address(from));
-        match self.port(at).receive(&mut buffer) {
-            Ok(Some(found)) => found == wanted && buffer.starts_with(bytes),
-            _ => false,
-        }
+        let mut buffer = [0u8; 16];
+        let received = self.port(at).receive(&mut buffer);
+        received == Ok(Some((bytes.len(), self.address(from)))) && buffer.starts_with(bytes)
     }
 
     fn is_nothing_received(&mut self, at: Side) -> bool {
@@ -247,11 +224,11 @@ impl Ports {
         matches!(self.port(at).receive(&mut buffer), Ok(None))
     }
 
-    fn is_failed_send(&mut self) -> bool {
-        self.quiet.send(nowhere(), b"abc") == Err(DeviceFault)
-            && self.quiet.failures() == 1
-            && self.busy.failures() == 0
-            && self.quiet.address() != self.busy.address()
+    fn expect_failed_send(&mut self, rt: &impl Abort) {
+        holds(rt, self.quiet.send(nowhere(), b"abc") == Err(DeviceFault));
+        same_number(rt, self.quiet.failures(), 1);
+        same_number(rt, self.busy.failures(), 0);
+        holds(rt, self.quiet.address() != self.busy.address());
     }
 
     // How many milliseconds the shortest of some receives takes. Other work of the machine may delay some.
@@ -266,12 +243,12 @@ impl Ports {
         Ok(least)
     }
 
-    fn succeeds(&mut self, rt: &impl Clock, call: Call) -> Result<bool, Fail> {
+    fn succeeds(&mut self, rt: &(impl Abort + Clock), call: Call) -> Result<bool, Fail> {
         match call {
             Call::StandBeside => self.stand_beside(),
             Call::StandOpposite => self.busy.stand_beside(&self.quiet),
             Call::Send(from, to, bytes) => return Ok(self.is_sent(from, to, bytes)),
-            Call::FailedSend => return Ok(self.is_failed_send()),
+            Call::FailedSend => self.expect_failed_send(rt),
             Call::Receive(at, bytes, from) => return Ok(self.is_received(at, bytes, from)),
             Call::Nothing(at) => return Ok(self.is_nothing_received(at)),
             Call::Waits(receives, least) => return Ok(self.least_wait(rt, receives)? >= least),
@@ -281,27 +258,14 @@ impl Ports {
     }
 }
 
-// The calls succeed, one after the other, at new ports.
-fn expect_calls(rt: &(impl Abort + Clock + Net), calls: &[Call]) -> Result<(), Fail> {
-    let mut ports = Ports::new(rt)?;
-    for (i, call) in calls.iter().enumerate() {
-        let succeeded = ports.succeeds(rt, *call)?;
-        assert!(rt; succeeded, "call {i}");
-    }
-    Ok(())
-}
-
 const BY_SOCKETS: &[Call] = &[
     Call::Send(Side::Quiet, Side::Busy, b"abc"),
     Call::Receive(Side::Busy, b"abc", Side::Quiet),
     Call::FailedSend,
 ];
 
-#[test]
-fn datagrams_go_by_sockets(rt: HostRuntime) -> Result<(), Fail> {
-    expect_calls(&rt, BY_SOCKETS)
-}
-
+/// A receive of nothing waits its full time. If a port beside it has a datagram, the wait ends at once. After a send it
+/// ends when the time for a response is over.
 const WAITS_ENDED: &[Call] = &[
     Call::Waits(1, 90),
     Call::StandBeside,
@@ -313,13 +277,8 @@ const WAITS_ENDED: &[Call] = &[
     Call::Receive(Side::Busy, b"abc", Side::Busy),
 ];
 
-/// A receive of nothing waits its full time. If a port beside it has a datagram, the wait ends at once. After a send it
-/// ends when the time for a response is over.
-#[test]
-fn a_wait_ends_where_a_port_beside_has_a_datagram(rt: HostRuntime) -> Result<(), Fail> {
-    expect_calls(&rt, WAITS_ENDED)
-}
-
+/// A wait that another port ended does not shorten the next one. If no port has a datagram, that wait lasts its full
+/// time, also after a send.
 const FULL_WAITS: &[Call] = &[
     Call::StandBeside,
     Call::Send(Side::Busy, Side::Busy, b"abc"),
@@ -330,13 +289,8 @@ const FULL_WAITS: &[Call] = &[
     Call::Waits(1, 90),
 ];
 
-/// A wait that another port ended does not shorten the next one. If no port has a datagram, that wait lasts its full
-/// time, also after a send.
-#[test]
-fn a_receive_of_nothing_waits(rt: HostRuntime) -> Result<(), Fail> {
-    expect_calls(&rt, FULL_WAITS)
-}
-
+/// Each receive returns a datagram that has arrived, whatever an earlier wait reported, and whether or not the receive
+/// before returned one.
 const LOOKS: &[Call] = &[
     Call::StandBeside,
     Call::StandOpposite,
@@ -353,9 +307,32 @@ const LOOKS: &[Call] = &[
     Call::Nothing(Side::Busy),
 ];
 
-/// Each receive returns a datagram that has arrived, whatever an earlier wait reported, and whether or not the receive
-/// before returned one.
+const SCRIPTS: &[(&str, &[Call])] = &[
+    ("by sockets", BY_SOCKETS),
+    ("waits that end", WAITS_ENDED),
+    ("full waits", FULL_WAITS),
+    ("each receive looks", LOOKS),
+];
+
+// The calls succeed, one after the other.
+fn expect_calls(
+    rt: &(impl Abort + Clock),
+    ports: &mut Ports,
+    name: &str,
+    calls: &[Call],
+) -> Result<(), Fail> {
+    for (i, call) in calls.iter().enumerate() {
+        holds_at(rt, ports.succeeds(rt, *call)?, name, i);
+    }
+    Ok(())
+}
+
+/// The calls of each script succeed at new ports.
 #[test]
-fn each_receive_looks(rt: HostRuntime) -> Result<(), Fail> {
-    expect_calls(&rt, LOOKS)
+fn ports_receive_wait_and_look(rt: HostRuntime) -> Result<(), Fail> {
+    for (name, calls) in SCRIPTS {
+        let mut ports = Ports::new(&rt)?;
+        expect_calls(&rt, &mut ports, name, calls)?;
+    }
+    Ok(())
 }

@@ -1,10 +1,11 @@
 //! The bytes of known packets and requests, read and written.
 
-use crate::comparisons::{same_bytes, same_message, same_number, same_size};
+use crate::comparisons::{holds, holds_at, same_message, same_number, same_size};
 use mold_wire::{
     Blocks, Body, DecodeError, Packer, PackerError, Packet, Request, RequestError, Session, decode,
     decode_plain,
 };
+use std::alloc::AllocError;
 use std::process::Abort;
 use std::test::Fail;
 
@@ -29,110 +30,113 @@ const FULL: &[u8] = b"SESSION001\0\0\0\0\0\0\0\x01\0\x02\
     \0\x14\x01\x01\x01\x01\x01\x01\x01\x01\x01\x01\x01\x01\x01\x01\x01\x01\x01\x01\x01\x01\
     \0\x14\x02\x02\x02\x02\x02\x02\x02\x02\x02\x02\x02\x02\x02\x02\x02\x02\x02\x02\x02\x02";
 
-// The ends of a packet's header and of the first block of `TWO_MESSAGES`.
-const HEADER_END: usize = 20;
-
-const FIRST_END: usize = 24;
-
-fn has_header(packet: &Packet<'_>, sequence: u64, top: Option<u64>) -> bool {
-    packet.session == SESSION && packet.sequence == sequence && packet.top() == top
+/// The messages of a packet, or its kind.
+#[derive(Clone, Copy)]
+enum Contents {
+    Messages(&'static [&'static [u8]]),
+    Heartbeat,
+    End,
 }
 
-// Whether the bytes encode an end packet or a heartbeat with this sequence number.
-fn is_bare(bytes: &[u8], sequence: u64, is_end: bool) -> bool {
-    let Ok(packet) = decode(bytes) else {
-        return false;
-    };
-    let is_body = match packet.body {
-        Body::Data(_) => false,
-        Body::Heartbeat => !is_end,
-        Body::End => is_end,
-    };
-    is_body && has_header(&packet, sequence, Some(sequence))
-}
+/// Packets with their sequence numbers, the numbers after their last messages, and what they contain. The message with
+/// the greatest sequence number has no number after it.
+const PACKETS: &[(&[u8], u64, Option<u64>, Contents)] = &[
+    (HEARTBEAT, 1, Some(1), Contents::Heartbeat),
+    (END_1, 1, Some(1), Contents::End),
+    (END, 3, Some(3), Contents::End),
+    (TWO_MESSAGES, 1, Some(3), Contents::Messages(&[b"AB", b""])),
+    (LAST, MAX, None, Contents::Messages(&[b"A"])),
+];
 
-#[test]
-fn heartbeats_and_ends_are_read(rt: HostRuntime) {
-    for (bytes, sequence, is_end) in [(HEARTBEAT, 1, false), (END_1, 1, true), (END, 3, true)] {
-        assert!(rt; is_bare(bytes, sequence, is_end), "{bytes:?}");
-    }
-}
-
-fn expect_two(rt: &impl Abort, blocks: &Blocks<'_>) {
-    same_number(rt, u64::from(blocks.len()), 2);
-    same_message(rt, 0, blocks.get(0), Some(b"AB"));
-    same_message(rt, 1, blocks.get(1), Some(b""));
-    same_message(rt, 2, blocks.get(2), None);
-    expect_each(rt, blocks);
-    same_size(rt, blocks.iter().count(), 2);
-}
-
-// The messages come one after the other.
-fn expect_each(rt: &impl Abort, blocks: &Blocks<'_>) {
+// These are the messages: one after the other, and by their indices.
+fn expect_messages<'w, 'm>(rt: &impl Abort, blocks: &Blocks<'_>, wanted: &'w [&'m [u8]]) {
     let mut i = 0u16;
     for message in blocks {
-        same_message(rt, usize::from(i), Some(message), blocks.get(i));
+        let index = usize::from(i);
+        same_message(rt, index, Some(message), wanted.get(index).copied());
+        same_message(rt, index, Some(message), blocks.get(i));
         i = i.saturating_add(1);
     }
-    same_number(rt, u64::from(i), 2);
+    same_size(rt, usize::from(i), wanted.len());
+    same_number(rt, u64::from(blocks.len()), u64::from(i));
+    same_message(rt, wanted.len(), blocks.get(i), None);
 }
 
-fn expect_two_messages(rt: &impl Abort, packet: &Packet<'_>) {
-    assert!(rt; has_header(packet, 1, Some(3)), "another header");
-    match &packet.body {
-        Body::Data(blocks) => expect_two(rt, blocks),
-        Body::Heartbeat | Body::End => assert!(rt; false, "no messages"),
+fn is_kind(rt: &impl Abort, body: &Body<'_>, wanted: Contents) -> bool {
+    match (body, wanted) {
+        (Body::Data(blocks), Contents::Messages(messages)) => {
+            expect_messages(rt, blocks, messages);
+            true
+        }
+        (Body::Heartbeat, Contents::Heartbeat) | (Body::End, Contents::End) => true,
+        _ => false,
     }
 }
 
-#[test]
-fn messages_are_lent_in_order(rt: HostRuntime) -> Result<(), Fail> {
-    let packet = decode(TWO_MESSAGES)?;
-    expect_two_messages(&rt, &packet);
-    Ok(())
-}
-
-// The messages after the first one, with their blocks.
-fn expect_second(rt: &impl Abort, blocks: &Blocks<'_>) {
-    let mut rest = blocks.iter_from(1);
-    same_number(rt, u64::from(rest.len()), 1);
-    same_bytes(rt, rest.bytes(), b"\0\0");
-    same_message(rt, 1, rest.next(), Some(b""));
-    assert!(rt;
-        rest.is_empty() && blocks.iter_from(3).is_empty(),
-        "more messages"
-    );
-}
-
-#[test]
-fn packets_of_one_session_are_read(rt: HostRuntime) -> Result<(), Fail> {
-    for bytes in [TWO_MESSAGES, HEARTBEAT] {
-        assert!(rt;
-            decode_plain(&SESSION, bytes) == Some(decode(bytes)?),
-            "{bytes:?}"
-        );
-    }
-    for bytes in [END_1, b"", b"SESSION002\0\0\0\0\0\0\0\x01\0\0"] {
-        assert!(rt; decode_plain(&SESSION, bytes).is_none(), "{bytes:?}");
-    }
-    let packet = decode(TWO_MESSAGES)?;
-    if let Body::Data(blocks) = &packet.body {
-        expect_second(&rt, blocks);
-    }
-    Ok(())
-}
-
-fn expect_compared(rt: &impl Abort, one: &[u8], other: &[u8], same: bool) -> Result<(), Fail> {
-    let one = decode(one)?;
-    let other = decode(other)?;
-    assert!(rt; (one == other) == same, "the same: {same}");
-    Ok(())
-}
-
-fn expect_cloned(rt: &impl Abort, bytes: &[u8]) -> Result<(), Fail> {
+// Fails if the bytes do not encode a packet of the session with these values.
+fn expect_packet(
+    rt: &impl Abort,
+    bytes: &[u8],
+    (sequence, top): (u64, Option<u64>),
+    contents: Contents,
+) -> Result<(), DecodeError> {
     let packet = decode(bytes)?;
-    assert!(rt; packet.clone()? == packet, "another clone");
+    holds(rt, packet.session == SESSION);
+    same_number(rt, packet.sequence, sequence);
+    holds(rt, packet.top() == top);
+    holds(rt, is_kind(rt, &packet.body, contents));
     Ok(())
+}
+
+#[test]
+fn no_allocation_of_packets_that_are_read(rt: HostRuntime) -> Result<(), Fail> {
+    for (bytes, sequence, top, contents) in PACKETS {
+        expect_packet(&rt, bytes, (*sequence, *top), *contents)?;
+    }
+    Ok(())
+}
+
+// The messages of `TWO_MESSAGES` after the first one, with their blocks.
+fn is_second(blocks: &Blocks<'_>) -> bool {
+    let mut rest = blocks.iter_from(1);
+    rest.len() == 1
+        && rest.bytes() == b"\0\0".as_slice()
+        && rest.next() == Some(b"".as_slice())
+        && rest.is_empty()
+        && blocks.iter_from(3).is_empty()
+}
+
+#[test]
+fn messages_are_read_from_the_second_one_on(rt: HostRuntime) -> Result<(), Fail> {
+    let packet = decode(TWO_MESSAGES)?;
+    holds(
+        &rt,
+        matches!(&packet.body, Body::Data(blocks) if is_second(blocks)),
+    );
+    Ok(())
+}
+
+// Bytes, and whether they are a data packet or a heartbeat of the session.
+const PLAIN: &[(&[u8], bool)] = &[
+    (TWO_MESSAGES, true),
+    (HEARTBEAT, true),
+    (END_1, false),
+    (b"", false),
+    (b"SESSION002\0\0\0\0\0\0\0\x01\0\0", false),
+];
+
+fn is_plain(bytes: &[u8]) -> bool {
+    match decode_plain(&SESSION, bytes) {
+        Some(packet) => decode(bytes) == Ok(packet),
+        None => false,
+    }
+}
+
+#[test]
+fn packets_of_one_session_are_read(rt: HostRuntime) {
+    for (i, (bytes, wanted)) in PLAIN.iter().enumerate() {
+        holds_at(&rt, is_plain(bytes) == *wanted, "packet", i);
+    }
 }
 
 // Packets that are compared with `TWO_MESSAGES`, and whether they are the same.
@@ -142,49 +146,41 @@ const COMPARED: &[(&[u8], bool)] = &[
     (HEARTBEAT, false),
 ];
 
+// Whether a clone of one packet is the same as another packet.
+fn are_same(one: &[u8], other: &[u8]) -> Result<bool, DecodeError> {
+    let one = decode(one)?;
+    let other = decode(other)?;
+    let cloned: Result<Packet<'_>, AllocError> = one.clone();
+    Ok(cloned == Ok(other))
+}
+
 #[test]
-fn packets_are_compared_by_value(rt: HostRuntime) -> Result<(), Fail> {
-    for (bytes, same) in COMPARED {
-        expect_compared(&rt, TWO_MESSAGES, bytes, *same)?;
-    }
-    expect_cloned(&rt, TWO_MESSAGES)
-}
-
-fn is_header(bytes: &[u8], sequence: u64, top: Option<u64>) -> bool {
-    match decode(bytes) {
-        Ok(packet) => has_header(&packet, sequence, top),
-        Err(_) => false,
+fn packets_are_compared_by_value(rt: HostRuntime) {
+    for (i, (bytes, same)) in COMPARED.iter().enumerate() {
+        holds_at(&rt, are_same(TWO_MESSAGES, bytes) == Ok(*same), "packet", i);
     }
 }
 
-/// The message with the greatest sequence number has no number after it.
-#[test]
-fn a_top_beyond_64_bits_is_none(rt: HostRuntime) {
-    assert!(rt; is_header(LAST, MAX, None));
-}
+// `TWO_MESSAGES` and one more byte.
+const LONGER_PACKET: &[u8] = b"SESSION001\0\0\0\0\0\0\0\x01\0\x02\0\x02AB\0\0\0";
 
-fn expect_fault(rt: &impl Abort, bytes: &[u8], fault: DecodeError) {
-    let len = bytes.len();
-    assert!(rt; decode(bytes).err() == Some(fault), "{len} bytes");
-}
-
-// The fault of a prefix of `TWO_MESSAGES`.
-fn fault_after(len: usize) -> DecodeError {
+// The fault of a prefix of `LONGER_PACKET`. The header has 20 bytes, and the first block ends at 24.
+fn fault_after(len: usize) -> Option<DecodeError> {
     match len {
-        0..HEADER_END => DecodeError::Short { len },
-        HEADER_END..FIRST_END => DecodeError::BlockCut { index: 0 },
-        _ => DecodeError::BlockCut { index: 1 },
+        0..20 => Some(DecodeError::Short { len }),
+        20..24 => Some(DecodeError::BlockCut { index: 0 }),
+        24..26 => Some(DecodeError::BlockCut { index: 1 }),
+        26 => None,
+        _ => Some(DecodeError::Trailing { at: 26 }),
     }
 }
 
 #[test]
-fn each_front_of_two_messages_has_its_fault(rt: HostRuntime) {
-    for len in 0..TWO_MESSAGES.len() {
-        expect_fault(&rt, &TWO_MESSAGES[..len], fault_after(len));
+fn no_allocation_of_faults(rt: HostRuntime) {
+    for len in 0..28usize {
+        let found = decode(&LONGER_PACKET[..len]).err();
+        holds_at(&rt, found == fault_after(len), "length", len);
     }
-    let longer = b"SESSION001\0\0\0\0\0\0\0\x01\0\x02\0\x02AB\0\0\0";
-    let at = TWO_MESSAGES.len();
-    expect_fault(&rt, longer, DecodeError::Trailing { at });
 }
 
 const LIMITS: &[(usize, Option<PackerError>)] = &[
@@ -198,7 +194,7 @@ const LIMITS: &[(usize, Option<PackerError>)] = &[
 fn limits_of_a_packer(rt: HostRuntime) {
     for (limit, refusal) in LIMITS {
         let found = Packer::new(rt.alloc(), *limit).err();
-        assert!(rt; found == *refusal, "limit {limit}");
+        holds_at(&rt, found == *refusal, "limit", *limit);
     }
 }
 
@@ -217,12 +213,6 @@ enum Step {
     Bytes(&'static [u8]),
 }
 
-fn expect_steps(rt: &impl Abort, packer: &mut Packer, steps: &[Step]) {
-    for (i, step) in steps.iter().enumerate() {
-        assert!(rt; takes(packer, *step), "step {i}");
-    }
-}
-
 fn takes(packer: &mut Packer, step: Step) -> bool {
     match step {
         Step::Start(sequence) => packer.start(SESSION, sequence),
@@ -234,7 +224,8 @@ fn takes(packer: &mut Packer, step: Step) -> bool {
     true
 }
 
-// A header leaves 44 of 64 bytes, and the length of a block 42 of these.
+// In this order: before any packet, a heartbeat, messages up to the limit, and the end. A header leaves 44 of 64 bytes,
+// and the length of a block 42 of these.
 const TABLE: &[Step] = &[
     Step::Bytes(b""),
     Step::Fits(0, false),
@@ -253,14 +244,6 @@ const TABLE: &[Step] = &[
     Step::Bytes(END),
 ];
 
-/// In this order: before any packet, a heartbeat, messages up to the limit, and the end.
-#[test]
-fn the_table_of_the_packer(rt: HostRuntime) -> Result<(), Fail> {
-    let mut packer = Packer::new(rt.alloc(), 64)?;
-    expect_steps(&rt, &mut packer, TABLE);
-    Ok(())
-}
-
 const WRITTEN: &[Step] = &[
     Step::End(1),
     Step::Bytes(END_1),
@@ -274,10 +257,13 @@ const WRITTEN: &[Step] = &[
 ];
 
 #[test]
-fn packets_are_written_as_they_are_read(rt: HostRuntime) -> Result<(), Fail> {
-    let mut packer = Packer::new(rt.alloc(), 1400)?;
-    expect_steps(&rt, &mut packer, WRITTEN);
-    assert!(rt; is_header(packer.bytes(), MAX, None));
+fn no_allocation_of_packets_that_are_written(rt: HostRuntime) -> Result<(), Fail> {
+    for (name, limit, steps) in [("table", 64, TABLE), ("written", 1400, WRITTEN)] {
+        let mut packer = Packer::new(rt.alloc(), limit)?;
+        for (i, step) in steps.iter().enumerate() {
+            holds_at(&rt, takes(&mut packer, *step), name, i);
+        }
+    }
     Ok(())
 }
 
@@ -290,27 +276,20 @@ fn is_request(sequence: u64, count: u16, bytes: &[u8]) -> bool {
     request.encode().as_slice() == bytes && Request::decode(bytes) == Ok(request)
 }
 
-#[test]
-fn requests_are_read_and_written(rt: HostRuntime) {
-    assert!(rt; is_request(1, 2, b"SESSION001\0\0\0\0\0\0\0\x01\0\x02"));
-    assert!(rt; is_request(2, 65535, b"SESSION001\0\0\0\0\0\0\0\x02\xff\xff"));
-}
-
 // A request, followed by 20 bytes.
 const LONGER: [u8; 40] = *b"SESSION001\0\0\0\0\0\0\0\x05\0\x01SESSION001\0\0\0\0\0\0\0\x05\0\x01";
 
-// Whether the bytes are read if they are 20, and are refused otherwise.
-fn has_length_checked(bytes: &[u8]) -> bool {
-    match Request::decode(bytes) {
-        Ok(_) => bytes.len() == 20,
-        Err(RequestError::RequestLength { len }) => len == bytes.len() && len != 20,
-    }
-}
-
 /// Of the prefixes of `LONGER` only the one of 20 bytes is a request.
 #[test]
-fn requests_of_other_lengths_are_refused(rt: HostRuntime) {
+fn no_allocation_of_requests(rt: HostRuntime) {
+    holds(&rt, is_request(1, 2, b"SESSION001\0\0\0\0\0\0\0\x01\0\x02"));
+    holds(
+        &rt,
+        is_request(2, 65535, b"SESSION001\0\0\0\0\0\0\0\x02\xff\xff"),
+    );
     for len in 0..41usize {
-        assert!(rt; has_length_checked(&LONGER[..len]), "{len} bytes");
+        let refused = Err(RequestError::RequestLength { len });
+        let is_refused = Request::decode(&LONGER[..len]) == refused;
+        holds_at(&rt, is_refused == (len != 20), "length", len);
     }
 }
