@@ -1,6 +1,6 @@
 //! The command `dump`.
 
-use crate::comparisons::{same_bytes, same_number, same_outcome};
+use crate::comparisons::{At, same_bytes, same_number, same_outcome};
 use crate::running::{Case, Run, expect_result, expect_whole_or_prefix, sink_of, source_of, whole};
 use mold_commands::{DumpOptions, dump_file};
 use mold_devices::{CommandFault, MemorySink, MemorySource, Sink, Source};
@@ -55,18 +55,17 @@ fn expect_run(rt: &(impl Abort + AllocGlobal), part: (u64, u64), run: &Run<'_>) 
     let mut errors = MemorySink::new(rt.alloc());
     let outcome = dump_file(rt.alloc(), &mut source, options, &mut sink, &mut errors);
     expect_result(rt, run, outcome, &sink, source.failures());
-    same_bytes(rt, errors.bytes(), b"", 0);
+    same_bytes(rt, errors.bytes(), b"", run.at);
 }
 
-// Dumps in calls of at most 100 bytes, and of one byte.
-fn expect_all(rt: &(impl Abort + AllocGlobal), dumps: &[Dump]) {
-    for dump in dumps {
-        let file = dump.file.get(..dump.len).unwrap_or(dump.file);
-        for most in [100, 1] {
-            let run = whole(file, most, dump.text, dump.status);
-            expect_run(rt, dump.part, &run);
-        }
-    }
+// Dumps in calls of at most `most` bytes.
+fn expect(rt: &(impl Abort + AllocGlobal), dump: &Dump, most: usize, at: At) {
+    let case = Case {
+        input: dump.file.get(..dump.len).unwrap_or(dump.file),
+        text: dump.text,
+        status: dump.status,
+    };
+    expect_run(rt, dump.part, &whole(at, &case, most));
 }
 
 const WHOLE_1: Dump = Dump {
@@ -94,11 +93,6 @@ const WHOLE_OPEN_3: Dump = Dump {
     len: OPEN_3.len(),
     ..WHOLE_1
 };
-
-#[test]
-fn journal_cuts_dumped(rt: HostRuntime) {
-    expect_all(&rt, &[WHOLE_2, WHOLE_1, WHOLE_3, WHOLE_OPEN_3]);
-}
 
 // The file of version 1 has 24 bytes. Its first 18 and its first 22 bytes are journals too.
 const CUTS_1: &[Dump] = &[
@@ -150,11 +144,6 @@ const CUTS_1: &[Dump] = &[
     },
 ];
 
-#[test]
-fn each_cut_of_version_1(rt: HostRuntime) {
-    expect_all(&rt, CUTS_1);
-}
-
 const CUTS_2: &[Dump] = &[
     Dump {
         len: 26,
@@ -199,11 +188,6 @@ const CUTS_2: &[Dump] = &[
         ..WHOLE_2
     },
 ];
-
-#[test]
-fn each_cut_of_version_2(rt: HostRuntime) {
-    expect_all(&rt, CUTS_2);
-}
 
 const CUTS_3: &[Dump] = &[
     Dump {
@@ -292,11 +276,6 @@ const CUTS_3: &[Dump] = &[
     },
 ];
 
-#[test]
-fn each_cut_of_version_3(rt: HostRuntime) {
-    expect_all(&rt, CUTS_3);
-}
-
 const OTHER_FILES: &[Dump] = &[
     Dump {
         file: b"MOLDJNL3SESSION001\x01\x02\0",
@@ -317,11 +296,6 @@ const OTHER_FILES: &[Dump] = &[
         ..WHOLE_2
     },
 ];
-
-#[test]
-fn files_that_are_not_journals(rt: HostRuntime) {
-    expect_all(&rt, OTHER_FILES);
-}
 
 const PARTS: &[Dump] = &[
     Dump {
@@ -356,11 +330,6 @@ const PARTS: &[Dump] = &[
     },
 ];
 
-#[test]
-fn a_part_is_dumped(rt: HostRuntime) {
-    expect_all(&rt, PARTS);
-}
-
 // The whole file is checked, whatever part is printed.
 const PARTS_OF_CUTS: &[Dump] = &[
     Dump {
@@ -389,9 +358,25 @@ const PARTS_OF_CUTS: &[Dump] = &[
     },
 ];
 
+/// Files and parts of files. The example `journal-cuts` is the first of them.
+const DUMPS: &[(&str, &[Dump])] = &[
+    ("whole", &[WHOLE_2, WHOLE_1, WHOLE_3, WHOLE_OPEN_3]),
+    ("cuts of version 1", CUTS_1),
+    ("cuts of version 2", CUTS_2),
+    ("cuts of version 3", CUTS_3),
+    ("other files", OTHER_FILES),
+    ("parts", PARTS),
+    ("parts of cuts", PARTS_OF_CUTS),
+];
+
 #[test]
-fn a_part_of_a_file_that_is_not_a_journal(rt: HostRuntime) {
-    expect_all(&rt, PARTS_OF_CUTS);
+fn journals_are_dumped(rt: HostRuntime) {
+    for (group, dumps) in DUMPS {
+        for (i, dump) in dumps.iter().enumerate() {
+            expect(&rt, dump, 100, (*group, i as u64));
+            expect(&rt, dump, 1, (*group, i as u64));
+        }
+    }
 }
 
 // The cut file is read and its text written byte by byte, and a call fails.
@@ -405,11 +390,12 @@ const CUT: Case = Case {
 #[test]
 fn each_read_of_a_dump_that_fails_is_told(rt: HostRuntime) {
     for read in 1..=24u64 {
-        let text = if read < 23 { b"".as_slice() } else { b"4142\n" };
         let run = Run {
             read_fails: read,
             outcome: Err(CommandFault::Read),
-            ..whole(CUT.input, 1, text, 0)
+            text: if read < 23 { b"".as_slice() } else { b"4142\n" },
+            least: if read < 23 { 0 } else { 5 },
+            ..whole(("a failed read", read), &CUT, 1)
         };
         expect_run(&rt, (1, ALL), &run);
     }
@@ -421,7 +407,9 @@ fn each_write_of_a_dump_that_fails_leaves_a_prefix(rt: HostRuntime) {
         let run = Run {
             write_fails: k as u64,
             outcome: Err(CommandFault::Write),
-            ..whole(CUT.input, 1, &CUT.text[..k - 1], 0)
+            text: &CUT.text[..k - 1],
+            least: k - 1,
+            ..whole(("a failed write", k as u64), &CUT, 1)
         };
         expect_run(&rt, (1, ALL), &run);
     }
@@ -438,24 +426,21 @@ fn expect_once(rt: &(impl Abort + AllocGlobal), case: &Case) -> Result<u8, Comma
     outcome
 }
 
-// Dumps once more if an allocation failed.
-fn expect_again(rt: &(impl Abort + AllocGlobal), case: &Case) -> Result<(), Fail> {
-    if expect_once(rt, case).is_err() {
-        expect_once(rt, case)?;
-    }
-    Ok(())
-}
-
 const WHOLE: Case = Case {
     input: FILE_2,
     text: LINES,
     status: 0,
 };
 
+// Dumps once more if an allocation failed.
 #[test]
 fn out_of_memory_dumps_a_prefix(rt: HostRuntime) -> Result<(), Fail> {
-    expect_again(&rt, &WHOLE)?;
-    expect_again(&rt, &CUT)
+    for case in &[WHOLE, CUT] {
+        if expect_once(&rt, case).is_err() {
+            expect_once(&rt, case)?;
+        }
+    }
+    Ok(())
 }
 
 // A file dumped as blocks: the part, what is printed on standard output and on standard error, and the status.
@@ -607,15 +592,16 @@ const BLOCKS: &[Blocks] = &[
 
 #[test]
 fn blocks_dumped(rt: HostRuntime) {
-    for dump in BLOCKS {
+    for (i, dump) in BLOCKS.iter().enumerate() {
+        let at = ("blocks", i as u64);
         let mut source = MemorySource::new(dump.file);
         let mut sink = MemorySink::new(rt.alloc());
         let mut errors = MemorySink::new(rt.alloc());
         let options = options_of(dump.part, dump.format);
         let outcome = dump_file(rt.alloc(), &mut source, options, &mut sink, &mut errors);
-        same_outcome(&rt, outcome, Ok(dump.status), 0);
-        same_bytes(&rt, sink.bytes(), dump.text, 0);
-        same_bytes(&rt, errors.bytes(), dump.errors, 0);
+        same_outcome(&rt, outcome, Ok(dump.status), at);
+        same_bytes(&rt, sink.bytes(), dump.text, at);
+        same_bytes(&rt, errors.bytes(), dump.errors, at);
     }
 }
 
@@ -628,8 +614,8 @@ fn a_refusal_that_cannot_be_written(rt: HostRuntime) {
     errors.fail_at(1);
     let options = options_of((1, ALL), MessageFormat::Blocks);
     let outcome = dump_file(rt.alloc(), &mut source, options, &mut sink, &mut errors);
-    same_outcome(&rt, outcome, Err(CommandFault::Write), 0);
-    same_bytes(&rt, sink.bytes(), b"\0\x02AB", 0);
-    same_bytes(&rt, errors.bytes(), b"", 0);
-    same_number(&rt, errors.failures(), 1, 0);
+    same_outcome(&rt, outcome, Err(CommandFault::Write), ("errors", 0));
+    same_bytes(&rt, sink.bytes(), b"\0\x02AB", ("errors", 0));
+    same_bytes(&rt, errors.bytes(), b"", ("errors", 0));
+    same_number(&rt, errors.failures(), 1, ("errors", 0));
 }

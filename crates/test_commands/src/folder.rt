@@ -51,8 +51,8 @@ fn expect(
     let folder = folder.to_str().ok_or("no text")?;
     let mut sink = MemorySink::new(rt.alloc());
     let outcome = check_folder(rt, folder, &mut sink);
-    same_outcome(rt, outcome, wanted, at);
-    same_bytes(rt, sink.bytes(), text, at);
+    same_outcome(rt, outcome, wanted, ("folder", at));
+    same_bytes(rt, sink.bytes(), text, ("folder", at));
     Ok(())
 }
 

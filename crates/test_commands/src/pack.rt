@@ -4,36 +4,23 @@ ghost use Rattle.std.specs.Prelude.{IfOk};
 ghost use Rattle.mold_commands.specs.Command.{IsStreamed};
 
 use crate::orders::Command;
-use crate::running::{
-    Case, expect_again, expect_cases, expect_failed_reads, expect_failed_writes, expect_order,
-    expect_second_read_fails, whole,
-};
+use crate::running::{Case, Cases, expect_order, whole};
 use mold_words::{Order, read_words};
 use std::alloc::Global;
 use std::process::Abort;
 use std::test::Fail;
 
-const TWO_AND_END: Case = Case {
+pub const TWO_AND_END: Case = Case {
     input: b"4142\n\n",
     text: b"53455353494f4e30303100000000000000010002000241420000\n53455353494f4e3030310000000000000003ffff\n",
     status: 0,
 };
-
-#[test]
-fn pack_two_messages(rt: HostRuntime) {
-    expect_cases(&rt, Command::Pack, &[TWO_AND_END]);
-}
 
 const END_ALONE: Case = Case {
     input: b"",
     text: b"53455353494f4e3030310000000000000001ffff\n",
     status: 0,
 };
-
-#[test]
-fn pack_empty_input(rt: HostRuntime) {
-    expect_cases(&rt, Command::Pack, &[END_ALONE]);
-}
 
 fn push_arguments(alloc: Global, arguments: &mut Vec<String>, line: &str) -> Result<(), Fail> {
     for argument in line.split_whitespace() {
@@ -52,11 +39,16 @@ fn pack_order(alloc: Global, arguments: &[String]) -> Result<Order, Fail>
     Ok(Order::Pack(order))
 }
 
+const PADDED: Case = Case {
+    input: b"",
+    text: b"4d4b54202020202020200000000000000001ffff\n",
+    status: 0,
+};
+
 fn expect_padded(rt: &(impl Abort + AllocGlobal), arguments: &[String]) -> Result<(), Fail> {
     let order = pack_order(rt.alloc(), arguments)?;
-    let text = b"4d4b54202020202020200000000000000001ffff\n";
     for most in [65536, 1] {
-        expect_order(rt, &order, &whole(b"", most, text, 0));
+        expect_order(rt, &order, &whole(("session-padded", 0), &PADDED, most));
     }
     Ok(())
 }
@@ -81,13 +73,8 @@ const REFUSED_LINES: &[Case] = &[
     },
 ];
 
-#[test]
-fn a_refused_line_leaves_out_the_last_packet(rt: HostRuntime) {
-    expect_cases(&rt, Command::Pack, REFUSED_LINES);
-}
-
 // Messages of 20, 20 and 21 bytes, whose lines have 125 bytes, and one of 43, which is too long.
-const FOUR: Case = Case {
+pub const FOUR: Case = Case {
     input: b"0101010101010101010101010101010101010101\n\
     0202020202020202020202020202020202020202\n\
     030303030303030303030303030303030303030303\n\
@@ -97,11 +84,6 @@ const FOUR: Case = Case {
     refused line 4 TooLong 43\n",
     status: 2,
 };
-
-#[test]
-fn packets_before_a_refused_line_stay(rt: HostRuntime) {
-    expect_cases(&rt, Command::Pack, &[FOUR]);
-}
 
 // The first three, and after them an empty message.
 const THREE_AND_EMPTY: Case = Case {
@@ -116,34 +98,19 @@ const THREE_AND_EMPTY: Case = Case {
     status: 0,
 };
 
-#[test]
-fn each_packet_is_the_longest_prefix(rt: HostRuntime) {
-    expect_cases(&rt, Command::Pack, &[THREE_AND_EMPTY]);
-}
+/// The first read gives three lines, and the second one fails. The first packet is printed, because the publisher is
+/// full.
+pub const FIRST_OF_FOUR: Case = Case {
+    text: b"53455353494f4e3030310000000000000001000200140101010101010101010101010101010101010101\
+    00140202020202020202020202020202020202020202\n",
+    ..THREE_AND_EMPTY
+};
 
-const FIRST_OF_FOUR: &[u8] =
-    b"53455353494f4e3030310000000000000001000200140101010101010101010101010101010101010101\
-    00140202020202020202020202020202020202020202\n";
-
-#[test]
-fn a_packet_is_printed_once_the_publisher_is_full(rt: HostRuntime) {
-    // The read that fails follows the third line.
-    let input = THREE_AND_EMPTY.input;
-    expect_second_read_fails(&rt, Command::Pack, input, 125, FIRST_OF_FOUR);
-}
-
-#[test]
-fn each_read_that_fails_leaves_a_prefix_of_the_packets(rt: HostRuntime) {
-    // Each of the 212 bytes is a read. The refused line ends the command before it reads on.
-    expect_failed_reads(&rt, Command::Pack, &FOUR, 212);
-}
-
-#[test]
-fn each_write_that_fails_leaves_a_prefix_of_the_packets(rt: HostRuntime) {
-    expect_failed_writes(&rt, Command::Pack, &TWO_AND_END);
-}
-
-#[test]
-fn out_of_memory_packs_a_prefix(rt: HostRuntime) -> Result<(), Fail> {
-    expect_again(&rt, Command::Pack, &TWO_AND_END)
-}
+/// Cases of `pack`, by their names.
+pub const CASES: Cases = &[
+    ("pack-two-messages", Command::Pack, &[TWO_AND_END]),
+    ("pack-empty-input", Command::Pack, &[END_ALONE]),
+    ("refused lines", Command::Pack, REFUSED_LINES),
+    ("packets before a refused line", Command::Pack, &[FOUR]),
+    ("longest prefixes", Command::Pack, &[THREE_AND_EMPTY]),
+];

@@ -1,6 +1,6 @@
 //! The command `pack --journal`.
 
-use crate::comparisons::{same_bytes, same_outcome};
+use crate::comparisons::{At, same_bytes, same_outcome};
 use mold_commands::run_pack_journal;
 use mold_devices::{CommandFault, MemorySink, MemorySource};
 use mold_input::MessageFormat;
@@ -59,20 +59,13 @@ fn pack(
 }
 
 // Packs the input, and compares the journal, the text and the outcome.
-fn expect(rt: &(impl Abort + AllocGlobal), case: &Case) {
+fn expect(rt: &(impl Abort + AllocGlobal), case: &Case, at: At) {
     let mut journal = new_sink(rt, case.most, case.save_fails);
     let mut sink = new_sink(rt, case.most, case.write_fails);
     let outcome = pack(rt, case, &mut journal, &mut sink);
-    let at = case.read_fails.max(case.save_fails.max(case.write_fails));
     same_outcome(rt, outcome, case.outcome, at);
     same_bytes(rt, journal.bytes(), case.journal, at);
     same_bytes(rt, sink.bytes(), case.text, at);
-}
-
-fn expect_all(rt: &(impl Abort + AllocGlobal), cases: &[Case]) {
-    for case in cases {
-        expect(rt, case);
-    }
 }
 
 // `AB` and a message without bytes.
@@ -110,11 +103,6 @@ const JOURNALS: &[Case] = &[
     },
 ];
 
-#[test]
-fn journals_packed(rt: HostRuntime) {
-    expect_all(&rt, JOURNALS);
-}
-
 // A write of the journal would fail.
 const REFUSED: Case = Case {
     save_fails: 1,
@@ -149,62 +137,56 @@ const REFUSALS: &[Case] = &[
 ];
 
 #[test]
-fn inputs_that_are_not_packed(rt: HostRuntime) {
-    expect_all(&rt, REFUSALS);
+fn inputs_are_packed_or_refused(rt: HostRuntime) {
+    for (group, cases) in [("journals", JOURNALS), ("refusals", REFUSALS)] {
+        for (i, case) in cases.iter().enumerate() {
+            expect(&rt, case, (group, i as u64));
+        }
+    }
 }
 
 const BY_BYTES: Case = Case { most: 1, ..TWO };
 
-fn expect_failed_read(rt: &(impl Abort + AllocGlobal), call: u64) {
-    expect(
-        rt,
-        &Case {
+// Each of the 6 bytes is a read, and so is the end.
+#[test]
+fn each_read_for_a_journal_that_fails_is_reported(rt: HostRuntime) {
+    expect(&rt, &BY_BYTES, ("by bytes", 0));
+    for call in 1..=7u64 {
+        let case = Case {
             read_fails: call,
             outcome: Err(CommandFault::Read),
             journal: b"",
             text: b"",
             ..BY_BYTES
-        },
-    );
-}
-
-// Each of the 6 bytes is a read, and so is the end.
-#[test]
-fn each_read_for_a_journal_that_fails_is_reported(rt: HostRuntime) {
-    expect(&rt, &BY_BYTES);
-    for call in 1..=7u64 {
-        expect_failed_read(&rt, call);
+        };
+        expect(&rt, &case, ("a failed read", call));
     }
-}
-
-fn expect_failed_save(rt: &(impl Abort + AllocGlobal), call: usize) {
-    let mut failing = BY_BYTES;
-    failing.save_fails = call as u64;
-    failing.outcome = Err(CommandFault::Write);
-    failing.journal = TWO.journal.get(..call.saturating_sub(1)).unwrap_or(b"");
-    failing.text = b"";
-    expect(rt, &failing);
 }
 
 #[test]
 fn each_write_of_a_packed_journal_that_fails_leaves_a_prefix(rt: HostRuntime) {
     for call in 1..=TWO.journal.len() {
-        expect_failed_save(&rt, call);
+        let case = Case {
+            save_fails: call as u64,
+            outcome: Err(CommandFault::Write),
+            journal: &TWO.journal[..call - 1],
+            text: b"",
+            ..BY_BYTES
+        };
+        expect(&rt, &case, ("a failed write of the journal", call as u64));
     }
-}
-
-fn expect_failed_write(rt: &(impl Abort + AllocGlobal), call: usize) {
-    let mut failing = BY_BYTES;
-    failing.write_fails = call as u64;
-    failing.outcome = Err(CommandFault::Write);
-    failing.text = TWO.text.get(..call.saturating_sub(1)).unwrap_or(b"");
-    expect(rt, &failing);
 }
 
 #[test]
 fn each_write_of_the_last_line_that_fails_leaves_the_journal(rt: HostRuntime) {
     for call in 1..=TWO.text.len() {
-        expect_failed_write(&rt, call);
+        let case = Case {
+            write_fails: call as u64,
+            outcome: Err(CommandFault::Write),
+            text: &TWO.text[..call - 1],
+            ..BY_BYTES
+        };
+        expect(&rt, &case, ("a failed write of the line", call as u64));
     }
 }
 
@@ -214,7 +196,7 @@ fn pack_once(rt: &(impl Abort + AllocGlobal)) -> Result<u8, CommandFault> {
     let mut sink = new_sink(rt, 0, 0);
     let outcome = pack(rt, &TWO, &mut journal, &mut sink);
     if outcome.is_err() {
-        same_bytes(rt, sink.bytes(), b"", 0);
+        same_bytes(rt, sink.bytes(), b"", ("out of memory", 0));
     }
     outcome
 }

@@ -3,14 +3,15 @@
 
 ghost use Rattle.mold_commands.specs.Command.{IsStreamed};
 
-use crate::comparisons::{begins_with, same_bytes, same_number, same_outcome};
+use crate::comparisons::{At, begins_with, same_bytes, same_number, same_outcome};
 use crate::orders::{Command, order_of};
 use mold_commands::run_command;
 use mold_devices::{CommandFault, MemorySink, MemorySource, Sink, Source};
 use mold_words::Order;
 use std::alloc::Global;
 use std::process::Abort;
-use std::test::Fail;
+
+const MEMORY: At = ("out of memory", 0);
 
 /// An input, and what a command prints and returns for it.
 #[derive(Clone, Copy)]
@@ -20,9 +21,13 @@ pub struct Case {
     pub status: u8,
 }
 
+/// Groups of cases, each with its command.
+pub type Cases = &'static [(&'static str, Command, &'static [Case])];
+
 /// One run of a command: its devices, and its result.
 #[derive(Clone, Copy)]
 pub struct Run<'a> {
+    pub at: At,
     pub input: &'a [u8],
     /// The most bytes of a read and of a write. If it is 0, there is no limit.
     pub most: usize,
@@ -36,15 +41,16 @@ pub struct Run<'a> {
 }
 
 /// The run of a case without failures, with calls of at most this many bytes.
-pub fn whole<'a>(input: &'a [u8], most: usize, text: &'a [u8], status: u8) -> Run<'a> {
+pub fn whole(at: At, case: &Case, most: usize) -> Run<'static> {
     Run {
-        input,
+        at,
+        input: case.input,
         most,
         read_fails: 0,
         write_fails: 0,
-        outcome: Ok(status),
-        text,
-        least: text.len(),
+        outcome: Ok(case.status),
+        text: case.text,
+        least: case.text.len(),
     }
 }
 
@@ -76,7 +82,7 @@ pub fn expect_result(
     sink: &MemorySink,
     read_failures: u64,
 ) {
-    let at = run.read_fails.max(run.write_fails);
+    let at = run.at;
     begins_with(rt, run.text, sink.bytes(), at);
     let least = run.least.max(sink.bytes().len()) as u64;
     same_number(rt, sink.bytes().len() as u64, least, at);
@@ -101,75 +107,8 @@ pub fn expect_run(rt: &(impl Abort + AllocGlobal), command: Command, run: &Run<'
     expect_order(rt, &order, run);
 }
 
-/// Runs each case in large pieces and one byte a call.
-pub fn expect_cases(rt: &(impl Abort + AllocGlobal), command: Command, cases: &[Case]) {
-    for case in cases {
-        for most in [65536, 1] {
-            let run = whole(case.input, most, case.text, case.status);
-            expect_run(rt, command, &run);
-        }
-    }
-}
-
-/// Each of the first `calls` reads, of one byte, fails in turn. A prefix of the text is written.
-pub fn expect_failed_reads(
-    rt: &(impl Abort + AllocGlobal),
-    command: Command,
-    case: &Case,
-    calls: u64,
-) {
-    for call in 1..=calls {
-        let run = Run {
-            read_fails: call,
-            outcome: Err(CommandFault::Read),
-            least: 0,
-            ..whole(case.input, 1, case.text, 0)
-        };
-        expect_run(rt, command, &run);
-    }
-}
-
-/// Each write, of one byte, fails in turn. What was written before it stays.
-pub fn expect_failed_writes(rt: &(impl Abort + AllocGlobal), command: Command, case: &Case) {
-    for call in 1..=case.text.len() {
-        let run = Run {
-            write_fails: call as u64,
-            outcome: Err(CommandFault::Write),
-            ..whole(case.input, 1, &case.text[..call - 1], 0)
-        };
-        expect_run(rt, command, &run);
-    }
-}
-
-/// The second read fails, after this many bytes. This was written.
-pub fn expect_second_read_fails(
-    rt: &(impl Abort + AllocGlobal),
-    command: Command,
-    input: &[u8],
-    most: usize,
-    text: &[u8],
-) {
-    let run = Run {
-        read_fails: 2,
-        outcome: Err(CommandFault::Read),
-        ..whole(input, most, text, 0)
-    };
-    expect_run(rt, command, &run);
-}
-
-/// Runs a case once more if an allocation failed.
-pub fn expect_again(
-    rt: &(impl Abort + AllocGlobal),
-    command: Command,
-    case: &Case,
-) -> Result<(), Fail> {
-    if expect_once(rt, command, case).is_err() {
-        expect_once(rt, command, case)?;
-    }
-    Ok(())
-}
-
-fn expect_once(
+/// Runs a case. If an allocation fails, a prefix of the text is written.
+pub fn expect_once(
     rt: &(impl Abort + AllocGlobal),
     command: Command,
     case: &Case,
@@ -200,11 +139,11 @@ pub fn expect_whole_or_prefix(
     case: &Case,
 ) {
     if outcome.is_ok() {
-        same_outcome(rt, outcome, Ok(case.status), 0);
-        same_bytes(rt, sink.bytes(), case.text, 0);
+        same_outcome(rt, outcome, Ok(case.status), MEMORY);
+        same_bytes(rt, sink.bytes(), case.text, MEMORY);
     } else {
-        same_outcome(rt, outcome, Err(fault_of(sink)), 0);
-        begins_with(rt, case.text, sink.bytes(), 0);
+        same_outcome(rt, outcome, Err(fault_of(sink)), MEMORY);
+        begins_with(rt, case.text, sink.bytes(), MEMORY);
     }
 }
 

@@ -4,14 +4,11 @@ ghost use Rattle.mold_commands.specs.Command.{IsStreamed};
 
 use crate::comparisons::{same_number, same_outcome};
 use crate::orders::{Command, order_of};
-use crate::running::{
-    Case, Run, expect_again, expect_cases, expect_failed_reads, expect_failed_writes, expect_run,
-    expect_second_read_fails, whole,
-};
+use crate::running::{Case, Cases, Run, expect_run, whole};
 use mold_commands::run_command;
 use mold_devices::{CommandFault, IntoWrite, MemorySource};
 use mold_words::Order;
-use std::alloc::{AllocError, Global};
+use std::alloc::Global;
 use std::io;
 use std::io::Write;
 use std::process::Abort;
@@ -23,32 +20,17 @@ const LEAST: Case = Case {
     status: 0,
 };
 
-#[test]
-fn least_packet(rt: HostRuntime) {
-    expect_cases(&rt, Command::Show, &[LEAST]);
-}
-
-const TWO: Case = Case {
+pub const TWO: Case = Case {
     input: b"53455353494f4e30303100000000000000010002000241420000\n",
     text: b"data 53455353494f4e303031 1 2\n  1 2 4142\n  2 0 -\n",
     status: 0,
 };
-
-#[test]
-fn two_messages(rt: HostRuntime) {
-    expect_cases(&rt, Command::Show, &[TWO]);
-}
 
 const TRAILING: Case = Case {
     input: b"53455353494f4e3030310000000000000003ffff00\n",
     text: b"refused Trailing 20\n",
     status: 2,
 };
-
-#[test]
-fn trailing_byte(rt: HostRuntime) {
-    expect_cases(&rt, Command::Show, &[TRAILING]);
-}
 
 const CUT: &[Case] = &[
     Case {
@@ -63,21 +45,11 @@ const CUT: &[Case] = &[
     },
 ];
 
-#[test]
-fn block_cut(rt: HostRuntime) {
-    expect_cases(&rt, Command::Show, CUT);
-}
-
 const PAST_64_BITS: Case = Case {
     input: b"53455353494f4e303031ffffffffffffffff0002000141000142\n",
     text: b"data 53455353494f4e303031 18446744073709551615 2\n  18446744073709551615 1 41\n  18446744073709551616 1 42\n",
     status: 0,
 };
-
-#[test]
-fn show_past_64_bits(rt: HostRuntime) {
-    expect_cases(&rt, Command::Show, &[PAST_64_BITS]);
-}
 
 // The second one requests 65,535 messages: no count of a request is special.
 const REQUESTS: &[Case] = &[
@@ -103,11 +75,6 @@ const REQUESTS: &[Case] = &[
     },
 ];
 
-#[test]
-fn requests_are_shown(rt: HostRuntime) {
-    expect_cases(&rt, Command::ShowRequests, REQUESTS);
-}
-
 // An odd number of digits, a byte that is not a digit, a carriage return, bytes that are not UTF-8, a dash; then an
 // empty line, a digit in upper case, and a last line without an end.
 const BAD_LINES: Case = Case {
@@ -117,11 +84,6 @@ const BAD_LINES: Case = Case {
         heartbeat 53455353494f4e303031 1\nrefused Short 1\n",
     status: 2,
 };
-
-#[test]
-fn bad_lines_are_refused_and_the_rest_is_shown(rt: HostRuntime) {
-    expect_cases(&rt, Command::Show, &[BAD_LINES]);
-}
 
 const WITHOUT_PACKETS: &[Case] = &[
     Case {
@@ -136,43 +98,50 @@ const WITHOUT_PACKETS: &[Case] = &[
     },
 ];
 
-#[test]
-fn empty_lines_print_nothing(rt: HostRuntime) {
-    expect_cases(&rt, Command::Show, WITHOUT_PACKETS);
-}
+/// Cases of `show`, by their names.
+pub const CASES: Cases = &[
+    ("least-packet", Command::Show, &[LEAST]),
+    ("two-messages", Command::Show, &[TWO]),
+    ("trailing-byte", Command::Show, &[TRAILING]),
+    ("block-cut", Command::Show, CUT),
+    ("show-past-64-bits", Command::Show, &[PAST_64_BITS]),
+    ("requests", Command::ShowRequests, REQUESTS),
+    ("bad lines", Command::Show, &[BAD_LINES]),
+    ("no packets", Command::Show, WITHOUT_PACKETS),
+];
 
 // A million digits as one line, and a packet after it.
 fn long_line(alloc: Global) -> Result<Vec<u8>, Fail> {
     let mut input = vec![in alloc; b'0'; 1_000_000]?;
-    push_packet(&mut input)?;
-    Ok(input)
-}
-
-fn push_packet(input: &mut Vec<u8>) -> Result<(), AllocError> {
     input.push(b'\n')?;
-    input.extend_from_slice(LEAST.input)
+    input.extend_from_slice(LEAST.input)?;
+    Ok(input)
 }
 
 #[test]
 fn a_line_may_be_longer_than_any_read(rt: HostRuntime) -> Result<(), Fail> {
     let input = long_line(rt.alloc())?;
     let text = b"refused Trailing 20\nheartbeat 53455353494f4e303031 1\n";
-    expect_run(&rt, Command::Show, &whole(input.as_slice(), 65536, text, 2));
+    let run = Run {
+        at: ("a long line", 0),
+        input: input.as_slice(),
+        most: 65536,
+        read_fails: 0,
+        write_fails: 0,
+        outcome: Ok(2),
+        text,
+        least: text.len(),
+    };
+    expect_run(&rt, Command::Show, &run);
     Ok(())
 }
 
-#[test]
-fn each_read_that_fails_leaves_a_prefix(rt: HostRuntime) {
-    expect_failed_reads(&rt, Command::Show, &TWO, 54);
-}
-
-const TWO_AND_LEAST: &[u8] =
-    b"53455353494f4e30303100000000000000010002000241420000\n53455353494f4e30303100000000000000010000\n";
-
-#[test]
-fn a_failed_read_loses_no_line_before_it(rt: HostRuntime) {
-    expect_second_read_fails(&rt, Command::Show, TWO_AND_LEAST, TWO.input.len(), TWO.text);
-}
+/// The first read gives the first line, and the second one fails.
+pub const TWO_AND_LEAST: Case = Case {
+    input: b"53455353494f4e30303100000000000000010002000241420000\n\
+        53455353494f4e30303100000000000000010000\n",
+    ..TWO
+};
 
 // The second read and then the first write fail.
 #[test]
@@ -181,7 +150,9 @@ fn a_write_that_fails_after_a_failed_read_is_told(rt: HostRuntime) {
         read_fails: 2,
         write_fails: 1,
         outcome: Err(CommandFault::Write),
-        ..whole(TWO.input, TWO.input.len(), b"", 0)
+        text: b"",
+        least: 0,
+        ..whole(("both fail", 0), &TWO, TWO.input.len())
     };
     expect_run(&rt, Command::Show, &run);
 }
@@ -219,8 +190,8 @@ fn expect_writes(rt: &(impl Abort + AllocGlobal), order: &Order, input: &[u8], c
     let mut source = MemorySource::new(input);
     let mut sink = IntoWrite::new(Counting { calls: 0 });
     let outcome = run_command(rt.alloc(), order, &mut source, &mut sink);
-    same_outcome(rt, outcome, Ok(0), 0);
-    same_number(rt, sink.into_inner().calls, calls, 0);
+    same_outcome(rt, outcome, Ok(0), ("writes", 0));
+    same_number(rt, sink.into_inner().calls, calls, ("writes", 0));
 }
 
 fn expect_shown(rt: &(impl Abort + AllocGlobal), input: &[u8], calls: u64) {
@@ -234,14 +205,4 @@ fn output_goes_out_in_large_pieces(rt: HostRuntime) -> Result<(), Fail> {
     // Each line prints 33 bytes, and 1,986 lines are the first with 65,536 bytes or more.
     expect_shown(&rt, input.as_slice(), 10_000 / 1_986 + 1);
     Ok(())
-}
-
-#[test]
-fn each_write_that_fails_leaves_a_prefix(rt: HostRuntime) {
-    expect_failed_writes(&rt, Command::Show, &TWO);
-}
-
-#[test]
-fn out_of_memory_shows_a_prefix(rt: HostRuntime) -> Result<(), Fail> {
-    expect_again(&rt, Command::Show, &TWO)
 }

@@ -1,10 +1,8 @@
-//! The command `sim`.
+//! The command `sim`: the example `sim-two-receivers`.
 
-use crate::orders::Command;
-use crate::running::{Case, expect_again, expect_cases, expect_failed_reads, expect_failed_writes};
-use std::test::Fail;
+use crate::running::Case;
 
-const SCRIPT: Case = Case {
+pub const SCRIPT: Case = Case {
     input: b"publish 41
 datagram
 publish 42
@@ -43,24 +41,3 @@ receiver 1 next 1 known 1 book 0 open
 ",
     status: 2,
 };
-
-#[test]
-fn sim_two_receivers(rt: HostRuntime) {
-    expect_cases(&rt, Command::Sim, &[SCRIPT]);
-}
-
-#[test]
-fn each_read_that_fails_leaves_a_prefix_of_the_script(rt: HostRuntime) {
-    // Each of the 214 bytes is a read, and so is the end.
-    expect_failed_reads(&rt, Command::Sim, &SCRIPT, 215);
-}
-
-#[test]
-fn each_write_that_fails_leaves_a_prefix_of_the_script(rt: HostRuntime) {
-    expect_failed_writes(&rt, Command::Sim, &SCRIPT);
-}
-
-#[test]
-fn out_of_memory_runs_a_prefix(rt: HostRuntime) -> Result<(), Fail> {
-    expect_again(&rt, Command::Sim, &SCRIPT)
-}

@@ -1,6 +1,6 @@
 //! The command `upgrade`.
 
-use crate::comparisons::{same_bytes, same_outcome};
+use crate::comparisons::{At, same_bytes, same_outcome};
 use mold_commands::run_upgrade;
 use mold_devices::{CommandFault, MemorySink, MemorySource};
 use std::process::Abort;
@@ -56,20 +56,13 @@ fn upgrade(
 }
 
 // Upgrades the file, and compares the new one, the text and the outcome.
-fn expect(rt: &(impl Abort + AllocGlobal), case: &Case) {
+fn expect(rt: &(impl Abort + AllocGlobal), case: &Case, at: At) {
     let mut journal = new_sink(rt, case.most, case.save_fails);
     let mut sink = new_sink(rt, case.most, case.write_fails);
     let outcome = upgrade(rt, case, &mut journal, &mut sink);
-    let at = case.read_fails.max(case.save_fails.max(case.write_fails));
     same_outcome(rt, outcome, case.outcome, at);
     same_bytes(rt, journal.bytes(), case.journal, at);
     same_bytes(rt, sink.bytes(), case.text, at);
-}
-
-fn expect_all(rt: &(impl Abort + AllocGlobal), cases: &[Case]) {
-    for case in cases {
-        expect(rt, case);
-    }
 }
 
 const CLOSED: Case = Case {
@@ -111,11 +104,6 @@ const UPGRADES: &[Case] = &[
     },
 ];
 
-#[test]
-fn journal_cuts_upgraded(rt: HostRuntime) {
-    expect_all(&rt, UPGRADES);
-}
-
 const REFUSED: Case = Case {
     outcome: Ok(2),
     journal: b"",
@@ -155,9 +143,14 @@ const REFUSALS: &[Case] = &[
     },
 ];
 
+/// The example `journal-cuts`, and files that are refused.
 #[test]
-fn files_that_are_not_upgraded(rt: HostRuntime) {
-    expect_all(&rt, REFUSALS);
+fn files_are_upgraded_or_refused(rt: HostRuntime) {
+    for (group, cases) in [("upgrades", UPGRADES), ("refusals", REFUSALS)] {
+        for (i, case) in cases.iter().enumerate() {
+            expect(&rt, case, (group, i as u64));
+        }
+    }
 }
 
 const BY_BYTES: Case = Case { most: 1, ..CLOSED };
@@ -169,59 +162,50 @@ const FAILED_READ: Case = Case {
     ..BY_BYTES
 };
 
-fn expect_failed_read(rt: &(impl Abort + AllocGlobal), case: &Case, call: u64) {
-    let mut failing = *case;
-    failing.read_fails = call;
-    expect(rt, &failing);
-}
-
-// Each of the 24 bytes is a read, and so is the end.
-#[test]
-fn each_read_of_an_upgrade_that_fails_is_reported(rt: HostRuntime) {
-    expect(&rt, &BY_BYTES);
-    for call in 1..=25u64 {
-        expect_failed_read(&rt, &FAILED_READ, call);
-    }
-}
-
 const FAILED_SAVE: Case = Case {
     outcome: Err(CommandFault::Write),
     text: b"",
     ..BY_BYTES
 };
 
-fn expect_failed_save(rt: &(impl Abort + AllocGlobal), case: &Case, call: usize) {
-    let mut failing = *case;
-    failing.save_fails = call as u64;
-    failing.journal = case
-        .journal
-        .get(..call.saturating_sub(1))
-        .unwrap_or(case.journal);
-    expect(rt, &failing);
-}
-
-#[test]
-fn each_write_of_a_journal_that_fails_leaves_a_prefix(rt: HostRuntime) {
-    for call in 1..=FAILED_SAVE.journal.len() {
-        expect_failed_save(&rt, &FAILED_SAVE, call);
-    }
-}
-
 const FAILED_WRITE: Case = Case {
     outcome: Err(CommandFault::Write),
     ..BY_BYTES
 };
 
-fn expect_failed_write(rt: &(impl Abort + AllocGlobal), case: &Case, call: usize) {
-    let mut failing = *case;
-    failing.write_fails = call as u64;
-    failing.text = case.text.get(..call.saturating_sub(1)).unwrap_or(case.text);
-    expect(rt, &failing);
+// Each of the 24 bytes is a read, and so is the end.
+#[test]
+fn each_read_of_an_upgrade_that_fails_is_reported(rt: HostRuntime) {
+    expect(&rt, &BY_BYTES, ("by bytes", 0));
+    for call in 1..=25u64 {
+        let case = Case {
+            read_fails: call,
+            ..FAILED_READ
+        };
+        expect(&rt, &case, ("a failed read", call));
+    }
+}
+
+#[test]
+fn each_write_of_a_journal_that_fails_leaves_a_prefix(rt: HostRuntime) {
+    for call in 1..=CLOSED.journal.len() {
+        let case = Case {
+            save_fails: call as u64,
+            journal: &CLOSED.journal[..call - 1],
+            ..FAILED_SAVE
+        };
+        expect(&rt, &case, ("a failed write of the journal", call as u64));
+    }
 }
 
 #[test]
 fn each_write_of_a_text_that_fails_leaves_a_prefix(rt: HostRuntime) {
-    for call in 1..=FAILED_WRITE.text.len() {
-        expect_failed_write(&rt, &FAILED_WRITE, call);
+    for call in 1..=CLOSED.text.len() {
+        let case = Case {
+            write_fails: call as u64,
+            text: &CLOSED.text[..call - 1],
+            ..FAILED_WRITE
+        };
+        expect(&rt, &case, ("a failed write of the text", call as u64));
     }
 }
