@@ -2,6 +2,7 @@
 //! `tests/out-of-memory` makes each allocation of the tests for it fail. Expected values are constants, and each kind
 //! of comparison is in one function: the proof of a test grows with the owned values and the comparisons in it.
 
+use crate::comparisons::{holds, holds_at};
 use mold_capture::{Checker, Memory, Range, Refusal, Verdict, check};
 use mold_wire::DecodeError;
 use std::alloc::Global;
@@ -79,25 +80,17 @@ fn is_verdict(found: &Verdict, wanted: Outcome) -> bool {
     }
 }
 
-fn is_refused(found: (usize, Refusal), last: usize, wanted: Outcome) -> bool {
-    match wanted {
-        Outcome::Refused(refusal) => found == (last, refusal),
-        _ => false,
+/// Whether `check` returns this for a list of datagrams.
+fn is_checked(alloc: Global, list: &[&[u8]], wanted: Outcome) -> bool {
+    match (check(alloc, list), wanted) {
+        (Ok(verdict), wanted) => is_verdict(&verdict, wanted),
+        (Err((at, found)), Outcome::Refused(refusal)) => found == refusal && at + 1 == list.len(),
+        (Err(_), _) => false,
     }
 }
 
 /// Lists of datagrams, and what `check` returns for each.
 type Cases = &'static [(&'static [&'static [u8]], Outcome)];
-
-fn expect_outcomes(rt: &impl Abort, alloc: Global, cases: Cases) {
-    for (i, (list, wanted)) in cases.iter().enumerate() {
-        let is_wanted = match check(alloc, list) {
-            Ok(verdict) => is_verdict(&verdict, *wanted),
-            Err(found) => is_refused(found, list.len().saturating_sub(1), *wanted),
-        };
-        assert!(rt; is_wanted, "list {i}");
-    }
-}
 
 /// The example's folders.
 const FOLDERS: Cases = &[
@@ -112,11 +105,6 @@ const FOLDERS: Cases = &[
         Outcome::Refused(Refusal::Conflict { number: 2 }),
     ),
 ];
-
-#[test]
-fn check_folders(rt: HostRuntime) {
-    expect_outcomes(&rt, rt.alloc(), FOLDERS);
-}
 
 const VERDICTS: Cases = &[
     (
@@ -138,11 +126,6 @@ const VERDICTS: Cases = &[
         Outcome::Whole(6),
     ),
 ];
-
-#[test]
-fn gaps_are_reported(rt: HostRuntime) {
-    expect_outcomes(&rt, rt.alloc(), VERDICTS);
-}
 
 /// Lists whose last datagram has several faults: the first in the order of `Refusal` is returned.
 const REFUSALS: Cases = &[
@@ -244,26 +227,26 @@ const REFUSALS: Cases = &[
 ];
 
 #[test]
-fn refusals_of_a_checker_come_in_order(rt: HostRuntime) {
-    expect_outcomes(&rt, rt.alloc(), REFUSALS);
-}
-
-fn same_result(rt: &impl Abort, found: Result<(), Refusal>, wanted: Result<(), Refusal>) {
-    assert!(rt; found == wanted, "another result");
-}
-
-fn expect_verdict(rt: &impl Abort, checker: &Checker, wanted: Outcome) -> Result<(), Memory> {
-    let verdict = checker.verdict()?;
-    assert!(rt; is_verdict(&verdict, wanted), "another verdict");
-    Ok(())
+fn lists_of_datagrams_are_checked(rt: HostRuntime) {
+    for (part, cases) in [
+        ("folders", FOLDERS),
+        ("gaps", VERDICTS),
+        ("refusals", REFUSALS),
+    ] {
+        for (i, (list, wanted)) in cases.iter().enumerate() {
+            holds_at(&rt, is_checked(rt.alloc(), list, *wanted), part, i);
+        }
+    }
 }
 
 /// Compares the verdict. If an allocation fails, it is made again.
 fn verdict_again(rt: &impl Abort, checker: &Checker, wanted: Outcome) -> Result<(), Memory> {
-    match expect_verdict(rt, checker, wanted) {
-        Ok(()) => Ok(()),
-        Err(Memory) => expect_verdict(rt, checker, wanted),
-    }
+    let verdict = match checker.verdict() {
+        Ok(verdict) => verdict,
+        Err(Memory) => checker.verdict()?,
+    };
+    holds(rt, is_verdict(&verdict, wanted));
+    Ok(())
 }
 
 /// Adds a datagram. If an allocation fails, the verdict is as before, and the datagram is added again.
@@ -273,26 +256,16 @@ fn add_again(
     bytes: &[u8],
     before: Outcome,
 ) -> Result<(), Memory> {
-    match checker.add(bytes) {
-        Err(Refusal::Memory) => {
-            verdict_again(rt, checker, before)?;
-            add_or_memory(rt, checker, bytes)
-        }
-        result => {
-            same_result(rt, result, Ok(()));
-            Ok(())
-        }
+    let mut found = checker.add(bytes);
+    if found == Err(Refusal::Memory) {
+        verdict_again(rt, checker, before)?;
+        found = checker.add(bytes);
     }
-}
-
-fn add_or_memory(rt: &impl Abort, checker: &mut Checker, bytes: &[u8]) -> Result<(), Memory> {
-    match checker.add(bytes) {
-        Err(Refusal::Memory) => Err(Memory),
-        result => {
-            same_result(rt, result, Ok(()));
-            Ok(())
-        }
+    if found == Err(Refusal::Memory) {
+        return Err(Memory);
     }
+    holds(rt, found.is_ok());
+    Ok(())
 }
 
 const NOTHING: Outcome = Outcome::Incomplete(&[], None);
@@ -326,24 +299,20 @@ fn out_of_memory_adds_nothing(rt: HostRuntime) -> Result<(), Fail> {
 }
 
 /// `check` of message 2, twice, of four messages that a heartbeat announces.
-fn expect_check(rt: &impl Abort, alloc: Global) -> Result<(), (usize, Refusal)> {
+fn check_two(rt: &impl Abort, alloc: Global) -> Result<(), (usize, Refusal)> {
     let verdict = check(alloc, &[BEAT_5, DATA_2, DATA_2])?;
     let wanted = Outcome::Incomplete(&[(1, 1), (3, 4)], None);
-    assert!(rt; is_verdict(&verdict, wanted), "another verdict");
+    holds(rt, is_verdict(&verdict, wanted));
     Ok(())
-}
-
-fn expect_memory(rt: &impl Abort, index: usize, refusal: Refusal) {
-    same_result(rt, Err(refusal), Err(Refusal::Memory));
-    assert!(rt; index == 1 || index == 3, "refused at {index}");
 }
 
 /// Out of memory is reported at the datagram that brings something new, or after the last one.
 #[test]
 fn out_of_memory_is_reported_by_a_check(rt: HostRuntime) -> Result<(), Fail> {
-    if let Err((index, refusal)) = expect_check(&rt, rt.alloc()) {
-        expect_memory(&rt, index, refusal);
-        expect_check(&rt, rt.alloc())?;
+    if let Err((index, refusal)) = check_two(&rt, rt.alloc()) {
+        holds(&rt, refusal == Refusal::Memory);
+        holds_at(&rt, index == 1 || index == 3, "refused at", index);
+        check_two(&rt, rt.alloc())?;
     }
     Ok(())
 }
@@ -369,8 +338,8 @@ fn expect_results(
     checker: &mut Checker,
     steps: &[(&'static [u8], Result<(), Refusal>)],
 ) {
-    for (datagram, wanted) in steps {
-        same_result(rt, checker.add(datagram), *wanted);
+    for (i, (datagram, wanted)) in steps.iter().enumerate() {
+        holds_at(rt, checker.add(datagram) == *wanted, "datagram", i);
     }
 }
 

@@ -1,20 +1,26 @@
-//! Comparisons that several modules make. Each is in a function of its own, so that its proof is made once.
+//! The assertions of all modules: each costs its proof once.
+
+ghost use Rattle.std.specs.Prelude.{IsTrue};
 
 use std::process::Abort;
 
-pub fn same_number(rt: &impl Abort, found: u64, wanted: u64) {
-    assert!(rt; found == wanted, "{found}, not {wanted}");
+/// Fails if a fact does not hold.
+pub fn holds(rt: &impl Abort, fact: bool)
+    ensures { IsTrue fact }
+{
+    assert!(rt; fact);
 }
 
-pub fn same_truth(rt: &impl Abort, found: bool, wanted: bool) {
-    assert!(rt; found == wanted, "not {wanted}");
-}
-
-pub fn same_bytes(rt: &impl Abort, found: &[u8], wanted: &[u8]) {
-    assert_eq!(rt; found, wanted);
+/// Fails if the case or the step of this index is not as it states.
+pub fn holds_at(rt: &impl Abort, fact: bool, name: &str, at: usize) {
+    assert!(rt; fact, "{name} {at}");
 }
 
 /// Bytes, if there are any to return.
 pub fn same_message(rt: &impl Abort, found: Option<&[u8]>, wanted: Option<&[u8]>) {
-    assert!(rt; found == wanted, "other bytes, or none");
+    holds(rt, found == wanted);
+}
+
+pub fn same_bytes(rt: &impl Abort, found: &[u8], wanted: &[u8]) {
+    holds(rt, found == wanted);
 }

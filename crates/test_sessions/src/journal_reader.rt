@@ -1,180 +1,186 @@
 //! The file of a journal, read message by message.
 
-use crate::comparisons::{same_bytes, same_number, same_truth};
-use crate::journal_file::{CLOSED, FIRST, same_refusal};
-use mold_devices::MemorySource;
+use crate::comparisons::{holds, holds_at, same_bytes};
+use crate::journal_file::{CLOSED, FIRST, LONGER_3, THIRD};
+use mold_devices::{MemorySource, Source};
 use mold_session::{FileError, JournalReader};
 use std::alloc::Global;
 use std::process::Abort;
 use std::test::Fail;
 
-pub fn same_turn(rt: &impl Abort, found: Result<bool, FileError>, wanted: Result<bool, FileError>) {
-    assert!(rt; found == wanted, "another turn");
-}
-
-fn expect_read(rt: &impl Abort, reader: &JournalReader, message: &[u8], count: u64) {
-    same_bytes(rt, reader.message(), message);
-    same_number(rt, reader.count(), count);
-}
-
-/// The reader returns one more message, which has this number.
-pub fn expect_next(
-    rt: &impl Abort,
-    reader: &mut JournalReader,
-    source: &mut MemorySource<'_>,
-    message: &[u8],
-    number: u64,
-) {
-    same_turn(rt, reader.advance(source), Ok(true));
-    expect_read(rt, reader, message, number);
-}
-
-/// The reader returns these messages, and then this result.
-fn expect_messages<'w, 'm>(
-    rt: &impl Abort,
-    reader: &mut JournalReader,
-    source: &mut MemorySource<'_>,
-    messages: &'w [&'m [u8]],
+/// The first bytes of a file, and what a reader returns of them.
+#[derive(Clone, Copy)]
+struct Reading {
+    file: &'static [u8],
+    len: usize,
+    /// The most bytes of a read. If it is 0, there is no limit.
+    most: usize,
+    /// Whether the reader states that the journal is closed: before the first message, and at the end.
+    closed: (bool, bool),
+    messages: &'static [&'static [u8]],
+    /// What the reader returns after the messages.
     end: Result<bool, FileError>,
-) {
-    expect_read(rt, reader, b"", 0);
-    let mut count = 0u64;
-    for message in messages {
-        count = count.saturating_add(1);
-        expect_next(rt, reader, source, message, count);
+}
+
+const OF_FIRST: Reading = Reading {
+    file: &FIRST,
+    len: 24,
+    most: 0,
+    closed: (false, false),
+    messages: &[b"AB", b""],
+    end: Ok(false),
+};
+
+const OF_CLOSED: Reading = Reading {
+    file: &CLOSED,
+    len: 33,
+    closed: (true, true),
+    ..OF_FIRST
+};
+
+const OF_THIRD: Reading = Reading {
+    file: &THIRD,
+    len: 31,
+    closed: (false, true),
+    ..OF_FIRST
+};
+
+/// A truncated file is refused at its end: after its first message, or within its second one.
+const READINGS: &[Reading] = &[
+    OF_FIRST,
+    OF_CLOSED,
+    OF_THIRD,
+    Reading {
+        most: 1,
+        ..OF_CLOSED
+    },
+    Reading {
+        file: &LONGER_3,
+        len: 34,
+        ..OF_THIRD
+    },
+    Reading {
+        len: 23,
+        messages: &[b"AB"],
+        end: Err(FileError::BlockCut { number: 2 }),
+        ..OF_FIRST
+    },
+    Reading {
+        len: 32,
+        messages: &[b"AB"],
+        end: Err(FileError::BlockCut { number: 2 }),
+        ..OF_CLOSED
+    },
+    Reading {
+        len: 31,
+        messages: &[b"AB"],
+        end: Err(FileError::CountDiffers { count: 2, found: 1 }),
+        ..OF_CLOSED
+    },
+    Reading {
+        len: 30,
+        closed: (false, false),
+        end: Err(FileError::Damaged { number: 3 }),
+        ..OF_THIRD
+    },
+];
+
+/// Whether a reader returns what the reading states.
+fn is_read(alloc: Global, reading: &Reading) -> Result<bool, FileError> {
+    let mut source = MemorySource::new(reading.file.get(..reading.len).unwrap_or(b""));
+    if reading.most > 0 {
+        source.at_most(reading.most);
     }
-    same_turn(rt, reader.advance(source), end);
-}
-
-/// The file states whether its journal is closed, and has these messages. After the last one the reader returns `end`.
-fn expect_file<'w, 'm>(
-    rt: &impl Abort,
-    alloc: Global,
-    source: &mut MemorySource<'_>,
-    closed: bool,
-    messages: &'w [&'m [u8]],
-    end: Result<bool, FileError>,
-) -> Result<(), FileError> {
-    let mut reader = JournalReader::new(alloc, source)?;
-    same_truth(rt, reader.head().closed, closed);
-    expect_messages(rt, &mut reader, source, messages, end);
-    Ok(())
-}
-
-fn expect_two(
-    rt: &impl Abort,
-    alloc: Global,
-    source: &mut MemorySource<'_>,
-    closed: bool,
-) -> Result<(), FileError> {
-    expect_file(rt, alloc, source, closed, &[b"AB", b""], Ok(false))
-}
-
-fn expect_two_by_bytes(rt: &impl Abort, alloc: Global) -> Result<(), FileError> {
-    let mut source = MemorySource::new(&CLOSED);
-    source.at_most(1);
-    expect_two(rt, alloc, &mut source, true)
+    let mut reader = JournalReader::new(alloc, &mut source)?;
+    let mut is_same = reader.head().closed == reading.closed.0 && reader.message().is_empty();
+    let mut count = 0u64;
+    for message in reading.messages {
+        is_same = is_same
+            && reader.count() == count
+            && reader.advance(&mut source) == Ok(true)
+            && reader.message() == *message;
+        count = count.saturating_add(1);
+    }
+    Ok(
+        is_same
+            && reader.count() == count
+            && reader.advance(&mut source) == reading.end
+            && reader.head().closed == reading.closed.1,
+    )
 }
 
 #[test]
 fn the_messages_of_a_file_are_read(rt: HostRuntime) -> Result<(), Fail> {
-    expect_two(&rt, rt.alloc(), &mut MemorySource::new(&FIRST), false)?;
-    expect_two_by_bytes(&rt, rt.alloc())?;
-    Ok(())
-}
-
-/// The file ends after its first message, or within its second one, which has this fault.
-fn expect_fault(
-    rt: &impl Abort,
-    alloc: Global,
-    file: &[u8],
-    closed: bool,
-    fault: FileError,
-) -> Result<(), FileError> {
-    let mut source = MemorySource::new(file);
-    expect_file(rt, alloc, &mut source, closed, &[b"AB"], Err(fault))
-}
-
-#[test]
-fn a_truncated_file_is_refused_at_its_end(rt: HostRuntime) -> Result<(), Fail> {
-    let cut = FileError::BlockCut { number: 2 };
-    expect_fault(&rt, rt.alloc(), &FIRST[..23], false, cut)?;
-    expect_fault(&rt, rt.alloc(), &CLOSED[..32], true, cut)?;
-    let fewer = FileError::CountDiffers { count: 2, found: 1 };
-    expect_fault(&rt, rt.alloc(), &CLOSED[..31], true, fewer)?;
+    for (i, reading) in READINGS.iter().enumerate() {
+        holds_at(&rt, is_read(rt.alloc(), reading)?, "reading", i);
+    }
     Ok(())
 }
 
 /// Reads the two messages, and the end of the file.
-fn read_two(alloc: Global, source: &mut MemorySource<'_>) -> Result<(), FileError> {
-    let mut reader = JournalReader::new(alloc, source)?;
+fn read_two(alloc: Global, file: &[u8]) -> Result<(), FileError> {
+    let mut source = MemorySource::new(file);
+    let mut reader = JournalReader::new(alloc, &mut source)?;
     for _ in 0..3 {
-        reader.advance(source)?;
+        reader.advance(&mut source)?;
     }
     Ok(())
 }
 
-/// Reads the two messages of a file. If an allocation fails, the file is read again from a new source.
-pub fn read_again(rt: &impl Abort, alloc: Global, file: &[u8]) -> Result<(), FileError> {
-    if let Err(error) = read_two(alloc, &mut MemorySource::new(file)) {
-        same_refusal(rt, error, FileError::Memory);
-        read_two(alloc, &mut MemorySource::new(file))?;
-    }
-    Ok(())
-}
-
+/// If an allocation fails, a file is read again from a new source.
 #[test]
 fn out_of_memory_ends_a_reading(rt: HostRuntime) -> Result<(), Fail> {
-    read_again(&rt, rt.alloc(), &CLOSED)?;
+    for file in [CLOSED.as_slice(), THIRD.as_slice()] {
+        let mut found = read_two(rt.alloc(), file);
+        if found == Err(FileError::Memory) {
+            found = read_two(rt.alloc(), file);
+        }
+        found?;
+    }
     Ok(())
 }
 
-/// Takes at most `most` blocks. Then `bytes` are taken, and the reader has returned `count` messages.
-fn expect_blocks(
-    rt: &impl Abort,
-    reader: &mut JournalReader,
-    most: u64,
-    taken: &mut Vec<u8>,
-    bytes: &[u8],
-    count: u64,
-) {
-    reader.take_blocks(most, taken);
-    same_bytes(rt, taken.as_slice(), bytes);
-    same_number(rt, reader.count(), count);
+/// Takes of blocks: at most how many, all that is then taken, and how many messages the reader has returned.
+type Takes = &'static [(u64, &'static [u8], u64)];
+
+/// Files, what a reader takes of the first read, and what `advance` then returns.
+const BLOCKS: [(&[u8], Takes, Result<bool, FileError>); 2] = [
+    (
+        &CLOSED,
+        &[(1, b"\0\x02AB", 1), (5, b"\0\x02AB\0\0", 2)],
+        Ok(false),
+    ),
+    // No block of a record is taken at once.
+    (&THIRD, &[(5, b"", 0)], Ok(true)),
+];
+
+fn expect_takes(rt: &impl Abort, reader: &mut JournalReader, taken: &mut Vec<u8>, takes: Takes) {
+    for (most, bytes, count) in takes {
+        reader.take_blocks(*most, taken);
+        same_bytes(rt, taken.as_slice(), bytes);
+        holds(rt, reader.count() == *count);
+    }
 }
 
-fn expect_two_blocks(rt: &impl Abort, reader: &mut JournalReader, taken: &mut Vec<u8>) {
-    expect_blocks(rt, reader, 1, taken, b"\0\x02AB", 1);
-    expect_blocks(rt, reader, 5, taken, b"\0\x02AB\0\0", 2);
+fn expect_blocks(
+    rt: &(impl Abort + AllocGlobal),
+    file: &[u8],
+    takes: Takes,
+    end: Result<bool, FileError>,
+) -> Result<(), FileError> {
+    let mut source = MemorySource::new(file);
+    let mut reader = JournalReader::new(rt.alloc(), &mut source)?;
+    expect_takes(rt, &mut reader, &mut Vec::new(rt.alloc()), takes);
+    holds(rt, reader.advance(&mut source) == end);
+    Ok(())
 }
 
 /// The whole blocks of a read are taken at once, up to the limit. `advance` reads what follows them.
-fn expect_taken(rt: &impl Abort, alloc: Global) -> Result<(), FileError> {
-    let mut source = MemorySource::new(&CLOSED);
-    let mut reader = JournalReader::new(alloc, &mut source)?;
-    expect_two_blocks(rt, &mut reader, &mut Vec::new(alloc));
-    same_turn(rt, reader.advance(&mut source), Ok(false));
-    Ok(())
-}
-
 #[test]
 fn the_blocks_of_a_read_are_taken(rt: HostRuntime) -> Result<(), Fail> {
-    expect_taken(&rt, rt.alloc())?;
-    Ok(())
-}
-
-/// Takes the two blocks, or returns `Memory` and takes none.
-fn take_two(
-    rt: &impl Abort,
-    reader: &mut JournalReader,
-    taken: &mut Vec<u8>,
-) -> Result<(), FileError> {
-    reader.take_blocks(5, taken);
-    if reader.count() == 0 {
-        same_bytes(rt, taken.as_slice(), b"");
-        return Err(FileError::Memory);
+    for (file, takes, end) in BLOCKS {
+        expect_blocks(&rt, file, takes, end)?;
     }
-    same_bytes(rt, taken.as_slice(), b"\0\x02AB\0\0");
     Ok(())
 }
 
@@ -184,10 +190,15 @@ fn take_two_again(
     reader: &mut JournalReader,
     taken: &mut Vec<u8>,
 ) -> Result<(), FileError> {
-    if let Err(error) = take_two(rt, reader, taken) {
-        same_refusal(rt, error, FileError::Memory);
-        take_two(rt, reader, taken)?;
+    reader.take_blocks(5, taken);
+    if reader.count() == 0 {
+        holds(rt, taken.is_empty());
+        reader.take_blocks(5, taken);
     }
+    if reader.count() == 0 {
+        return Err(FileError::Memory);
+    }
+    holds(rt, taken.as_slice() == b"\0\x02AB\0\0".as_slice());
     Ok(())
 }
 

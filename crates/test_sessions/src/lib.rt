@@ -8,13 +8,9 @@ mod capture;
 #[cfg(test)]
 mod comparisons;
 #[cfg(test)]
-mod hearing;
-#[cfg(test)]
 mod journal_file;
 #[cfg(test)]
 mod journal_reader;
-#[cfg(test)]
-mod journal_records;
 #[cfg(test)]
 mod publisher;
 #[cfg(test)]

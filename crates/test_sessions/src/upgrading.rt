@@ -1,28 +1,31 @@
 //! Upgrades of journal files: worked examples, and allocations that fail.
 
-use crate::comparisons::same_bytes;
-use crate::journal_file::{CLOSED, FIRST, same_refusal};
-use crate::journal_records::THIRD;
+use crate::comparisons::{holds, holds_at};
+use crate::journal_file::{CLOSED, FIRST, THIRD};
 use mold_devices::{MemorySink, MemorySource, Sink};
 use mold_session::{FileError, Upgraded, upgrade};
 use std::alloc::Global;
 use std::process::Abort;
 use std::test::Fail;
 
-/// Upgrades the file, or refuses it. The sink then has the bytes `written`.
-fn expect_upgrade(
-    rt: &impl Abort,
-    alloc: Global,
-    file: &[u8],
+/// The first bytes of a file are upgraded, or refused. The sink then has these bytes.
+#[derive(Clone, Copy)]
+struct Upgrade {
+    file: &'static [u8],
+    len: usize,
     close: bool,
     wanted: Result<Upgraded, FileError>,
-    written: &[u8],
-) {
-    let mut sink = MemorySink::new(alloc);
-    let found = upgrade(alloc, &mut MemorySource::new(file), &mut sink, close);
-    assert!(rt; found == wanted, "another outcome");
-    same_bytes(rt, sink.bytes(), written);
+    written: &'static [u8],
 }
+
+/// `journal-cuts`: the file of version 1, upgraded.
+const OF_FIRST: Upgrade = Upgrade {
+    file: &FIRST,
+    len: 24,
+    close: true,
+    wanted: UPGRADED,
+    written: &CLOSED,
+};
 
 const UPGRADED: Result<Upgraded, FileError> = Ok(Upgraded {
     messages: 2,
@@ -42,54 +45,87 @@ const CONVERTED: Result<Upgraded, FileError> = Ok(Upgraded {
     from: 3,
 });
 
-/// `journal-cuts`: the file of version 1, upgraded. A closed file of version 2 or 3 stays closed.
+/// A closed file of version 2 or 3 stays closed. If the file is refused, nothing is written.
+const UPGRADES: &[Upgrade] = &[
+    OF_FIRST,
+    Upgrade {
+        file: &CLOSED,
+        len: 33,
+        close: false,
+        wanted: COPIED,
+        ..OF_FIRST
+    },
+    Upgrade {
+        file: &THIRD,
+        len: 31,
+        close: false,
+        wanted: CONVERTED,
+        ..OF_FIRST
+    },
+    Upgrade {
+        file: &CLOSED,
+        len: 31,
+        wanted: Err(FileError::CountDiffers { count: 2, found: 1 }),
+        written: b"",
+        ..OF_FIRST
+    },
+    Upgrade {
+        file: &THIRD,
+        len: 30,
+        wanted: Err(FileError::Damaged { number: 3 }),
+        written: b"",
+        ..OF_FIRST
+    },
+];
+
+/// Upgrades the file into the sink.
+fn upgrade_into(
+    alloc: Global,
+    case: &Upgrade,
+    sink: &mut MemorySink,
+) -> Result<Upgraded, FileError> {
+    let file = case.file.get(..case.len).unwrap_or(b"");
+    upgrade(alloc, &mut MemorySource::new(file), sink, case.close)
+}
+
 #[test]
 fn files_of_all_versions_are_upgraded(rt: HostRuntime) {
-    expect_upgrade(&rt, rt.alloc(), &FIRST, true, UPGRADED, &CLOSED);
-    expect_upgrade(&rt, rt.alloc(), &CLOSED, false, COPIED, &CLOSED);
-    expect_upgrade(&rt, rt.alloc(), &THIRD, false, CONVERTED, &CLOSED);
+    for (i, case) in UPGRADES.iter().enumerate() {
+        let mut sink = MemorySink::new(rt.alloc());
+        let found = upgrade_into(rt.alloc(), case, &mut sink);
+        holds_at(
+            &rt,
+            found == case.wanted && sink.bytes() == case.written,
+            "file",
+            i,
+        );
+    }
 }
 
-/// If the file is refused, nothing is written.
-#[test]
-fn a_refused_file_is_not_upgraded(rt: HostRuntime) {
-    let refused = Err(FileError::CountDiffers { count: 2, found: 1 });
-    expect_upgrade(&rt, rt.alloc(), &CLOSED[..31], true, refused, b"");
-    let damaged = Err(FileError::Damaged { number: 3 });
-    expect_upgrade(&rt, rt.alloc(), &THIRD[..30], true, damaged, b"");
-}
-
-/// Upgrades the file of version 1 into the sink, closed.
-fn upgrade_first(alloc: Global, sink: &mut MemorySink) -> Result<Upgraded, FileError> {
-    upgrade(alloc, &mut MemorySource::new(&FIRST), sink, true)
-}
-
-/// If an allocation of the sink failed, a prefix is written. If another one failed, nothing is.
-fn expect_prefix(rt: &impl Abort, sink: &MemorySink, error: FileError) {
+/// Whether the file of version 1 is upgraded. If an allocation of the sink fails, a prefix is written. If another one
+/// fails, nothing is.
+fn is_upgraded(rt: &(impl Abort + AllocGlobal)) -> bool {
+    let mut sink = MemorySink::new(rt.alloc());
+    let found = upgrade_into(rt.alloc(), &OF_FIRST, &mut sink);
     if sink.failures() > 0 {
-        same_refusal(rt, error, FileError::Write);
-        assert!(rt; CLOSED.starts_with(sink.bytes()));
+        holds(
+            rt,
+            found == Err(FileError::Write) && CLOSED.starts_with(sink.bytes()),
+        );
+    } else if found == Err(FileError::Memory) {
+        holds(rt, sink.bytes().is_empty());
     } else {
-        same_refusal(rt, error, FileError::Memory);
-        same_bytes(rt, sink.bytes(), b"");
+        holds(rt, found == UPGRADED && sink.bytes() == CLOSED.as_slice());
     }
-}
-
-/// Upgrades the file of version 1. An error is out of memory, after a prefix is written.
-fn expect_upgraded(rt: &impl Abort, sink: &mut MemorySink, alloc: Global) -> Result<(), FileError> {
-    if let Err(error) = upgrade_first(alloc, sink) {
-        expect_prefix(rt, sink, error);
-        return Err(error);
-    }
-    same_bytes(rt, sink.bytes(), &CLOSED);
-    Ok(())
+    found.is_ok()
 }
 
 /// If an allocation fails, the file is upgraded again into a new sink.
 #[test]
 fn out_of_memory_upgrades_nothing(rt: HostRuntime) -> Result<(), Fail> {
-    if expect_upgraded(&rt, &mut MemorySink::new(rt.alloc()), rt.alloc()).is_err() {
-        expect_upgraded(&rt, &mut MemorySink::new(rt.alloc()), rt.alloc())?;
+    if is_upgraded(&rt) || is_upgraded(&rt) {
+        Ok(())
+    } else {
+        Err(Fail::from("Memory"))
     }
-    Ok(())
 }
