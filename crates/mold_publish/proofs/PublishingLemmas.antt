@@ -57,12 +57,12 @@ module _ (kind : InputKind) where
   Published old new known left filled = InputPublished old new (with_kind kind known) (with_kind kind left) filled
 
   -- before the first entry
-  published_nothing : (journal : JournalState) (known : Option (List Entry)) → Published journal journal known known Full
+  pub published_nothing : (journal : JournalState) (known : Option (List Entry)) → Published journal journal known known Full
   published_nothing journal None = tt
   published_nothing journal (Some entries) = refl
 
   -- one more message
-  published_more : (old before after : JournalState) (known left behind : Option (List Entry)) (read message : List ℕ) →
+  pub published_more : (old before after : JournalState) (known left behind : Option (List Entry)) (read message : List ℕ) →
       Published old before known left Full → GivesNext left behind next.Message read →
       entry_outcome kind before (Ok read) ≡ Ok message → after ≡ appended before message →
       Published old after known behind Full
@@ -76,7 +76,7 @@ module _ (kind : InputKind) where
       ∙ ap (λ (j : JournalState). entries_published kind j ys) (sym taken)
 
   -- no entry remains
-  published_end : (old now : JournalState) (known left behind : Option (List Entry)) (read : List ℕ) →
+  pub published_end : (old now : JournalState) (known left behind : Option (List Entry)) (read : List ℕ) →
       Published old now known left Full → GivesNext left behind next.End read → Published old now known behind End
   published_end old now None left behind read so_far gives = tt
   published_end old now (Some all) None behind read so_far gives = absurd so_far
@@ -85,7 +85,7 @@ module _ (kind : InputKind) where
       so_far ∙ ap (λ (es : List Entry). entries_published kind now es) gives ∙ none_published now
 
   -- an entry is not a message
-  published_fault : (old now : JournalState) (known left behind : Option (List Entry)) (read : List ℕ)
+  pub published_fault : (old now : JournalState) (known left behind : Option (List Entry)) (read : List ℕ)
       (why : InputFault) → Published old now known left Full → GivesNext left behind (next.Fault why) read →
       Published old now known behind (Refused (record { kind = kind; why = NotRead why }))
   published_fault old now None left behind read why so_far gives = tt
@@ -95,7 +95,7 @@ module _ (kind : InputKind) where
       so_far ∙ ap (entries_published kind now) gives ∙ first_refused now (Err why) ys _ refl
 
   -- a message is refused
-  published_refused : (old now : JournalState) (known left behind : Option (List Entry)) (read : List ℕ)
+  pub published_refused : (old now : JournalState) (known left behind : Option (List Entry)) (read : List ℕ)
       (refusal : MessageRefusal) → Published old now known left Full → GivesNext left behind next.Message read →
       entry_outcome kind now (Ok read) ≡ Err refusal →
       Published old now known behind (Refused refusal)

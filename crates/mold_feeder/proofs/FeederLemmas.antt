@@ -1,0 +1,181 @@
+-- What a publisher over ports has sent.
+use Rattle.std.proofs.Common.{◌≡◌, ℕ, zero, suc, ◌+◌, ◌-◌, ◌≤◌, Bool, true, false, ◌&&◌, is_some, nat_le, List, [], ◌∷◌}
+use Rattle.std.proofs.Common.{length, drop, Option, None, Some, refl, sym, ap, subst, ◌∙◌, arith, length-append}
+use Rattle.std.proofs.Common.{length-drop, cond}
+use Rattle.std.proofs.lemmas.Bool.{eq-eqb, ne_eqb}
+use Rattle.mold_wire.specs.Packing.{front, packet_length}
+use Rattle.mold_wire.specs.declared.packet.Packet.{Packet}
+use Rattle.mold_durable.specs.DurableJournal.{DurableState}
+use Rattle.mold_durable.specs.Life.{Life}
+use Rattle.mold_durable.specs.Storage.{IsWithin}
+use Rattle.mold_durable_publisher.specs.DurablePublisher.{Publishes, after_committed, next_committed}
+use Rattle.mold_durable_publisher.specs.Told.{IsTold, IsTrueNow}
+use Rattle.mold_durable_publisher.specs.declared.durable_publisher.DurablePublisher.{DurablePublisher}
+use Rattle.mold_port_set.specs.PortSet.{PortSetState}
+use Rattle.mold_input.specs.Entries.{InputEntries}
+use Rattle.mold_session.specs.Publisher.{Lends, after_datagram, next_front}
+use Rattle.mold_feeder.specs.FeedLines.{SendsOn, datagram_of}
+use Rattle.mold_feeder.specs.Feeder.{AreTold, HasSent, HasTurned, TakesSome, sends_at, sent_of}
+use Rattle.mold_feeder.specs.Gathering.{with_committed}
+use Rattle.mold_feeder.specs.declared.gathered.Gathered.{Gathered}
+use Rattle.mold_feeder.specs.declared.feed_lines.FeedLines.{FeedLines}
+use Rattle.mold_feeder.specs.declared.feeder.Feeder.{Feeder}
+
+-- ---- the messages of the next data packet
+
+front_cases : (fits : Bool) (message : List ℕ) (rest : List (List ℕ)) (count : ℕ) → length rest ≤ count →
+    length (cond fits (message ∷ rest) []) ≤ count + 1
+front_cases true message rest count few = omega (arith, few)
+front_cases false message rest count few = omega arith
+
+front_few : (limit : ℕ) (messages : List (List ℕ)) (most : ℕ) → length (front limit messages most) ≤ length messages
+unfolding front
+front_few limit messages zero = omega arith
+front_few limit [] (suc most) = omega arith
+front_few limit (message ∷ messages) (suc most) =
+    omega (
+      arith,
+      front_cases (nat_le (packet_length (message ∷ [])) limit) message
+          (front (limit - (2 + length message)) messages most) (length messages)
+          (front_few (limit - (2 + length message)) messages most),
+    )
+
+durable_cases : {S : Type 0} (publisher : DurablePublisher S) (count : ℕ) → length publisher.durable.waiting ≡ count →
+    (after_committed publisher).durable ≡ publisher.durable
+durable_cases publisher zero none = rw (eq-eqb (length publisher.durable.waiting) 0 none) refl
+durable_cases publisher (suc count) some =
+    rw (ne_eqb (length publisher.durable.waiting) 0 (λ none. absurd (omega (arith, none, some)))) refl
+
+-- The durable journal is the same after the next data packet.
+pub after_durable : {S : Type 0} (publisher : DurablePublisher S) → (after_committed publisher).durable ≡ publisher.durable
+after_durable publisher = durable_cases publisher (length publisher.durable.waiting) refl
+
+module _ {S : Type 0} (shows may_leave : S → List ℕ → Type 0) (publisher : DurablePublisher S) (life : Life)
+    (is : Publishes shows may_leave publisher life) where
+  -- If no message waits, the messages of the next data packet are committed.
+  sent_committed : length publisher.durable.waiting ≡ 0 →
+      publisher.publisher.sent + length (next_front publisher.publisher) ≤ length life.committed
+  sent_committed none =
+      let messages = publisher.publisher.journal.messages in
+      let all : length messages ≡ length life.committed = omega (
+        arith,
+        ap (λ (ms : List (List ℕ)). length ms) is.held,
+        length-append life.committed life.waiting,
+        ap (λ (ms : List (List ℕ)). length ms) is.waits,
+        none,
+      ) in
+      omega (
+        arith,
+        all,
+        is.sent,
+        length-drop publisher.publisher.sent messages,
+        front_few publisher.publisher.limit (drop publisher.publisher.sent messages) (length messages),
+      )
+
+  sent_all : length publisher.durable.waiting ≡ 0 →
+      Publishes shows may_leave (record publisher { publisher = after_datagram publisher.publisher }) life
+  sent_all none = record {
+    possible = is.possible;
+    named = is.named;
+    held = is.held;
+    sent = sent_committed none;
+    closed = is.closed;
+    longest = is.longest;
+    durable_named = is.durable_named;
+    counted = is.counted;
+    waits = is.waits;
+    durable_closed = is.durable_closed;
+    left = is.left;
+    lives = is.lives;
+  }
+
+  after_cases : (count : ℕ) → length publisher.durable.waiting ≡ count →
+      Publishes shows may_leave (after_committed publisher) life
+  after_cases zero none = rw (eq-eqb (length publisher.durable.waiting) 0 none) (sent_all none)
+  after_cases (suc count) some =
+      rw (ne_eqb (length publisher.durable.waiting) 0 (λ none. absurd (omega (arith, none, some)))) is
+
+  -- The session has the same life after the next data packet.
+  pub after_publishes : Publishes shows may_leave (after_committed publisher) life
+  after_publishes = after_cases (length publisher.durable.waiting) refl
+
+module _ {S L P : Type 0} (shows may_leave : S → List ℕ → Type 0) (modeled : Bool) (state : L → PortSetState P)
+    (lines : FeedLines P) where
+  -- What is sent at a time, if it is the next data packet.
+  pub sends_data : (time : ℕ) (feeder new : Feeder S L) →
+      (is_some (next_committed feeder.publisher) && nat_le feeder.pace.opens time) ≡ true →
+      HasSent shows may_leave modeled state lines (datagram_of (next_committed feeder.publisher)) feeder new →
+      HasSent shows may_leave modeled state lines (sends_at time feeder) feeder new
+  sends_data time feeder new may sent = rw may sent
+
+  next_cases : (packet : Option Packet) (bytes : List ℕ) (old new : Feeder S L) → Lends packet (Some bytes) →
+      (modeled ≡ true → SendsOn lines (bytes ∷ []) (sent_of state old) (sent_of state new)) →
+      (modeled ≡ true → (state new.ports).given ≡ (state old.ports).given) →
+      (state new.ports).now ≡ (state old.ports).now → new.publisher ≡ after_committed old.publisher →
+      ((life : Life) → Publishes shows may_leave old.publisher life → IsTrueNow life bytes) →
+      ((life : Life) → Publishes shows may_leave old.publisher life →
+      IsWithin (IsTold bytes) (may_leave old.publisher.durable.storage)) →
+      HasSent shows may_leave modeled state lines (datagram_of packet) old new
+  next_cases None bytes old new lends sends given clock same truth told = absurd lends
+  next_cases (Some packet) bytes old new lends sends given clock same truth told =
+      let durable : new.publisher.durable ≡ old.publisher.durable =
+      ap (λ (p : DurablePublisher S). p.durable) same ∙ after_durable old.publisher in
+      subst (λ (b : List ℕ). HasSent shows may_leave modeled state lines (b ∷ []) old new) lends.spelled (record {
+        sends = sends;
+        given = given;
+        clock = clock;
+        storage = durable;
+        told = λ life is. record {
+          now = (truth life is, tt);
+          left = (
+            subst (λ (d : DurableState S). IsWithin (IsTold bytes) (may_leave d.storage)) (sym durable) (told life is),
+            tt,
+          );
+        };
+        publishes = λ life is.
+            subst (λ (p : DurablePublisher S). Publishes shows may_leave p life) (sym same)
+            (after_publishes shows may_leave old.publisher life is);
+      })
+
+  -- The next data packet was sent.
+  pub sent_next : (bytes : List ℕ) (old new : Feeder S L) → Lends (next_committed old.publisher) (Some bytes) →
+      (modeled ≡ true → SendsOn lines (bytes ∷ []) (sent_of state old) (sent_of state new)) →
+      (modeled ≡ true → (state new.ports).given ≡ (state old.ports).given) →
+      (state new.ports).now ≡ (state old.ports).now → new.publisher ≡ after_committed old.publisher →
+      ((life : Life) → Publishes shows may_leave old.publisher life → IsTrueNow life bytes) →
+      ((life : Life) → Publishes shows may_leave old.publisher life →
+      IsWithin (IsTold bytes) (may_leave old.publisher.durable.storage)) →
+      HasSent shows may_leave modeled state lines (datagram_of (next_committed old.publisher)) old new
+  sent_next bytes old new = next_cases (next_committed old.publisher) bytes old new
+
+  turn_at : (life now : Life) (old mid new : Feeder S L) (known left : Option InputEntries) (taken : Option Gathered) →
+      TakesSome shows may_leave life old mid known left taken → mid.ports ≡ old.ports →
+      HasSent shows may_leave modeled state lines (sends_at (state mid.ports).now mid) mid new →
+      Publishes shows may_leave mid.publisher now → now.waiting ≡ [] →
+      HasTurned shows may_leave modeled state lines life old new known left taken
+  turn_at life now old mid new known left taken takes ports sent is none = record {
+    mid = mid;
+    group = takes;
+    ports = ports;
+    now = now;
+    publishes = sent.publishes now is;
+    none = none;
+    sends = λ modeled.
+        subst (λ (p : L). SendsOn lines (sends_at (state p).now mid) (state p).sent (sent_of state new)) ports
+        (sent.sends modeled);
+    told = subst (λ (p : L). AreTold may_leave new.publisher now (sends_at (state p).now mid)) ports (sent.told now is);
+  }
+
+  -- A turn took a group or nothing, and then sent what was due.
+  pub turn_done : (life : Life) (old mid new : Feeder S L) (known left : Option InputEntries) (taken : Option Gathered) →
+      Publishes shows may_leave old.publisher life → life.waiting ≡ [] →
+      TakesSome shows may_leave life old mid known left taken → mid.ports ≡ old.ports →
+      HasSent shows may_leave modeled state lines (sends_at (state mid.ports).now mid) mid new →
+      HasTurned shows may_leave modeled state lines life old new known left taken
+  turn_done life old mid new known left None is none takes ports sent =
+      let still : Publishes shows may_leave mid.publisher life =
+      subst (λ (f : Feeder S L). Publishes shows may_leave f.publisher life) (sym takes.0) is in
+      turn_at life life old mid new known left None takes ports sent still none
+  turn_done life old mid new known left (Some gathered) is none takes ports sent =
+      turn_at life (with_committed life takes.messages) old mid new known left (Some gathered) takes ports sent
+      takes.publishes refl

@@ -1,0 +1,145 @@
+-- The messages of an input that join those that wait, one by one.
+use Rattle.std.proofs.Common.{◌≡◌, inl, ℕ, ◌+◌, ◌≤◌, List, [], ◌∷◌, ◌++◌, Option, Ok, Err}
+use Rattle.std.proofs.Common.{refl, sym, ap, subst, ◌∙◌, append_assoc, append-nil, length-append, arith}
+use Rattle.mold_durable.specs.Life.{Life, after as after_moment}
+use Rattle.mold_durable.specs.Life.Moment.{Commit}
+use Rattle.mold_durable.specs.Storage.{LeavesOnly}
+use Rattle.mold_durable_publisher.specs.DurablePublisher.{Publishes}
+use Rattle.mold_durable_publisher.specs.Told.{IsLaterFile, IsTold, IsTrueNow}
+use Rattle.mold_durable_publisher.specs.declared.durable_publisher.DurablePublisher.{DurablePublisher}
+use Rattle.mold_input.specs.Entries.{Entry, GivesNext, InputEntries, with_kind}
+use Rattle.mold_input.specs.declared.input_fault.InputFault.{InputFault}
+use Rattle.mold_input.specs.declared.input_kind.InputKind.{InputKind}
+use Rattle.mold_input.specs.declared.next.Next.TheVariants as next
+use Rattle.mold_publish.specs.Publishing.{InputPublished, entry_outcome}
+use Rattle.mold_publish.specs.declared.message_refusal.MessageRefusal.{MessageRefusal}
+use Rattle.mold_publish.specs.declared.refusal_reason.RefusalReason.TheVariants.{NotRead}
+use Rattle.mold_publish.proofs.PublishingLemmas.{published_end, published_fault, published_more, published_nothing, published_refused}
+use Rattle.mold_session.specs.Journal.{JournalState}
+use Rattle.mold_session.specs.Publisher.{PublisherState}
+use Rattle.mold_feeder.specs.Gathering.{Gathers, JoinsWaiting, TakesGroup, filled_for, with_waiting}
+use Rattle.mold_feeder.specs.declared.gathered.Gathered.{Gathered}
+use Rattle.mold_feeder.specs.declared.gathered.Gathered.TheVariants.{Full, End, Refused}
+
+module _ {S : Type 0} (shows may_leave : S → List ℕ → Type 0) (kind : InputKind) (life : Life) where
+  -- The entries before the rest joined those that wait.
+  abbrev pub SoFar : ℕ → DurablePublisher S → DurablePublisher S → Option (List Entry) → Option (List Entry) → Type 0
+  SoFar most old now known left =
+      Gathers shows may_leave life most old now (with_kind kind known) (with_kind kind left) Full
+
+  -- Before the first entry.
+  pub gathered_nothing : (old : DurablePublisher S) (known : Option (List Entry)) →
+      Publishes shows may_leave old life → SoFar 0 old old known known
+  gathered_nothing old known is = record {
+    messages = [];
+    few = omega arith;
+    added = sym (append-nil old.publisher.journal.messages);
+    sent = refl;
+    storage = refl;
+    publishes = subst (λ (w : List (List ℕ)). Publishes shows may_leave old (record life { waiting = w }))
+        (sym (append-nil life.waiting)) is;
+    input = published_nothing kind old.publisher.journal known;
+  }
+
+  -- One more message.
+  pub gathered_more : (most : ℕ) (old mid new : DurablePublisher S) (known left behind : Option (List Entry))
+      (read : List ℕ) (so_far : SoFar most old mid known left) → GivesNext left behind next.Message read →
+      JoinsWaiting shows may_leave (with_waiting life so_far.messages) mid new
+      (entry_outcome kind mid.publisher.journal (Ok read)) → SoFar (most + 1) old new known behind
+  gathered_more most old mid new known left behind read so_far gives joins = record {
+    messages = so_far.messages ++ joins.message ∷ [];
+    few = omega (arith, so_far.few, length-append so_far.messages (joins.message ∷ []));
+    added = ap (λ (j : JournalState). j.messages) joins.journal
+        ∙ ap (λ (ms : List (List ℕ)). ms ++ joins.message ∷ []) so_far.added
+        ∙ append_assoc old.publisher.journal.messages so_far.messages (joins.message ∷ []);
+    sent = joins.sent ∙ so_far.sent;
+    storage = joins.storage ∙ so_far.storage;
+    publishes = subst (λ (w : List (List ℕ)). Publishes shows may_leave new (record life { waiting = w }))
+        (append_assoc life.waiting so_far.messages (joins.message ∷ [])) joins.publishes;
+    input = published_more kind old.publisher.journal mid.publisher.journal new.publisher.journal known left behind read
+        joins.message so_far.input gives joins.is joins.journal;
+  }
+
+  -- The group ends here.
+  stopped : (most all : ℕ) (old now : DurablePublisher S) (known left behind : Option (List Entry)) (gathered : Gathered) →
+      most ≤ all → SoFar most old now known left →
+      InputPublished old.publisher.journal now.publisher.journal (with_kind kind known) (with_kind kind behind)
+      (filled_for gathered) →
+      Gathers shows may_leave life all old now (with_kind kind known) (with_kind kind behind) gathered
+  stopped most all old now known left behind gathered le so_far input = record {
+    messages = so_far.messages;
+    few = omega (arith, le, so_far.few);
+    added = so_far.added;
+    sent = so_far.sent;
+    storage = so_far.storage;
+    publishes = so_far.publishes;
+    input = input;
+  }
+
+  -- No entry remains.
+  pub gathered_end : (most all : ℕ) (old now : DurablePublisher S) (known left behind : Option (List Entry))
+      (read : List ℕ) → most ≤ all → SoFar most old now known left → GivesNext left behind next.End read →
+      Gathers shows may_leave life all old now (with_kind kind known) (with_kind kind behind) End
+  gathered_end most all old now known left behind read le so_far gives =
+      stopped most all old now known left behind End le so_far
+      (published_end kind old.publisher.journal now.publisher.journal known left behind read so_far.input gives)
+
+  -- An entry is not a message.
+  pub gathered_fault : (most all : ℕ) (old now : DurablePublisher S) (known left behind : Option (List Entry))
+      (read : List ℕ) (why : InputFault) → most ≤ all → SoFar most old now known left →
+      GivesNext left behind (next.Fault why) read →
+      Gathers shows may_leave life all old now (with_kind kind known) (with_kind kind behind)
+      (Refused (record { kind = kind; why = NotRead why }))
+  gathered_fault most all old now known left behind read why le so_far gives =
+      stopped most all old now known left behind (Refused (record { kind = kind; why = NotRead why })) le so_far
+      (published_fault kind old.publisher.journal now.publisher.journal known left behind read why so_far.input gives)
+
+  -- A message is refused.
+  pub gathered_refused : (most all : ℕ) (old mid new : DurablePublisher S) (known left behind : Option (List Entry))
+      (read : List ℕ) (refusal : MessageRefusal) → most ≤ all → SoFar most old mid known left →
+      GivesNext left behind next.Message read →
+      (entry_outcome kind mid.publisher.journal (Ok read) ≡ Err refusal) × (new ≡ mid) →
+      Gathers shows may_leave life all old new (with_kind kind known) (with_kind kind behind) (Refused refusal)
+  gathered_refused most all old mid new known left behind read refusal le so_far gives refused =
+      subst (λ (p : DurablePublisher S). Gathers shows may_leave life all old p (with_kind kind known)
+      (with_kind kind behind) (Refused refusal)) (sym refused.1)
+      (stopped most all old mid known left behind (Refused refusal) le so_far
+      (published_refused kind old.publisher.journal mid.publisher.journal known left behind read refusal so_far.input
+      gives refused.0))
+
+  -- The group is full.
+  pub gathered_full : (most all : ℕ) (old now : DurablePublisher S) (known left : Option (List Entry)) → most ≤ all →
+      SoFar most old now known left →
+      Gathers shows may_leave life all old now (with_kind kind known) (with_kind kind left) Full
+  gathered_full most all old now known left le so_far =
+      stopped most all old now known left left Full le so_far so_far.input
+
+module _ {S : Type 0} (shows may_leave : S → List ℕ → Type 0) (moment : S → ℕ) (left_since : S → ℕ → List ℕ → Type 0) where
+  -- The storage was not used, so a crash leaves what it might have left before.
+  pub told_unused : (only_now : (storage : S) (bytes : List ℕ) → left_since storage (moment storage) bytes →
+      may_leave storage bytes) →
+      (later : (life : Life) (datagram bytes : List ℕ) → IsTrueNow life datagram → IsLaterFile life bytes →
+      IsTold datagram bytes) (publisher : DurablePublisher S) (life : Life) (datagram : List ℕ) (new : S) →
+      Publishes shows may_leave publisher life → IsTrueNow life datagram → new ≡ publisher.durable.storage →
+      LeavesOnly moment left_since publisher.durable.storage new (IsTold datagram)
+  told_unused only_now later publisher life datagram new is so same =
+      subst (λ (s : S). LeavesOnly moment left_since publisher.durable.storage s (IsTold datagram)) (sym same) (record {
+        later = omega arith;
+        each = λ bytes left. later life datagram bytes so (is.left bytes (only_now publisher.durable.storage bytes left));
+        before = λ earlier bytes le left. inl left;
+      })
+
+  -- A group was committed.
+  pub group_taken : (life : Life) (most : ℕ) (old mid new : DurablePublisher S) (known left : Option InputEntries)
+      (gathered : Gathered) (so_far : Gathers shows may_leave life most old mid known left gathered) →
+      Publishes shows may_leave new (after_moment (with_waiting life so_far.messages) Commit) →
+      new.publisher ≡ mid.publisher → TakesGroup shows may_leave life most old new known left gathered
+  group_taken life most old mid new known left gathered so_far is same = record {
+    messages = so_far.messages;
+    few = so_far.few;
+    added = ap (λ (p : PublisherState). p.journal.messages) same ∙ so_far.added;
+    sent = ap (λ (p : PublisherState). p.sent) same ∙ so_far.sent;
+    publishes = is;
+    input = subst (λ (p : PublisherState). InputPublished old.publisher.journal p.journal known left (filled_for gathered))
+        (sym same) so_far.input;
+  }

@@ -1,0 +1,4 @@
+pub mod LineLemmas
+pub mod RequestLemmas
+pub mod FeederLemmas
+pub mod GatheringLemmas

@@ -1,0 +1,50 @@
+use Rattle.std.proofs.Common.{arith, refl, ◌∙◌}
+use Rattle.mold_feeder.specs.Gathering.{with_waiting}
+use Rattle.mold_feeder.proofs.GatheringLemmas.{gathered_end, gathered_fault, gathered_more, gathered_nothing}
+use Rattle.mold_feeder.proofs.GatheringLemmas.{gathered_refused}
+use Rattle.mold_feeder.proofs.gathering.gather.Goals as goal
+
+pub loop-message-init : goal.loop-message-init
+loop-message-init g c = record {
+  gathered = λ life is.
+      gathered_nothing g.S.Storage.shows g.S.Storage.may_leave g.M.MessageReader.input_kind life c.args.publisher.now _
+      is;
+  storage = refl;
+}
+
+pub returns-in-Fault-clause-gathered : goal.returns-in-Fault-clause-gathered
+returns-in-Fault-clause-gathered g c = λ life is.
+    rw c.kind-kind.ensures
+    (gathered_fault g.S.Storage.shows g.S.Storage.may_leave g.M.MessageReader.input_kind life c.loop-message._message
+    c.args.most c.args.publisher.now c.loop-message.publisher _ _ _ (g.M.MessageReader.found c.advance.new.self)
+    c.in-Fault.why (omega (arith, c.loop-message-test.true)) (c.loop-message.invariant.gathered life is)
+    (rw c.in-Fault.is at c.in_ok-advance.ensures.next))
+
+pub returns-in-End-clause-gathered : goal.returns-in-End-clause-gathered
+returns-in-End-clause-gathered g c = λ life is.
+    gathered_end g.S.Storage.shows g.S.Storage.may_leave g.M.MessageReader.input_kind life c.loop-message._message
+    c.args.most c.args.publisher.now c.loop-message.publisher _ _ _ (g.M.MessageReader.found c.advance.new.self)
+    (omega (arith, c.loop-message-test.true)) (c.loop-message.invariant.gathered life is)
+    (rw c.in-End.is at c.in_ok-advance.ensures.next)
+
+pub returns-in-Some-clause-gathered : goal.returns-in-Some-clause-gathered
+returns-in-Some-clause-gathered g c = λ life is.
+    let so_far = c.loop-message.invariant.gathered life is in
+    gathered_refused g.S.Storage.shows g.S.Storage.may_leave g.M.MessageReader.input_kind life c.loop-message._message
+    c.args.most c.args.publisher.now c.loop-message.publisher c.join_waiting.new.publisher _ _ _
+    (g.M.MessageReader.found c.advance.new.self) c.in-Some.refusal (omega (arith, c.loop-message-test.true)) so_far
+    (rw c.in-Message.is at c.in_ok-advance.ensures.next)
+    (rw (c.in-Some.is, c.kind-kind.ensures, c.message.ensures) at
+    (c.in_ok-refusal.ensures.joined (with_waiting life so_far.messages) so_far.publishes))
+
+pub loop-message-preserved : goal.loop-message-preserved
+loop-message-preserved g c = record {
+  gathered = λ life is.
+      let so_far = c.loop-message.invariant.gathered life is in
+      gathered_more g.S.Storage.shows g.S.Storage.may_leave g.M.MessageReader.input_kind life c.loop-message._message
+      c.args.publisher.now c.loop-message.publisher c.join_waiting.new.publisher _ _ _
+      (g.M.MessageReader.found c.advance.new.self) so_far (rw c.in-Message.is at c.in_ok-advance.ensures.next)
+      (rw (c.in_default.is, c.kind-kind.ensures, c.message.ensures) at
+      (c.in_ok-refusal.ensures.joined (with_waiting life so_far.messages) so_far.publishes));
+  storage = c.join_waiting.ensures.storage ∙ c.loop-message.invariant.storage;
+}

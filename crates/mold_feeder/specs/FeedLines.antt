@@ -1,0 +1,29 @@
+-- What a publisher sends on its lines.
+use Rattle.std.specs.Prelude.{◌≡◌, ℕ, Bool, List, [], ◌∷◌, ◌++◌, Option, None, Some}
+use Rattle.mold_port_set.specs.PortSet.{Sent, sent_by}
+use Rattle.mold_wire.specs.Packet.{spelling_of}
+use Rattle.mold_wire.specs.declared.packet.Packet.{Packet}
+use Rattle.mold_feeder.specs.declared.feed_lines.FeedLines.{FeedLines}
+
+-- What sending a datagram on line B adds to the sent datagrams. `fails` states whether the send fails.
+abbrev pub sent_on_b : {P : Type 0} → Bool → Option P → List ℕ → List (Sent P)
+sent_on_b fails None datagram = []
+sent_on_b fails (Some b) datagram = sent_by fails 1 b datagram
+
+-- What sending a datagram on line A and then on line B adds to the sent datagrams. The two Booleans state whether the
+-- sends fail.
+abbrev pub sent_on_both : {P : Type 0} → Bool → Bool → FeedLines P → List ℕ → List (Sent P)
+sent_on_both fails_a fails_b lines datagram =
+    sent_by fails_a 0 lines.a datagram ++ sent_on_b fails_b lines.b datagram
+
+-- The datagrams were sent in order, each on line A and then on line B. Any of the sends may have failed.
+abbrev pub SendsOn : {P : Type 0} → FeedLines P → List (List ℕ) → List (Sent P) → List (Sent P) → Type 0
+SendsOn lines [] old new = new ≡ old
+SendsOn lines (datagram ∷ datagrams) old new =
+    (fails_a : Bool) × (fails_b : Bool)
+    × SendsOn lines datagrams (old ++ sent_on_both fails_a fails_b lines datagram) new
+
+-- The datagram of the packet, if there is a packet.
+abbrev pub datagram_of : Option Packet → List (List ℕ)
+datagram_of None = []
+datagram_of (Some packet) = spelling_of packet ∷ []

@@ -1,0 +1,93 @@
+-- What a publisher over ports sends, and of which files it is true.
+use Rattle.std.specs.Prelude.{◌≡◌, ℕ, Bool, true, ◌&&◌, is_some, nat_le, if◌then◌else◌, List, [], length, ◌-◌, ◌==◌}
+use Rattle.std.specs.Prelude.{Option, None, Some}
+use Rattle.std.specs.Io.KnownBytes.{prepend_known}
+use Rattle.std.specs.List.{AllByRecursion}
+use Rattle.mold_durable.specs.Life.{Life}
+use Rattle.mold_durable.specs.Storage.{IsWithin}
+use Rattle.mold_durable_publisher.specs.DurablePublisher.{Publishes, next_committed}
+use Rattle.mold_durable_publisher.specs.Told.{IsTold, IsTrueNow}
+use Rattle.mold_durable_publisher.specs.declared.durable_publisher.DurablePublisher.{DurablePublisher}
+use Rattle.mold_port_set.specs.PortSet.{PortSetState, Sent}
+use Rattle.mold_session.specs.Publisher.{PublisherState, next_end, next_heartbeat}
+use Rattle.mold_wire.specs.declared.packet.Packet.{Packet}
+use Rattle.mold_input.specs.Entries.{Entry, InputEntries, known_input}
+use Rattle.mold_input.specs.declared.input_kind.InputKind.{InputKind}
+use Rattle.mold_feeder.specs.FeedLines.{SendsOn, datagram_of}
+use Rattle.mold_feeder.specs.Gathering.{TakesGroup}
+use Rattle.mold_feeder.specs.Pace.{group_of}
+use Rattle.mold_feeder.specs.declared.gathered.Gathered.{Gathered}
+use Rattle.mold_feeder.specs.declared.feed_input.FeedInput.{FeedInput}
+use Rattle.mold_feeder.specs.declared.feed_lines.FeedLines.{FeedLines}
+use Rattle.mold_feeder.specs.declared.feeder.Feeder.{Feeder}
+
+-- What a publisher without unsent messages sends when its lines are idle: a heartbeat or, if the session is closed, an
+-- end packet.
+abbrev pub next_beat : PublisherState → Option Packet
+next_beat publisher = if publisher.journal.closed then next_end publisher else next_heartbeat publisher
+
+-- The datagrams that a publisher over ports has sent. `state` gives the state of its ports.
+abbrev pub sent_of : {S L P : Type 0} → (L → PortSetState P) → Feeder S L → List (Sent P)
+sent_of state feeder = (state feeder.ports).sent
+
+-- Each of these datagrams is true of the committed messages of this life, and of every file that a crash leaves.
+pub record AreTold {S : Type 0} (may_leave : S → List ℕ → Type 0) (publisher : DurablePublisher S) (life : Life)
+    (datagrams : List (List ℕ)) : Type 0 where
+  pub now : AllByRecursion (IsTrueNow life) datagrams
+  pub left : AllByRecursion (λ datagram. IsWithin (IsTold datagram) (may_leave publisher.durable.storage)) datagrams
+
+-- The publisher sent these datagrams on its lines, and nothing else changed. If the session had a life, each of them
+-- is true of its committed messages, and of every file that a crash leaves.
+pub record HasSent {S L P : Type 0} (shows may_leave : S → List ℕ → Type 0) (modeled : Bool)
+    (state : L → PortSetState P) (lines : FeedLines P) (datagrams : List (List ℕ)) (old new : Feeder S L) : Type 0 where
+  pub sends : modeled ≡ true → SendsOn lines datagrams (sent_of state old) (sent_of state new)
+  pub given : modeled ≡ true → (state new.ports).given ≡ (state old.ports).given
+  pub clock : (state new.ports).now ≡ (state old.ports).now
+  pub storage : new.publisher.durable ≡ old.publisher.durable
+  pub told : (life : Life) → Publishes shows may_leave old.publisher life →
+      AreTold may_leave new.publisher life datagrams
+  pub publishes : (life : Life) → Publishes shows may_leave old.publisher life →
+      Publishes shows may_leave new.publisher life
+
+-- What a publisher over ports sends at this time. If a committed message is unsent and the pace allows it, that is the
+-- next data packet. Otherwise it is a heartbeat or an end packet if one is due.
+abbrev pub sends_at : {S L : Type 0} → ℕ → Feeder S L → List (List ℕ)
+sends_at time feeder =
+    if is_some (next_committed feeder.publisher) && nat_le feeder.pace.opens time
+    then datagram_of (next_committed feeder.publisher)
+    else (if nat_le feeder.idle.due time then datagram_of (next_beat feeder.publisher.publisher) else [])
+
+-- The remaining messages of an input, if they are known.
+abbrev pub entries_left : {M K : Type 0} → InputKind → (List ℕ → List Entry) → (M → List ℕ) →
+    (K → Option (List ℕ)) → FeedInput M K → Option InputEntries
+entries_left kind entries unread left input =
+    known_input kind entries (prepend_known (unread input.messages) (left input.source))
+
+-- Whether a publisher takes messages of its input: if the input is ready, and all messages were sent.
+abbrev pub takes_input : {S L M K : Type 0} → Feeder S L → FeedInput M K → Bool
+takes_input feeder input =
+    input.ready && length feeder.publisher.publisher.journal.messages - feeder.publisher.publisher.sent == 0
+
+-- What a publisher over ports took of its input: a group of messages, or nothing.
+abbrev pub TakesSome : {S L : Type 0} → (S → List ℕ → Type 0) → (S → List ℕ → Type 0) → Life → Feeder S L →
+    Feeder S L → Option InputEntries → Option InputEntries → Option Gathered → Type 0
+TakesSome shows may_leave life old new known left None = (new ≡ old) × (left ≡ known)
+TakesSome shows may_leave life old new known left (Some gathered) =
+    TakesGroup shows may_leave life (group_of old.pace.rate) old.publisher new.publisher known left gathered
+
+-- A turn: the publisher took a group of messages of its input or nothing, and committed them. Then it sent what was due.
+-- Each datagram that it sent is true of the committed messages, and of every file that a crash leaves.
+pub record HasTurned {S L P : Type 0} (shows may_leave : S → List ℕ → Type 0) (modeled : Bool)
+    (state : L → PortSetState P) (lines : FeedLines P) (life : Life) (old new : Feeder S L)
+    (known left : Option InputEntries) (taken : Option Gathered) : Type 0 where
+  -- the publisher after it took the group
+  pub mid : Feeder S L
+  pub group : TakesSome shows may_leave life old mid known left taken
+  pub ports : mid.ports ≡ old.ports
+  -- the life of the journal since then
+  pub now : Life
+  pub publishes : Publishes shows may_leave new.publisher now
+  pub none : now.waiting ≡ []
+  pub sends : modeled ≡ true →
+      SendsOn lines (sends_at (state old.ports).now mid) (sent_of state old) (sent_of state new)
+  pub told : AreTold may_leave new.publisher now (sends_at (state old.ports).now mid)

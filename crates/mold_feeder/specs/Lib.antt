@@ -1,0 +1,7 @@
+pub mod Pace
+pub mod IdleClock
+pub mod Comparison
+pub mod FeedLines
+pub mod Feeder
+pub mod Requests
+pub mod Gathering

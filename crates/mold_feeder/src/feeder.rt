@@ -1,0 +1,180 @@
+//! A publisher over ports: what it sends, and when.
+
+ghost use Rattle.std.specs.Prelude.{◌≡◌, ◌&&◌, ◌≤◌, [], ℕ, false, IfOk, is_some, length, List, nat_le, true};
+ghost use Rattle.mold_durable.specs.Life.{Life};
+ghost use Rattle.mold_durable.specs.Storage.{LeavesOnly};
+ghost use Rattle.mold_durable_publisher.specs.DurablePublisher.{Publishes, after_committed, next_committed};
+ghost use Rattle.mold_durable_publisher.specs.Told.{IsTold, IsTrueNow};
+ghost use Rattle.mold_feeder.specs.FeedLines.{datagram_of};
+ghost use Rattle.mold_feeder.specs.Feeder.{HasSent, HasTurned, TakesSome, entries_left, next_beat};
+ghost use Rattle.mold_feeder.specs.Feeder.{sends_at, takes_input};
+ghost use Rattle.mold_feeder.specs.Requests.{RepliesTo, sent_journal};
+ghost use Rattle.mold_ports.specs.Ports.{cut, next_of, received};
+ghost use Rattle.mold_wire.specs.declared.limits.TheConstants.{MAX_LIMIT};
+
+use crate::feed_input::FeedInput;
+use crate::feed_lines::{FeedLines, send_on_lines};
+use crate::gathered::Gathered;
+use crate::gathering::take_group;
+use crate::idle_clock::IdleClock;
+use crate::pace::Pace;
+use crate::requests::Requests;
+use mold_devices::{CommandFault, Source};
+use mold_durable::Storage;
+use mold_durable_publisher::DurablePublisher;
+use mold_durable_publisher::laws::told_law;
+use mold_input::MessageReader;
+use mold_port_set::PortSet;
+use mold_ports::Datagrams;
+
+/// A publisher over ports: the publisher, the ports, and when it may send.
+#[derive(Drop)]
+pub struct Feeder<S, L> {
+    /// The publisher, whose journal is durable.
+    pub publisher: DurablePublisher<S>,
+    /// The ports of the lines, and the clock.
+    pub ports: L,
+    /// When the next data packet may be sent.
+    pub pace: Pace,
+    /// When the next heartbeat is due.
+    pub idle: IdleClock,
+    /// The number of data packets that were sent. Each is counted once for both lines. It stops at
+    /// 18446744073709551615.
+    pub datagrams: u64,
+}
+
+impl<S: Storage + Drop, L: PortSet + Drop> Feeder<S, L> {
+    // Sends the next data packet, if a committed message is unsent. Returns whether there was one.
+    fn send_next(&mut self, lines: &FeedLines<L::Peer>) -> bool
+        ensures sent { HasSent S.shows S.may_leave L.modeled L.state lines.now
+            (datagram_of (next_committed self.old.publisher)) self.old self.new }
+        ensures some { result ≡ is_some (next_committed self.old.publisher) }
+        ensures publisher { self.new.publisher ≡ after_committed self.old.publisher }
+        ensures same { result ≡ false → self.new ≡ self.old }
+    {
+        let unsent = self.publisher.unsent();
+        let Some(datagram) = self.publisher.next_datagram() else {
+            return false;
+        };
+        send_on_lines(&mut self.ports, lines, datagram);
+        let time = self.ports.now();
+        self.pace.note(time, unsent - self.publisher.unsent());
+        self.idle.note(time);
+        self.datagrams = self.datagrams.saturating_add(1);
+        true
+    }
+
+    // Sends a heartbeat or, if the session is closed, an end packet.
+    fn send_beat(&mut self, lines: &FeedLines<L::Peer>)
+        ensures sent { HasSent S.shows S.may_leave L.modeled L.state lines.now
+            (datagram_of (next_beat self.old.publisher.publisher)) self.old self.new }
+        ensures publisher { self.new.publisher ≡ self.old.publisher }
+    {
+        self.idle.note(self.ports.now());
+        if self.publisher.journal().is_closed() {
+            if let Some(end) = self.publisher.end() {
+                send_on_lines(&mut self.ports, lines, end);
+            }
+        } else {
+            if let Some(beat) = self.publisher.heartbeat() {
+                send_on_lines(&mut self.ports, lines, beat);
+            }
+        }
+    }
+
+    // Sends the next data packet, if a committed message is unsent and the pace allows it. Returns whether it did.
+    fn send_paced(&mut self, lines: &FeedLines<L::Peer>) -> bool
+        ensures sent { result ≡ true → HasSent S.shows S.may_leave L.modeled L.state lines.now
+            (datagram_of (next_committed self.old.publisher)) self.old self.new }
+        ensures some { result ≡ (is_some (next_committed self.old.publisher)
+            && nat_le self.old.pace.opens (L.state self.old.ports).now) }
+        ensures publisher { result ≡ true → self.new.publisher ≡ after_committed self.old.publisher }
+        ensures same { result ≡ false → self.new ≡ self.old }
+    {
+        if !self.pace.is_open(self.ports.now()) {
+            return false;
+        }
+        self.send_next(lines)
+    }
+
+    /// Sends what the publisher sends now: the next data packet if a committed message is unsent and the pace allows
+    /// it, otherwise a heartbeat or an end packet if one is due.
+    pub fn send_due(&mut self, lines: &FeedLines<L::Peer>)
+        ensures sent { HasSent S.shows S.may_leave L.modeled L.state lines.now
+            (sends_at (L.state self.old.ports).now self.old) self.old self.new }
+    {
+        if self.send_paced(lines) {
+            return;
+        }
+        if self.idle.is_due(self.ports.now()) {
+            self.send_beat(lines);
+        }
+    }
+
+    // Takes a group of messages of the input and commits it, if the input is ready and all messages were sent. Returns
+    // why the group is complete, or `None` if nothing was taken.
+    fn take_input<M: MessageReader, K: Source>(
+        &mut self,
+        input: &mut FeedInput<M, K>,
+    ) -> Result<Option<Gathered>, CommandFault>
+        ensures taken { (life : Life) → Publishes S.shows S.may_leave self.old.publisher life →
+            IfOk result (TakesSome S.shows S.may_leave life self.old self.new
+            (entries_left M.input_kind M.entries M.unread K.left input.old)
+            (entries_left M.input_kind M.entries M.unread K.left input.new)) }
+        ensures when { IfOk result (λ taken. is_some taken ≡ takes_input self.old input.old) }
+        ensures told { (life : Life) (datagram : List ℕ) → Publishes S.shows S.may_leave self.old.publisher life →
+            IsTrueNow life datagram →
+            LeavesOnly S.moment S.left_since self.old.publisher.durable.storage self.new.publisher.durable.storage
+            (IsTold datagram) }
+        ensures rest { self.new ≡ record self.old { publisher = self.new.publisher } }
+    {
+        told_law();
+        if !input.ready || self.publisher.unsent() > 0 {
+            return Ok(None);
+        }
+        let most = self.pace.group();
+        let gathered = take_group(
+            &mut self.publisher,
+            most,
+            &mut input.messages,
+            &mut input.source,
+        )?;
+        Ok(Some(gathered))
+    }
+
+    /// Makes one turn. First it answers a request, if one has come. If the input is ready and all committed messages
+    /// were sent, it takes a group of messages of the input and commits it. Then it sends what the publisher sends now.
+    /// `buffer` has `MAX_LIMIT` bytes.
+    ///
+    /// Returns why the group is complete, or `None` if no group was taken. After a fault nothing more may be sent.
+    pub fn turn<D: Datagrams + Drop, M: MessageReader, K: Source>(
+        &mut self,
+        lines: &FeedLines<L::Peer>,
+        requests: &mut Requests<D>,
+        input: &mut FeedInput<M, K>,
+        buffer: &mut [u8],
+    ) -> Result<Option<Gathered>, CommandFault>
+        requires longest { self.old.publisher.publisher.journal.max_message ≤ requests.old.server.max_message }
+        requires buffer { length buffer.old ≡ MAX_LIMIT }
+        ensures turned { (life : Life) → Publishes S.shows S.may_leave self.old.publisher life → life.waiting ≡ [] →
+            IfOk result (HasTurned S.shows S.may_leave L.modeled L.state lines.now life self.old self.new
+            (entries_left M.input_kind M.entries M.unread K.left input.old)
+            (entries_left M.input_kind M.entries M.unread K.left input.new)) }
+        ensures when { IfOk result (λ taken. is_some taken ≡ takes_input self.old input.old) }
+        ensures told { (life : Life) (datagram : List ℕ) → Publishes S.shows S.may_leave self.old.publisher life →
+            IsTrueNow life datagram →
+            LeavesOnly S.moment S.left_since self.old.publisher.durable.storage self.new.publisher.durable.storage
+            (IsTold datagram) }
+        ensures replied { D.modeled ≡ true →
+            RepliesTo (sent_journal self.old.publisher.publisher) requests.old.server
+            (cut MAX_LIMIT (next_of (D.port requests.old.port))) (received (D.port requests.old.port))
+            (D.port requests.new.port) }
+        ensures limits { requests.new.server ≡ record requests.old.server { answered = requests.new.server.answered } }
+        ensures buffer { length buffer.new ≡ MAX_LIMIT }
+    {
+        requests.answer_waiting(&self.publisher, buffer);
+        let taken = self.take_input(input)?;
+        self.send_due(lines);
+        Ok(taken)
+    }
+}

@@ -1,0 +1,22 @@
+//! The loop of a publisher that commits each message to a durable journal before it sends it.
+#![tactic(auto)]
+
+mod comparison;
+mod feed_input;
+mod feed_lines;
+mod feeder;
+mod gathered;
+mod gathering;
+mod idle_clock;
+mod pace;
+mod requests;
+
+pub use comparison::{Compared, compare};
+pub use feed_input::FeedInput;
+pub use feed_lines::{FeedLines, send_often, send_on_lines};
+pub use feeder::Feeder;
+pub use gathered::Gathered;
+pub use gathering::{gather, take_group};
+pub use idle_clock::IdleClock;
+pub use pace::Pace;
+pub use requests::Requests;
