@@ -1,25 +1,30 @@
 -- What a publisher over ports has sent.
-use Rattle.std.proofs.Common.{◌≡◌, ℕ, zero, suc, ◌+◌, ◌-◌, ◌≤◌, Bool, true, false, ◌&&◌, is_some, nat_le, List, [], ◌∷◌}
+use Rattle.std.proofs.Common.{◌≡◌, ℕ, zero, suc, ◌+◌, ◌-◌, ◌≤◌, Bool, true, false, ◌&&◌, is_some, nat_le, List, [], ◌∷◌, ◌++◌}
 use Rattle.std.proofs.Common.{length, drop, Option, None, Some, refl, sym, ap, subst, ◌∙◌, arith, length-append}
-use Rattle.std.proofs.Common.{length-drop, cond}
+use Rattle.std.proofs.Common.{length-drop, cond, replicate}
+use Rattle.std.specs.List.{AllByRecursion}
 use Rattle.std.proofs.lemmas.Bool.{eq-eqb, ne_eqb}
 use Rattle.mold_wire.specs.Packing.{front, packet_length}
 use Rattle.mold_wire.specs.declared.packet.Packet.{Packet}
 use Rattle.mold_durable.specs.DurableJournal.{DurableState}
-use Rattle.mold_durable.specs.Life.{Life}
+use Rattle.mold_durable.specs.Life.{Life, Moment, after as after_moment}
+use Rattle.mold_durable.specs.Life.Moment.{Close}
 use Rattle.mold_durable.specs.Storage.{IsWithin}
 use Rattle.mold_durable_publisher.specs.DurablePublisher.{Publishes, after_committed, next_committed}
-use Rattle.mold_durable_publisher.specs.Told.{IsTold, IsTrueNow}
+use Rattle.mold_durable_publisher.specs.Told.{IsLaterFile, IsLife, IsTold, IsTrueNow}
 use Rattle.mold_durable_publisher.specs.declared.durable_publisher.DurablePublisher.{DurablePublisher}
 use Rattle.mold_port_set.specs.PortSet.{PortSetState}
 use Rattle.mold_input.specs.Entries.{InputEntries}
-use Rattle.mold_session.specs.Publisher.{Lends, after_datagram, next_front}
-use Rattle.mold_feeder.specs.FeedLines.{SendsOn, datagram_of}
-use Rattle.mold_feeder.specs.Feeder.{AreTold, HasSent, HasTurned, TakesSome, sends_at, sent_of}
+use Rattle.mold_session.specs.Publisher.{Lends, PublisherState, after_datagram, next_end, next_front, next_heartbeat}
+use Rattle.mold_feeder.specs.FeedLines.{SendsOn, datagram_of, repeated}
+use Rattle.mold_feeder.specs.Feeder.{AreTold, HasEnded, HasSent, HasTurned, TakesSome, ended, ended_life, sends_at}
+use Rattle.mold_feeder.specs.Feeder.{sent_of}
 use Rattle.mold_feeder.specs.Gathering.{with_committed}
 use Rattle.mold_feeder.specs.declared.gathered.Gathered.{Gathered}
+use Rattle.mold_feeder.specs.declared.feed_end.FeedEnd.{FeedEnd}
 use Rattle.mold_feeder.specs.declared.feed_lines.FeedLines.{FeedLines}
 use Rattle.mold_feeder.specs.declared.feeder.Feeder.{Feeder}
+use Rattle.mold_feeder.proofs.LineLemmas.{sends_more}
 
 -- ---- the messages of the next data packet
 
@@ -179,3 +184,103 @@ module _ {S L P : Type 0} (shows may_leave : S → List ℕ → Type 0) (modeled
   turn_done life old mid new known left (Some gathered) is none takes ports sent =
       turn_at life (with_committed life takes.messages) old mid new known left (Some gathered) takes ports sent
       takes.publishes refl
+
+-- ---- datagrams that are sent several times
+
+all_copies : (P : List ℕ → Type 0) (times : ℕ) (datagram : List ℕ) → P datagram →
+    AllByRecursion P (replicate times datagram)
+all_copies P zero datagram is = tt
+all_copies P (suc times) datagram is = (is, all_copies P times datagram is)
+
+all_both : (P : List ℕ → Type 0) (xs ys : List (List ℕ)) → AllByRecursion P xs → AllByRecursion P ys →
+    AllByRecursion P (xs ++ ys)
+all_both P [] ys first second = second
+all_both P (x ∷ xs) ys first second = (first.0, all_both P xs ys first.1 second)
+
+all_also : (P Q : List ℕ → Type 0) (xs : List (List ℕ)) → ((x : List ℕ) → P x → Q x) → AllByRecursion P xs →
+    AllByRecursion Q xs
+all_also P Q [] follows all = tt
+all_also P Q (x ∷ xs) follows all = (follows x all.0, all_also P Q xs follows all.1)
+
+module _ {S L P : Type 0} (shows may_leave : S → List ℕ → Type 0) (modeled : Bool) (state : L → PortSetState P)
+    (lines : FeedLines P) where
+  -- A datagram was sent several times, and the publisher is the same.
+  pub sent_often : (packet : Option Packet) (times : ℕ) (bytes : List ℕ) (old new : Feeder S L) →
+      Lends packet (Some bytes) →
+      (modeled ≡ true → SendsOn lines (replicate times bytes) (sent_of state old) (sent_of state new)) →
+      (modeled ≡ true → (state new.ports).given ≡ (state old.ports).given) →
+      (state new.ports).now ≡ (state old.ports).now → new.publisher ≡ old.publisher →
+      ((life : Life) → Publishes shows may_leave old.publisher life → IsTrueNow life bytes) →
+      ((life : Life) → Publishes shows may_leave old.publisher life →
+      IsWithin (IsTold bytes) (may_leave old.publisher.durable.storage)) →
+      HasSent shows may_leave modeled state lines (repeated times packet) old new
+  sent_often None times bytes old new lends sends given clock same truth told = absurd lends
+  sent_often (Some packet) times bytes old new lends sends given clock same truth told =
+      subst (λ (b : List ℕ). HasSent shows may_leave modeled state lines (replicate times b) old new) lends.spelled (record {
+        sends = sends;
+        given = given;
+        clock = clock;
+        storage = ap (λ (p : DurablePublisher S). p.durable) same;
+        told = λ life is.
+            subst (λ (p : DurablePublisher S). AreTold may_leave p life (replicate times bytes)) (sym same) (record {
+              now = all_copies (IsTrueNow life) times bytes (truth life is);
+              left = all_copies (λ datagram. IsWithin (IsTold datagram) (may_leave old.publisher.durable.storage)) times bytes
+                  (told life is);
+            });
+        publishes = λ life is. subst (λ (p : DurablePublisher S). Publishes shows may_leave p life) (sym same) is;
+      })
+
+-- ---- the end
+
+-- What a datagram states is true at the end, if it was true before.
+true_ended : (stays : Bool) (life : Life) (datagram : List ℕ) → IsTrueNow (after_moment life Close) datagram →
+    IsTrueNow life datagram → IsTrueNow (cond stays life (after_moment life Close)) datagram
+true_ended true life datagram closed so = so
+true_ended false life datagram closed so = closed
+
+module _ {S L P : Type 0} (shows may_leave : S → List ℕ → Type 0) (modeled : Bool) (state : L → PortSetState P)
+    (lines : FeedLines P)
+    (moment : (life : Life) (moment : Moment) (datagram : List ℕ) → IsLife life → IsTrueNow life datagram →
+    IsTrueNow (after_moment life moment) datagram)
+    (later : (life : Life) (datagram bytes : List ℕ) → IsTrueNow life datagram → IsLaterFile life bytes →
+    IsTold datagram bytes) where
+  -- Datagrams that are true now are true of every file that a crash leaves.
+  are_told : (publisher : DurablePublisher S) (life : Life) (datagrams : List (List ℕ)) →
+      Publishes shows may_leave publisher life → AllByRecursion (IsTrueNow life) datagrams →
+      AreTold may_leave publisher life datagrams
+  are_told publisher life datagrams is all = record {
+    now = all;
+    left = all_also (IsTrueNow life) (λ datagram. IsWithin (IsTold datagram) (may_leave publisher.durable.storage))
+        datagrams (λ datagram so bytes left. later life datagram bytes so (is.left bytes left)) all;
+  }
+
+  -- Heartbeats were sent, the session was closed or stays open, and end packets were sent.
+  pub has_ended : (end : FeedEnd) (life : Life) (old beaten shut new : Feeder S L) →
+      Publishes shows may_leave old.publisher life →
+      HasSent shows may_leave modeled state lines (repeated end.beats (next_heartbeat old.publisher.publisher)) old beaten →
+      Publishes shows may_leave shut.publisher (ended_life end life) → shut.ports ≡ beaten.ports →
+      shut.publisher.publisher ≡ ended end old.publisher.publisher →
+      HasSent shows may_leave modeled state lines (repeated end.ends (next_end shut.publisher.publisher)) shut new →
+      new.publisher ≡ shut.publisher → HasEnded shows may_leave modeled state lines end life old new
+  has_ended end life old beaten shut new is beats now ports same ends kept =
+      let first = repeated end.beats (next_heartbeat old.publisher.publisher) in
+      let second = repeated end.ends (next_end (ended end old.publisher.publisher)) in
+      let last : HasSent shows may_leave modeled state lines second shut new =
+      subst (λ (p : PublisherState). HasSent shows may_leave modeled state lines (repeated end.ends (next_end p)) shut new)
+      same ends in
+      let publishes : Publishes shows may_leave new.publisher (ended_life end life) =
+      last.publishes (ended_life end life) now in
+      record {
+        publisher = ap (λ (p : DurablePublisher S). p.publisher) kept ∙ same;
+        publishes = publishes;
+        sends = λ modeled.
+            sends_more lines first second (sent_of state old) (sent_of state beaten) (sent_of state new)
+            (beats.sends modeled)
+            (subst (λ (p : L). SendsOn lines second (state p).sent (sent_of state new)) ports (last.sends modeled));
+        told = are_told new.publisher (ended_life end life) (first ++ second) publishes
+            (all_both (IsTrueNow (ended_life end life)) first second
+            (all_also (IsTrueNow life) (IsTrueNow (ended_life end life)) first
+            (λ datagram so. true_ended end.stays_open life datagram (moment life Close datagram is.possible so) so)
+            (beats.told life is).now)
+            (last.told (ended_life end life) now).now);
+      }

@@ -1,3 +1,4 @@
+pub mod ComparisonLemmas
 pub mod LineLemmas
 pub mod RequestLemmas
 pub mod FeederLemmas

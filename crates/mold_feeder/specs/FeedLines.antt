@@ -1,5 +1,5 @@
 -- What a publisher sends on its lines.
-use Rattle.std.specs.Prelude.{◌≡◌, ℕ, Bool, List, [], ◌∷◌, ◌++◌, Option, None, Some}
+use Rattle.std.specs.Prelude.{◌≡◌, ℕ, Bool, List, [], ◌∷◌, ◌++◌, replicate, Option, None, Some}
 use Rattle.mold_port_set.specs.PortSet.{Sent, sent_by}
 use Rattle.mold_wire.specs.Packet.{spelling_of}
 use Rattle.mold_wire.specs.declared.packet.Packet.{Packet}
@@ -27,3 +27,8 @@ SendsOn lines (datagram ∷ datagrams) old new =
 abbrev pub datagram_of : Option Packet → List (List ℕ)
 datagram_of None = []
 datagram_of (Some packet) = spelling_of packet ∷ []
+
+-- The datagram of the packet this many times, if there is a packet.
+abbrev pub repeated : ℕ → Option Packet → List (List ℕ)
+repeated times None = []
+repeated times (Some packet) = replicate times (spelling_of packet)

@@ -1,22 +1,24 @@
 -- What a publisher over ports sends, and of which files it is true.
-use Rattle.std.specs.Prelude.{◌≡◌, ℕ, Bool, true, ◌&&◌, is_some, nat_le, if◌then◌else◌, List, [], length, ◌-◌, ◌==◌}
-use Rattle.std.specs.Prelude.{Option, None, Some}
+use Rattle.std.specs.Prelude.{◌≡◌, ℕ, Bool, true, ◌&&◌, is_some, nat_le, if◌then◌else◌, List, [], ◌++◌}
+use Rattle.std.specs.Prelude.{length, ◌-◌, ◌==◌, Option, None, Some}
 use Rattle.std.specs.Io.KnownBytes.{prepend_known}
 use Rattle.std.specs.List.{AllByRecursion}
-use Rattle.mold_durable.specs.Life.{Life}
+use Rattle.mold_durable.specs.Life.{Life, after as after_moment}
+use Rattle.mold_durable.specs.Life.Moment.{Close}
 use Rattle.mold_durable.specs.Storage.{IsWithin}
 use Rattle.mold_durable_publisher.specs.DurablePublisher.{Publishes, next_committed}
 use Rattle.mold_durable_publisher.specs.Told.{IsTold, IsTrueNow}
 use Rattle.mold_durable_publisher.specs.declared.durable_publisher.DurablePublisher.{DurablePublisher}
 use Rattle.mold_port_set.specs.PortSet.{PortSetState, Sent}
-use Rattle.mold_session.specs.Publisher.{PublisherState, next_end, next_heartbeat}
+use Rattle.mold_session.specs.Publisher.{PublisherState, closed, next_end, next_heartbeat}
 use Rattle.mold_wire.specs.declared.packet.Packet.{Packet}
 use Rattle.mold_input.specs.Entries.{Entry, InputEntries, known_input}
 use Rattle.mold_input.specs.declared.input_kind.InputKind.{InputKind}
-use Rattle.mold_feeder.specs.FeedLines.{SendsOn, datagram_of}
+use Rattle.mold_feeder.specs.FeedLines.{SendsOn, datagram_of, repeated}
 use Rattle.mold_feeder.specs.Gathering.{TakesGroup}
 use Rattle.mold_feeder.specs.Pace.{group_of}
 use Rattle.mold_feeder.specs.declared.gathered.Gathered.{Gathered}
+use Rattle.mold_feeder.specs.declared.feed_end.FeedEnd.{FeedEnd}
 use Rattle.mold_feeder.specs.declared.feed_input.FeedInput.{FeedInput}
 use Rattle.mold_feeder.specs.declared.feed_lines.FeedLines.{FeedLines}
 use Rattle.mold_feeder.specs.declared.feeder.Feeder.{Feeder}
@@ -75,8 +77,8 @@ TakesSome shows may_leave life old new known left None = (new ≡ old) × (left 
 TakesSome shows may_leave life old new known left (Some gathered) =
     TakesGroup shows may_leave life (group_of old.pace.rate) old.publisher new.publisher known left gathered
 
--- A turn: the publisher took a group of messages of its input or nothing, and committed them. Then it sent what was due.
--- Each datagram that it sent is true of the committed messages, and of every file that a crash leaves.
+-- A turn: the publisher took a group of messages of its input or nothing, and committed them. Then it sent what was
+-- due. Each datagram that it sent is true of the committed messages, and of every file that a crash leaves.
 pub record HasTurned {S L P : Type 0} (shows may_leave : S → List ℕ → Type 0) (modeled : Bool)
     (state : L → PortSetState P) (lines : FeedLines P) (life : Life) (old new : Feeder S L)
     (known left : Option InputEntries) (taken : Option Gathered) : Type 0 where
@@ -91,3 +93,28 @@ pub record HasTurned {S L P : Type 0} (shows may_leave : S → List ℕ → Type
   pub sends : modeled ≡ true →
       SendsOn lines (sends_at (state old.ports).now mid) (sent_of state old) (sent_of state new)
   pub told : AreTold may_leave new.publisher now (sends_at (state old.ports).now mid)
+
+-- The publisher at the end of its input. An open session is closed unless it stays open.
+abbrev pub ended : FeedEnd → PublisherState → PublisherState
+ended end publisher = if end.stays_open then publisher else closed publisher
+
+-- The life of the journal at the end of the input.
+abbrev pub ended_life : FeedEnd → Life → Life
+ended_life end life = if end.stays_open then life else after_moment life Close
+
+-- What a publisher sends at the end of its input: heartbeats if its session is open, and then end packets if its
+-- session is closed.
+abbrev pub sends_at_end : FeedEnd → PublisherState → List (List ℕ)
+sends_at_end end publisher =
+    repeated end.beats (next_heartbeat publisher) ++ repeated end.ends (next_end (ended end publisher))
+
+-- The publisher has ended its session. Each datagram that it sent is true of the committed messages, and of every file
+-- that a crash leaves.
+pub record HasEnded {S L P : Type 0} (shows may_leave : S → List ℕ → Type 0) (modeled : Bool)
+    (state : L → PortSetState P) (lines : FeedLines P) (end : FeedEnd) (life : Life) (old new : Feeder S L) :
+    Type 0 where
+  pub publisher : new.publisher.publisher ≡ ended end old.publisher.publisher
+  pub publishes : Publishes shows may_leave new.publisher (ended_life end life)
+  pub sends : modeled ≡ true →
+      SendsOn lines (sends_at_end end old.publisher.publisher) (sent_of state old) (sent_of state new)
+  pub told : AreTold may_leave new.publisher (ended_life end life) (sends_at_end end old.publisher.publisher)

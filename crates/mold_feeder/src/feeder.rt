@@ -1,19 +1,24 @@
 //! A publisher over ports: what it sends, and when.
 
-ghost use Rattle.std.specs.Prelude.{◌≡◌, ◌&&◌, ◌≤◌, [], ℕ, false, IfOk, is_some, length, List, nat_le, true};
-ghost use Rattle.mold_durable.specs.Life.{Life};
+ghost use Rattle.std.specs.Prelude.{◌≡◌, ◌&&◌, ◌≤◌, [], ℕ, false, IfErr, IfOk, is_some, length, List, nat_le};
+ghost use Rattle.std.specs.Prelude.{if◌then◌else◌, OnOk, true};
+ghost use Rattle.mold_durable.specs.Life.{Life, after as after_moment};
+ghost use Rattle.mold_durable.specs.Life.Moment.{Close};
 ghost use Rattle.mold_durable.specs.Storage.{LeavesOnly};
 ghost use Rattle.mold_durable_publisher.specs.DurablePublisher.{Publishes, after_committed, next_committed};
 ghost use Rattle.mold_durable_publisher.specs.Told.{IsTold, IsTrueNow};
-ghost use Rattle.mold_feeder.specs.FeedLines.{datagram_of};
-ghost use Rattle.mold_feeder.specs.Feeder.{HasSent, HasTurned, TakesSome, entries_left, next_beat};
+ghost use Rattle.mold_devices.specs.declared.fault.CommandFault.{CommandFault};
+ghost use Rattle.mold_feeder.specs.FeedLines.{datagram_of, repeated};
+ghost use Rattle.mold_session.specs.Publisher.{closed, next_end, next_heartbeat};
+ghost use Rattle.mold_feeder.specs.Feeder.{HasEnded, HasSent, HasTurned, TakesSome, entries_left, next_beat};
 ghost use Rattle.mold_feeder.specs.Feeder.{sends_at, takes_input};
 ghost use Rattle.mold_feeder.specs.Requests.{RepliesTo, sent_journal};
 ghost use Rattle.mold_ports.specs.Ports.{cut, next_of, received};
 ghost use Rattle.mold_wire.specs.declared.limits.TheConstants.{MAX_LIMIT};
 
+use crate::feed_end::FeedEnd;
 use crate::feed_input::FeedInput;
-use crate::feed_lines::{FeedLines, send_on_lines};
+use crate::feed_lines::{FeedLines, send_often, send_on_lines};
 use crate::gathered::Gathered;
 use crate::gathering::take_group;
 use crate::idle_clock::IdleClock;
@@ -176,5 +181,76 @@ impl<S: Storage + Drop, L: PortSet + Drop> Feeder<S, L> {
         let taken = self.take_input(input)?;
         self.send_due(lines);
         Ok(taken)
+    }
+
+    // Sends a heartbeat `times` times, if the session is open.
+    fn send_beats(&mut self, lines: &FeedLines<L::Peer>, times: u32)
+        ensures sent { HasSent S.shows S.may_leave L.modeled L.state lines.now
+            (repeated times (next_heartbeat self.old.publisher.publisher)) self.old self.new }
+        ensures publisher { self.new.publisher ≡ self.old.publisher }
+    {
+        if let Some(beat) = self.publisher.heartbeat() {
+            send_often(&mut self.ports, lines, beat, times);
+        }
+    }
+
+    // Sends an end packet `times` times, if the session is closed.
+    fn send_ends(&mut self, lines: &FeedLines<L::Peer>, times: u32)
+        ensures sent { HasSent S.shows S.may_leave L.modeled L.state lines.now
+            (repeated times (next_end self.old.publisher.publisher)) self.old self.new }
+        ensures publisher { self.new.publisher ≡ self.old.publisher }
+    {
+        if let Some(end) = self.publisher.end() {
+            send_often(&mut self.ports, lines, end, times);
+        }
+    }
+
+    // Closes the session, if it does not stay open. The fault is `Write`.
+    fn close(&mut self, stays_open: bool) -> Result<(), CommandFault>
+        requires { self.old.publisher.publisher.sent ≡ length self.old.publisher.publisher.journal.messages }
+        ensures publishes { (life : Life) → Publishes S.shows S.may_leave self.old.publisher life → OnOk result
+            (Publishes S.shows S.may_leave self.new.publisher (if stays_open then life else after_moment life Close)) }
+        ensures told { (life : Life) (datagram : List ℕ) → Publishes S.shows S.may_leave self.old.publisher life →
+            IsTrueNow life datagram →
+            LeavesOnly S.moment S.left_since self.old.publisher.durable.storage self.new.publisher.durable.storage
+            (IsTold datagram) }
+        ensures publisher { OnOk result (self.new.publisher.publisher
+            ≡ (if stays_open then self.old.publisher.publisher else closed self.old.publisher.publisher)) }
+        ensures rest { self.new ≡ record self.old { publisher = self.new.publisher } }
+        ensures fault { IfErr result (λ fault. fault ≡ CommandFault.Write) }
+    {
+        told_law();
+        if stays_open {
+            return Ok(());
+        }
+        match self.publisher.close() {
+            Ok(()) => Ok(()),
+            Err(_) => Err(CommandFault::Write),
+        }
+    }
+
+    /// Ends the session after the last message. It sends heartbeats if the session is open, closes it unless it stays
+    /// open, and sends end packets if it is closed. All messages must have been sent.
+    ///
+    /// The fault is `Write`: the closing is not committed, and no end packet is sent.
+    pub fn end(&mut self, lines: &FeedLines<L::Peer>, end: FeedEnd) -> Result<(), CommandFault>
+        requires { self.old.publisher.publisher.sent ≡ length self.old.publisher.publisher.journal.messages }
+        ensures ended { (life : Life) → Publishes S.shows S.may_leave self.old.publisher life → OnOk result
+            (HasEnded S.shows S.may_leave L.modeled L.state lines.now end life self.old self.new) }
+        ensures told { (life : Life) (datagram : List ℕ) → Publishes S.shows S.may_leave self.old.publisher life →
+            IsTrueNow life datagram →
+            LeavesOnly S.moment S.left_since self.old.publisher.durable.storage self.new.publisher.durable.storage
+            (IsTold datagram) }
+        ensures fault { IfErr result (λ fault. fault ≡ CommandFault.Write) }
+    {
+        told_law();
+        self.send_beats(lines, end.beats);
+        match self.close(end.stays_open) {
+            Ok(()) => {
+                self.send_ends(lines, end.ends);
+                Ok(())
+            }
+            Err(fault) => Err(fault),
+        }
     }
 }

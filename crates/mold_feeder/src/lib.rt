@@ -1,7 +1,9 @@
 //! The loop of a publisher that commits each message to a durable journal before it sends it.
 #![tactic(auto)]
 
+mod compared;
 mod comparison;
+mod feed_end;
 mod feed_input;
 mod feed_lines;
 mod feeder;
@@ -11,7 +13,9 @@ mod idle_clock;
 mod pace;
 mod requests;
 
-pub use comparison::{Compared, compare};
+pub use compared::Compared;
+pub use comparison::{compare_all, compare_next};
+pub use feed_end::FeedEnd;
 pub use feed_input::FeedInput;
 pub use feed_lines::{FeedLines, send_often, send_on_lines};
 pub use feeder::Feeder;

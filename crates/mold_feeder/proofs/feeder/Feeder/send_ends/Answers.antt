@@ -1,0 +1,15 @@
+use Rattle.mold_session.specs.Publisher.{next_end}
+use Rattle.mold_feeder.proofs.FeederLemmas.{sent_often}
+use Rattle.mold_feeder.proofs.feeder.Feeder.send_ends.Goals as goal
+
+pub returns-in-Some-clause-sent : goal.returns-in-Some-clause-sent
+returns-in-Some-clause-sent g c =
+    sent_often g.S.Storage.shows g.S.Storage.may_leave g.L.PortSet.modeled g.L.PortSet.state c.args.lines.now
+    (next_end c.args.self.now.publisher.publisher) c.args.times c.in-Some.end.now c.args.self.now (record {
+      publisher = c.end.follows.lender-at-none;
+      ports = c.send_often.new.ports;
+      pace = c.args.self.now.pace;
+      idle = c.args.self.now.idle;
+      datagrams = c.args.self.now.datagrams;
+    }) c.in-Some.ensures.lent c.send_often.ensures.sends c.send_often.ensures.given c.send_often.ensures.clock
+    c.end.follows.holds-at-none c.in-Some.ensures.truth c.in-Some.ensures.told
