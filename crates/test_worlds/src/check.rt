@@ -1,6 +1,7 @@
 //! `check_entries` over entries that the tests make: the printed text of each verdict and refusal, the order of names,
 //! and each write that fails. A folder is a constant, and one function checks each folder.
 
+use crate::world_checks::{holds, holds_at};
 use mold_check::{Entry, check_entries};
 use mold_devices::{CommandFault, MemorySink, Sink};
 use std::alloc::{AllocError, Global};
@@ -64,22 +65,6 @@ fn entries_of(alloc: Global, folder: &Folder) -> Result<Vec<Entry>, AllocError> 
     Ok(entries)
 }
 
-fn same_outcome(
-    rt: &impl Abort,
-    found: Result<u8, CommandFault>,
-    wanted: Result<u8, CommandFault>,
-) {
-    assert!(rt; found == wanted, "another outcome");
-}
-
-fn same_bytes(rt: &impl Abort, found: &[u8], wanted: &[u8]) {
-    assert_eq!(rt; found, wanted);
-}
-
-fn begins_with(rt: &impl Abort, text: &[u8], found: &[u8]) {
-    assert!(rt; text.starts_with(found));
-}
-
 // The fault of a failed allocation: `Write` if it was the sink's.
 fn fault_of(sink: &MemorySink) -> CommandFault {
     if sink.failures() > 0 {
@@ -89,45 +74,37 @@ fn fault_of(sink: &MemorySink) -> CommandFault {
     }
 }
 
-// The whole text was written, or a prefix of it if an allocation failed.
-fn expect_text(
-    rt: &impl Abort,
-    outcome: Result<u8, CommandFault>,
-    sink: &MemorySink,
-    folder: &Folder,
-) {
+// Whether the whole text was written, or a prefix of it if an allocation failed.
+fn is_printed(outcome: Result<u8, CommandFault>, sink: &MemorySink, folder: &Folder) -> bool {
     if outcome.is_ok() {
-        same_outcome(rt, outcome, Ok(folder.status));
-        same_bytes(rt, sink.bytes(), folder.text);
+        outcome == Ok(folder.status) && sink.bytes() == folder.text
     } else {
-        same_outcome(rt, outcome, Err(fault_of(sink)));
-        begins_with(rt, folder.text, sink.bytes());
+        outcome == Err(fault_of(sink)) && folder.text.starts_with(sink.bytes())
     }
 }
 
-fn expect_checked(
+fn expect_entries(
     rt: &(impl Abort + AllocGlobal),
     entries: &[Entry],
     folder: &Folder,
+    (group, at): (&str, usize),
 ) -> Result<u8, CommandFault> {
     let mut sink = MemorySink::new(rt.alloc());
     let outcome = check_entries(rt.alloc(), entries, &mut sink);
-    expect_text(rt, outcome, &sink, folder);
+    holds_at(rt, is_printed(outcome, &sink, folder), group, at);
     outcome
 }
 
 // Checks the folder, and compares the text and the status.
-fn expect(rt: &(impl Abort + AllocGlobal), folder: &Folder) -> Result<(), Fail> {
-    let entries = entries_of(rt.alloc(), folder)?;
-    expect_checked(rt, entries.as_slice(), folder)?;
-    Ok(())
-}
-
-fn expect_all(rt: &(impl Abort + AllocGlobal), folders: &[Folder]) -> Result<(), Fail> {
-    for folder in folders {
-        expect(rt, folder)?;
+fn expect(
+    rt: &(impl Abort + AllocGlobal),
+    folder: &Folder,
+    at: (&str, usize),
+) -> Result<u8, CommandFault> {
+    match entries_of(rt.alloc(), folder) {
+        Ok(entries) => expect_entries(rt, entries.as_slice(), folder, at),
+        Err(AllocError) => Err(CommandFault::Memory),
     }
-    Ok(())
 }
 
 const EXAMPLES: &[Folder] = &[
@@ -148,11 +125,6 @@ const EXAMPLES: &[Folder] = &[
         status: 2,
     },
 ];
-
-#[test]
-fn check_folders(rt: HostRuntime) -> Result<(), Fail> {
-    expect_all(&rt, EXAMPLES)
-}
 
 const VERDICTS: &[Folder] = &[
     Folder {
@@ -176,11 +148,6 @@ const VERDICTS: &[Folder] = &[
         status: 0,
     },
 ];
-
-#[test]
-fn each_verdict_is_printed(rt: HostRuntime) -> Result<(), Fail> {
-    expect_all(&rt, VERDICTS)
-}
 
 const REFUSALS: &[Folder] = &[
     Folder {
@@ -215,11 +182,6 @@ const REFUSALS: &[Folder] = &[
     },
 ];
 
-#[test]
-fn each_refusal_is_printed_by_its_name(rt: HostRuntime) -> Result<(), Fail> {
-    expect_all(&rt, REFUSALS)
-}
-
 // Names are ordered by their bytes, in any order of the entries. The end of a name is compared by its bytes too.
 const NAMES: &[Folder] = &[
     Folder {
@@ -249,11 +211,6 @@ const NAMES: &[Folder] = &[
     },
 ];
 
-#[test]
-fn datagrams_are_taken_by_their_names(rt: HostRuntime) -> Result<(), Fail> {
-    expect_all(&rt, NAMES)
-}
-
 const REFUSED: Folder = Folder {
     files: &[("b.pkt", TWO_Y), ("c.txt", b""), ("a.pkt", TWO_X)],
     text: b"files 2 skipped 1\nrefused b.pkt Conflict 2\n",
@@ -272,6 +229,24 @@ const WHOLE: Folder = Folder {
     status: 0,
 };
 
+/// Folders of the example `check-folders`, verdicts, refusals by their names, and names of files.
+const GROUPS: &[(&str, &[Folder])] = &[
+    ("check-folders", EXAMPLES),
+    ("verdicts", VERDICTS),
+    ("refusals", REFUSALS),
+    ("names", NAMES),
+];
+
+#[test]
+fn folders_are_checked(rt: HostRuntime) -> Result<(), Fail> {
+    for (group, folders) in GROUPS {
+        for (i, folder) in folders.iter().enumerate() {
+            expect(&rt, folder, (group, i))?;
+        }
+    }
+    Ok(())
+}
+
 // The write of this number, of one byte, fails. What was written before it stays.
 fn expect_write_fault(
     rt: &(impl Abort + AllocGlobal),
@@ -283,13 +258,14 @@ fn expect_write_fault(
     sink.at_most(1);
     sink.fail_at(call as u64);
     let outcome = check_entries(rt.alloc(), entries, &mut sink);
-    same_outcome(rt, outcome, Err(CommandFault::Write));
-    same_bytes(
+    let is_prefix = sink.bytes().len() + 1 == call && text.starts_with(sink.bytes());
+    holds_at(
         rt,
-        sink.bytes(),
-        text.get(..call.saturating_sub(1)).unwrap_or(text),
+        outcome == Err(CommandFault::Write) && is_prefix,
+        "write",
+        call,
     );
-    assert!(rt; sink.failures() == 1);
+    holds(rt, sink.failures() == 1);
 }
 
 fn expect_write_faults(rt: &(impl Abort + AllocGlobal), folder: &Folder) -> Result<(), Fail> {
@@ -302,34 +278,17 @@ fn expect_write_faults(rt: &(impl Abort + AllocGlobal), folder: &Folder) -> Resu
 
 #[test]
 fn each_write_that_fails_leaves_a_prefix(rt: HostRuntime) -> Result<(), Fail> {
-    for folder in &[REFUSED, INCOMPLETE] {
-        expect_write_faults(&rt, folder)?;
+    expect_write_faults(&rt, &REFUSED)?;
+    expect_write_faults(&rt, &INCOMPLETE)
+}
+
+// A folder is checked once more if an allocation failed. `tests/out-of-memory` makes each allocation fail in turn.
+#[test]
+fn out_of_memory_leaves_a_prefix(rt: HostRuntime) -> Result<(), Fail> {
+    for folder in &[REFUSED, INCOMPLETE, WHOLE] {
+        if expect(&rt, folder, ("out of memory", 0)).is_err() {
+            expect(&rt, folder, ("again", 0))?;
+        }
     }
     Ok(())
-}
-
-// Checks the folder, once more if an allocation failed.
-fn expect_again(rt: &(impl Abort + AllocGlobal), folder: &Folder) -> Result<(), Fail> {
-    let entries = entries_of(rt.alloc(), folder)?;
-    if expect_checked(rt, entries.as_slice(), folder).is_err() {
-        expect_checked(rt, entries.as_slice(), folder)?;
-    }
-    Ok(())
-}
-
-// `tests/out-of-memory` makes each allocation of these tests fail in turn.
-
-#[test]
-fn out_of_memory_leaves_a_prefix_of_a_refusal(rt: HostRuntime) -> Result<(), Fail> {
-    expect_again(&rt, &REFUSED)
-}
-
-#[test]
-fn out_of_memory_leaves_a_prefix_of_ranges(rt: HostRuntime) -> Result<(), Fail> {
-    expect_again(&rt, &INCOMPLETE)
-}
-
-#[test]
-fn out_of_memory_leaves_a_prefix_of_whole(rt: HostRuntime) -> Result<(), Fail> {
-    expect_again(&rt, &WHOLE)
 }

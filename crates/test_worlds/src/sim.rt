@@ -1,6 +1,7 @@
 //! `run_lines` with a `Sim`: the texts of whole scripts, lines of another form, and each read and write that fails. A
 //! script is a constant, and one function runs each script.
 
+use crate::world_checks::{holds, holds_at};
 use mold_devices::{CommandFault, MemorySink, MemorySource, Sink, Source, run_lines};
 use mold_sim::Sim;
 use mold_wire::Session;
@@ -8,9 +9,11 @@ use std::alloc::AllocError;
 use std::process::Abort;
 use std::test::Fail;
 
-/// A script, the most responses to a request and the number of receivers, and what the script prints and returns.
+/// A script with its name, the most responses to a request and the number of receivers, and what the script prints and
+/// returns.
 #[derive(Clone, Copy)]
 struct Script {
+    name: &'static str,
     burst: u16,
     receivers: usize,
     input: &'static [u8],
@@ -34,54 +37,36 @@ fn new_sim(rt: &(impl Abort + AllocGlobal), script: &Script) -> Result<Sim, Allo
         receivers,
         ..
     } = *script;
-    assert!(rt; burst >= 1 && burst <= 64);
-    assert!(rt; receivers >= 1 && receivers <= 8);
+    holds(rt, burst >= 1);
+    holds(rt, burst <= 64);
+    holds(rt, receivers >= 1);
+    holds(rt, receivers <= 8);
     let session = Session(*b"SESSION001");
     Sim::new(rt.alloc(), session, 64, 64, burst, 4, receivers)
 }
 
-fn same_number(rt: &impl Abort, found: u64, wanted: u64, at: u64) {
-    assert_eq!(rt; found, wanted, "at {at}");
-}
-
-fn begins_with(rt: &impl Abort, text: &[u8], found: &[u8], at: u64) {
-    assert!(rt; text.starts_with(found), "at {at}");
-}
-
-fn same_outcome(
-    rt: &impl Abort,
-    found: Result<u8, CommandFault>,
-    wanted: Result<u8, CommandFault>,
-    at: u64,
-) {
-    assert!(rt; found == wanted, "another outcome at {at}");
-}
-
 // After a failed read a prefix of the text was written, after the failed write k the first k - 1 bytes, and otherwise
 // the whole text.
-fn expect_outcome(
-    rt: &impl Abort,
+fn is_outcome(
     script: &Script,
     devices: Devices,
     outcome: Result<u8, CommandFault>,
     written: &[u8],
-) {
-    let (read, write) = (devices.read_fails, devices.write_fails);
+) -> bool {
     let len = written.len() as u64;
-    begins_with(rt, script.text, written, read.max(write));
-    if read > 0 {
-        same_outcome(rt, outcome, Err(CommandFault::Read), read);
-    } else if write > 0 {
-        same_outcome(rt, outcome, Err(CommandFault::Write), write);
-        same_number(rt, len.saturating_add(1), write, write);
+    if !script.text.starts_with(written) {
+        false
+    } else if devices.read_fails > 0 {
+        outcome == Err(CommandFault::Read)
+    } else if devices.write_fails > 0 {
+        outcome == Err(CommandFault::Write) && len.saturating_add(1) == devices.write_fails
     } else {
-        same_outcome(rt, outcome, Ok(script.status), 0);
-        same_number(rt, len, script.text.len() as u64, 0);
+        outcome == Ok(script.status) && len == script.text.len() as u64
     }
 }
 
 fn expect_run(rt: &(impl Abort + AllocGlobal), sim: &mut Sim, script: &Script, devices: Devices) {
-    assert!(rt; devices.most > 0);
+    holds(rt, devices.most > 0);
     let mut source = MemorySource::new(script.input);
     source.at_most(devices.most);
     source.fail_at(devices.read_fails);
@@ -89,13 +74,14 @@ fn expect_run(rt: &(impl Abort + AllocGlobal), sim: &mut Sim, script: &Script, d
     sink.at_most(devices.most);
     sink.fail_at(devices.write_fails);
     let outcome = run_lines(rt.alloc(), sim, &mut source, &mut sink);
-    expect_outcome(rt, script, devices, outcome, sink.bytes());
-    same_number(
+    let at = devices.read_fails.max(devices.write_fails) as usize;
+    holds_at(
         rt,
-        source.failures(),
-        devices.read_fails.min(1),
-        devices.read_fails,
+        is_outcome(script, devices, outcome, sink.bytes()),
+        script.name,
+        at,
     );
+    holds(rt, source.failures() == devices.read_fails.min(1));
 }
 
 // Runs the script with these devices, and compares the outcome and the text.
@@ -120,11 +106,6 @@ const BY_BYTES: Devices = Devices {
     read_fails: 0,
     write_fails: 0,
 };
-
-fn expect(rt: &(impl Abort + AllocGlobal), script: &Script) -> Result<(), Fail> {
-    expect_with(rt, script, IN_LARGE_PIECES)?;
-    expect_with(rt, script, BY_BYTES)
-}
 
 const INPUT: &[u8] = b"heartbeat
 ask 0
@@ -164,6 +145,7 @@ receiver 0 next 2 known 2 book 1 open
 ";
 
 const ONE_RECEIVER: Script = Script {
+    name: "one receiver",
     burst: 1,
     receivers: 1,
     input: INPUT,
@@ -171,12 +153,8 @@ const ONE_RECEIVER: Script = Script {
     status: 2,
 };
 
-#[test]
-fn sim_one_receiver(rt: HostRuntime) -> Result<(), Fail> {
-    expect(&rt, &ONE_RECEIVER)
-}
-
 const END_BEFORE_A_MESSAGE: Script = Script {
+    name: "an end while a message is missing",
     burst: 1,
     receivers: 2,
     input: b"publish 41\ndatagram\npublish 42\ndatagram\nclose\nend\ndeliver 0 a 0\ndeliver 0 a 2",
@@ -194,12 +172,8 @@ receiver 1 next 1 known 1 book 0 open
     status: 0,
 };
 
-#[test]
-fn an_end_while_a_message_is_missing(rt: HostRuntime) -> Result<(), Fail> {
-    expect(&rt, &END_BEFORE_A_MESSAGE)
-}
-
 const BURSTS: Script = Script {
+    name: "bursts",
     burst: 3,
     receivers: 1,
     input: b"publish 0101010101010101010101010101010101010101
@@ -234,13 +208,9 @@ receiver 0 next 1 known 6 book 0 open
     status: 0,
 };
 
-#[test]
-fn answers_in_bursts(rt: HostRuntime) -> Result<(), Fail> {
-    expect(&rt, &BURSTS)
-}
-
 // A message of 43 bytes, and two requests that are refused.
 const REFUSALS: Script = Script {
+    name: "refusals of publisher and server",
     input: b"publish \
 fFfFfFfFfFfFfFfFfFfFfFfFfFfFfFfFfFfFfFfFfFfFfFfFfFfFfFfFfFfFfFfFfFfFfFfFfFfFfFfFfFfFfF
 request 00
@@ -254,12 +224,8 @@ receiver 0 next 1 known 1 book 0 open
     ..ONE_RECEIVER
 };
 
-#[test]
-fn refusals_of_publisher_and_server(rt: HostRuntime) -> Result<(), Fail> {
-    expect(&rt, &REFUSALS)
-}
-
 const NOISE: Script = Script {
+    name: "noise is not a refused line",
     input: b"noise 0 answer -\n\nnoise 0 b 53455353494f4e3030320000000000000003ffff00\n",
     text: b"noise Malformed Short 0
 noise Malformed Trailing 20
@@ -269,24 +235,16 @@ receiver 0 next 1 known 1 book 0 open
     ..ONE_RECEIVER
 };
 
-#[test]
-fn noise_is_not_a_refused_line(rt: HostRuntime) -> Result<(), Fail> {
-    expect(&rt, &NOISE)
-}
-
 const EMPTY: Script = Script {
+    name: "an empty script",
     input: b"",
     text: b"receiver 0 next 1 known 1 book 0 open\n",
     status: 0,
     ..ONE_RECEIVER
 };
 
-#[test]
-fn an_empty_script_prints_its_receivers(rt: HostRuntime) -> Result<(), Fail> {
-    expect(&rt, &EMPTY)
-}
-
 const TWENTY_DIGITS: Script = Script {
+    name: "numbers of twenty digits",
     input: b"restart 00 00000000000000000001
 ask 18446744073709551615
 deliver 00000000000000000000 a 18446744073709551615
@@ -301,9 +259,24 @@ receiver 0 next 1 known 1 book 0 open
     ..ONE_RECEIVER
 };
 
+/// Scripts that are run in large pieces and one byte a call.
+const SCRIPTS: &[Script] = &[
+    ONE_RECEIVER,
+    END_BEFORE_A_MESSAGE,
+    BURSTS,
+    REFUSALS,
+    NOISE,
+    EMPTY,
+    TWENTY_DIGITS,
+];
+
 #[test]
-fn numbers_of_twenty_digits(rt: HostRuntime) -> Result<(), Fail> {
-    expect(&rt, &TWENTY_DIGITS)
+fn scripts_print_their_texts(rt: HostRuntime) -> Result<(), Fail> {
+    for script in SCRIPTS {
+        expect_with(&rt, script, IN_LARGE_PIECES)?;
+        expect_with(&rt, script, BY_BYTES)?;
+    }
+    Ok(())
 }
 
 // Each of these lines is refused.
@@ -341,11 +314,12 @@ const OTHER_LINES: [&[u8]; 27] = [
 fn lines_of_another_form(rt: HostRuntime) -> Result<(), Fail> {
     for line in OTHER_LINES {
         let script = Script {
+            name: "a line of another form",
             input: line,
             text: b"refused Syntax\nreceiver 0 next 1 known 1 book 0 open\n",
             ..ONE_RECEIVER
         };
-        expect(&rt, &script)?;
+        expect_with(&rt, &script, BY_BYTES)?;
     }
     Ok(())
 }

@@ -166,59 +166,33 @@ fn tell_once(rt: &(impl Abort + AllocGlobal), story: Story) -> Result<(), WorldE
     expect_story(rt, &mut world, story)
 }
 
-/// `sim-two-receivers`
+/// The bursts of worlds, the windows of their receivers, and what is done with them: `sim-two-receivers`; refused
+/// events, and values that a world does not have; five messages that are delivered one event at a time, and by one run;
+/// a request with two responses, which a burst of three allows; and a run that skips events that are refused.
+const STORIES: &[(u16, &[u32], Story)] = &[
+    (1, &[4, 4], Story::TwoReceivers),
+    (1, &[4], Story::NotThere),
+    (1, &[4, 1], Story::EventByEvent),
+    (1, &[4, 1], Story::OneRun),
+    (3, &[4], Story::Burst),
+    (1, &[4, 4], Story::Skipped),
+];
+
 #[test]
-fn two_receivers(rt: HostRuntime) -> Result<(), Fail> {
-    tell(&rt, 1, &[4, 4], Story::TwoReceivers)?;
+fn out_of_memory_changes_nothing(rt: HostRuntime) -> Result<(), Fail> {
+    for (burst, windows, story) in STORIES {
+        tell(&rt, *burst, windows, *story)?;
+    }
     Ok(())
 }
 
-/// Refused events, and values that a world does not have.
-#[test]
-fn what_is_not_there(rt: HostRuntime) -> Result<(), Fail> {
-    tell(&rt, 1, &[4], Story::NotThere)?;
-    Ok(())
-}
-
-/// Five messages are delivered to two receivers, one event at a time.
-#[test]
-fn five_messages_event_by_event(rt: HostRuntime) -> Result<(), Fail> {
-    tell(&rt, 1, &[4, 1], Story::EventByEvent)?;
-    Ok(())
-}
-
-/// The same by one run: books, standings and reports are the same.
-#[test]
-fn five_messages_in_one_run(rt: HostRuntime) -> Result<(), Fail> {
-    tell(&rt, 1, &[4, 1], Story::OneRun)?;
-    Ok(())
-}
-
-/// The request gets two responses, which a burst of three allows.
-#[test]
-fn a_burst_is_sent_whole_or_not_at_all(rt: HostRuntime) -> Result<(), Fail> {
-    tell(&rt, 3, &[4], Story::Burst)?;
-    Ok(())
-}
-
-/// A run skips events that are refused, unless an allocation failed.
-#[test]
-fn a_run_skips_what_is_refused(rt: HostRuntime) -> Result<(), Fail> {
-    tell(&rt, 1, &[4, 4], Story::Skipped)?;
-    Ok(())
-}
-
-/// These events and all reads of a world allocate nothing.
+/// These events and all reads of a world allocate nothing. Nor does a close that is refused because a message was not
+/// sent yet.
 #[test]
 fn no_allocation_of_close_and_noise(rt: HostRuntime) -> Result<(), Fail> {
-    tell_once(&rt, Story::CloseAndNoise)?;
-    Ok(())
-}
-
-/// Nor does a close that is refused because a message was not sent yet.
-#[test]
-fn no_allocation_of_a_refused_close(rt: HostRuntime) -> Result<(), Fail> {
-    tell_once(&rt, Story::RefusedClose)?;
+    for story in [Story::CloseAndNoise, Story::RefusedClose] {
+        tell_once(&rt, story)?;
+    }
     Ok(())
 }
 
@@ -255,7 +229,7 @@ fn expect_made(
 
 /// The first refusal is returned: of a limit before that of the burst, and that before the first invalid window.
 #[test]
-fn worlds_are_refused_in_order(rt: HostRuntime) {
+fn out_of_memory_makes_no_world(rt: HostRuntime) {
     for (limit, server_limit, burst, window, want) in &REFUSED {
         let limits = (*limit, *server_limit, *burst);
         expect_made(&rt, limits, &[1, *window, 0], Some(*want));

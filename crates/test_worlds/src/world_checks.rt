@@ -1,6 +1,8 @@
 //! The comparisons of the tests of a world. If an allocation fails, they check that nothing changed, and make the call
 //! once more.
 
+ghost use Rattle.std.specs.Prelude.{IsTrue};
+
 use crate::world_constants::{Answer, FIVE, MESSAGES, SESSION, SESSION_LENGTH, Standing};
 use mold_receiver::{Line, LineReport};
 use mold_world::{Event, Stopped, World, WorldError};
@@ -81,13 +83,20 @@ pub fn same_counts(rt: &impl Abort, found: Counts, wanted: Counts) {
 }
 
 /// Fails if a fact does not hold.
-pub fn holds(rt: &impl Abort, fact: bool) {
+pub fn holds(rt: &impl Abort, fact: bool)
+    ensures { IsTrue fact }
+{
     assert!(rt; fact);
+}
+
+/// Fails if the case or the step of this index is not as it states.
+pub fn holds_at(rt: &impl Abort, fact: bool, name: &str, at: usize) {
+    assert!(rt; fact, "{name} {at}");
 }
 
 /// Fails if two sizes differ.
 pub fn same_size(rt: &impl Abort, found: usize, wanted: usize) {
-    assert_eq!(rt; found, wanted);
+    assert!(rt; found == wanted);
 }
 
 /// Fails if the bytes differ.
@@ -259,12 +268,12 @@ pub fn run_again<'w, 'd>(
 
 /// The receiver has this standing.
 pub fn expect_receiver(rt: &impl Abort, world: &World, r: usize, want: Standing) {
-    assert!(rt; standing_of(world, r) == Some(want), "receiver {r}");
+    holds_at(rt, standing_of(world, r) == Some(want), "receiver", r);
 }
 
 /// The datagrams of a line that were accepted and that were refused, and the line's front.
 pub fn expect_report(rt: &impl Abort, world: &World, r: usize, line: Line, want: (u64, u64, u64)) {
-    assert!(rt; counts_of(world, r, line) == Some(want), "receiver {r}");
+    holds_at(rt, counts_of(world, r, line) == Some(want), "receiver", r);
 }
 
 /// The book has the five messages, from sequence number 1 on.
