@@ -39,7 +39,8 @@ pub record HasAppended {S : Type 0} (shows may_leave : S → List ℕ → Type 0
       Lives shows may_leave new (committed_life life done new.waiting)
   pub leaves : LeavesParts shows may_leave moment left_since old new messages
 
--- A prefix of the messages was appended, in order. Then all was well, or a write of the journal failed.
+-- A prefix of the messages was appended, in order. Or a write failed, and the journal is broken. In both cases, a crash
+-- leaves a prefix of them.
 pub record HasAppendedSome {S : Type 0} (shows may_leave : S → List ℕ → Type 0) (moment : S → ℕ)
     (left_since : S → ℕ → List ℕ → Type 0) (old new : DurableState S) (messages : List (List ℕ)) : Type 0 where
   pub front : List (List ℕ)

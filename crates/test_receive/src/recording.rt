@@ -3,10 +3,11 @@
 
 ghost use Rattle.std.specs.Prelude.{◌≡◌, [], false};
 
-use crate::parts::{DATA_2, OPTIONS, SERVER, SESSION, add, expect_text, line, options, parts_of};
+use crate::parts::{DATA_2, OPTIONS, SERVER, SESSION, add, expect_text, line, options};
 use mold_devices::MemorySink;
 use mold_durable::{DurableJournal, MemoryStorage};
 use mold_port_set::{MemoryPortSet, PortSetStep};
+use mold_receive::ReceiveParts;
 use mold_receiver::Arbiter;
 use mold_recorder::{receiver_of, record_loop};
 use mold_repair::Repairer;
@@ -38,7 +39,11 @@ fn record(
     let mut servers = Vec::new(alloc);
     servers.push(SERVER)?;
     let options = options(servers, false)?.with_quiet(1);
-    let parts = parts_of(MemoryPortSet::new(alloc, script)?, repairer);
+    let parts = ReceiveParts {
+        ports: MemoryPortSet::new(alloc, script)?,
+        repairer,
+        first: None,
+    };
     Ok(record_loop(alloc, parts, &options, journal, errors)?.status)
 }
 
