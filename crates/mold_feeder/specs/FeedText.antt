@@ -1,0 +1,30 @@
+-- The lines that a publisher over ports prints.
+use Rattle.std.specs.Prelude.{ℕ, List, [], ◌∷◌, codes, decimal}
+use Rattle.mold_input.specs.declared.input_kind.InputKind.{InputKind}
+use Rattle.mold_publish.specs.Publishing.{entry_word, refused_text}
+use Rattle.mold_text.specs.Line.{line_of}
+use Rattle.mold_text.specs.Text.{refused_line}
+use Rattle.mold_feeder.specs.declared.compared.Compared.{Compared}
+use Rattle.mold_feeder.specs.declared.compared.Compared.TheVariants.{Same, Differs, Refused, End}
+
+-- The first line of a session that is resumed: the number of messages that its journal has.
+abbrev pub resumed_line : ℕ → List ℕ
+resumed_line messages = line_of (codes "resumed" ∷ decimal messages ∷ [])
+
+-- The last line: the number of the session's messages, and of the data packets, responses and failures of this process.
+abbrev pub fed_line : ℕ → ℕ → ℕ → ℕ → List ℕ
+fed_line messages datagrams answered failed = line_of
+    (codes "published" ∷ decimal messages ∷ codes "datagrams" ∷ decimal datagrams
+    ∷ codes "answered" ∷ decimal answered ∷ codes "failed" ∷ decimal failed ∷ [])
+
+-- The line of a refusal that has a name only.
+abbrev pub named_line : InputKind → ℕ → List ℕ → List ℕ
+named_line kind number name = refused_line (entry_word kind ∷ decimal number ∷ name ∷ [])
+
+-- The line for the entry of this number after an input was compared with the journal. There is none for an entry that
+-- is the same message.
+abbrev pub compared_text : InputKind → ℕ → Compared → List ℕ
+compared_text kind number Same = []
+compared_text kind number Differs = named_line kind number (codes "Differs")
+compared_text kind number (Refused why) = refused_text number (record { kind = kind; why = why })
+compared_text kind number End = named_line kind number (codes "Missing")
