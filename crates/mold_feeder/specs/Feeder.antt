@@ -16,7 +16,8 @@ use Rattle.mold_input.specs.Entries.{Entry, InputEntries, known_input}
 use Rattle.mold_input.specs.declared.input_kind.InputKind.{InputKind}
 use Rattle.mold_feeder.specs.FeedLines.{SendsOn, datagram_of, repeated}
 use Rattle.mold_feeder.specs.Gathering.{TakesGroup}
-use Rattle.mold_feeder.specs.Pace.{group_of}
+use Rattle.mold_feeder.specs.IdleClock.{due_after}
+use Rattle.mold_feeder.specs.Pace.{IsPaced, group_of}
 use Rattle.mold_feeder.specs.declared.gathered.Gathered.{Gathered}
 use Rattle.mold_feeder.specs.declared.feed_end.FeedEnd.{FeedEnd}
 use Rattle.mold_feeder.specs.declared.feed_input.FeedInput.{FeedInput}
@@ -50,6 +51,15 @@ pub record HasSent {S L P : Type 0} (shows may_leave : S → List ℕ → Type 0
       AreTold may_leave new.publisher life datagrams
   pub publishes : (life : Life) → Publishes shows may_leave old.publisher life →
       Publishes shows may_leave new.publisher life
+
+-- The number of the publisher's messages that were not put into a datagram yet.
+abbrev pub unsent_count : {S : Type 0} → DurablePublisher S → ℕ
+unsent_count publisher = length publisher.publisher.journal.messages - publisher.publisher.sent
+
+-- A data packet was sent at this time. It delays the next one by its messages, and the next heartbeat.
+pub record HasPaced {S L : Type 0} (time : ℕ) (old new : Feeder S L) : Type 0 where
+  pub pace : IsPaced old.pace time (unsent_count old.publisher - unsent_count new.publisher) new.pace
+  pub idle : new.idle ≡ record old.idle { due = due_after old.idle.idle time }
 
 -- What a publisher over ports sends at this time. If a committed message is unsent and the pace allows it, that is the
 -- next data packet. Otherwise it is a heartbeat or an end packet if one is due.

@@ -10,8 +10,8 @@ ghost use Rattle.mold_durable_publisher.specs.Told.{IsTold, IsTrueNow};
 ghost use Rattle.mold_devices.specs.declared.fault.CommandFault.{CommandFault};
 ghost use Rattle.mold_feeder.specs.FeedLines.{datagram_of, repeated};
 ghost use Rattle.mold_session.specs.Publisher.{closed, next_end, next_heartbeat};
-ghost use Rattle.mold_feeder.specs.Feeder.{HasEnded, HasSent, HasTurned, TakesSome, entries_left, next_beat};
-ghost use Rattle.mold_feeder.specs.Feeder.{sends_at, takes_input};
+ghost use Rattle.mold_feeder.specs.Feeder.{HasEnded, HasPaced, HasSent, HasTurned, TakesSome, entries_left};
+ghost use Rattle.mold_feeder.specs.Feeder.{next_beat, sends_at, takes_input};
 ghost use Rattle.mold_feeder.specs.Requests.{RepliesTo, sent_journal};
 ghost use Rattle.mold_ports.specs.Ports.{cut, next_of, received};
 ghost use Rattle.mold_wire.specs.declared.limits.TheConstants.{MAX_LIMIT};
@@ -55,6 +55,7 @@ impl<S: Storage + Drop, L: PortSet + Drop> Feeder<S, L> {
             (datagram_of (next_committed self.old.publisher)) self.old self.new }
         ensures some { result ≡ is_some (next_committed self.old.publisher) }
         ensures publisher { self.new.publisher ≡ after_committed self.old.publisher }
+        ensures paced { result ≡ true → HasPaced (L.state self.old.ports).now self.old self.new }
         ensures same { result ≡ false → self.new ≡ self.old }
     {
         let unsent = self.publisher.unsent();
@@ -94,6 +95,7 @@ impl<S: Storage + Drop, L: PortSet + Drop> Feeder<S, L> {
         ensures some { result ≡ (is_some (next_committed self.old.publisher)
             && nat_le self.old.pace.opens (L.state self.old.ports).now) }
         ensures publisher { result ≡ true → self.new.publisher ≡ after_committed self.old.publisher }
+        ensures paced { result ≡ true → HasPaced (L.state self.old.ports).now self.old self.new }
         ensures same { result ≡ false → self.new ≡ self.old }
     {
         if !self.pace.is_open(self.ports.now()) {
@@ -107,6 +109,9 @@ impl<S: Storage + Drop, L: PortSet + Drop> Feeder<S, L> {
     pub fn send_due(&mut self, lines: &FeedLines<L::Peer>)
         ensures sent { HasSent S.shows S.may_leave L.modeled L.state lines.now
             (sends_at (L.state self.old.ports).now self.old) self.old self.new }
+        ensures paced { (is_some (next_committed self.old.publisher)
+            && nat_le self.old.pace.opens (L.state self.old.ports).now) ≡ true →
+            HasPaced (L.state self.old.ports).now self.old self.new }
     {
         if self.send_paced(lines) {
             return;
