@@ -6,9 +6,12 @@ ghost use Rattle.mold_commands.specs.Command.{IsStreamed};
 use mold_commands::{
     DumpOptions, check_folder, dump_file, run_command, run_pack_journal, run_upgrade,
 };
-use mold_devices::{CommandFault, FromRead, IntoWrite, NewFile};
+use mold_devices::{CommandFault, FromRead, IntoWrite};
 use mold_loop::run_loop;
-use mold_sockets::{run_follow_dump, run_listen, run_publish, run_receive, run_record, run_serve};
+use mold_sockets::{
+    open_replaced, run_follow_dump, run_listen, run_publish, run_receive, run_record, run_serve,
+    unless_locked,
+};
 use mold_wiring::{ProgramFault, exit_code, flushed, print_fault};
 use mold_words::{DumpOrder, Order, PackJournalOrder, UpgradeOrder, UsageFault, read_words};
 use std::fs::File;
@@ -69,9 +72,9 @@ fn run_streamed(rt: &HostRuntime, order: &Order) -> Result<u8, CommandFault>
 }
 
 // Saves the messages on standard input as a journal. Its file is created at its first write.
-fn pack_file(rt: &HostRuntime, order: &PackJournalOrder) -> Result<u8, CommandFault> {
+fn pack_file(rt: &HostRuntime, order: &PackJournalOrder) -> Result<u8, ProgramFault> {
+    let mut journal = open_replaced(rt, order.journal.as_str())?;
     let mut source = FromRead::new(rt.stdin());
-    let mut journal = IntoWrite::new(NewFile::new(rt, order.journal.as_str()));
     let mut sink = IntoWrite::new(rt.stdout());
     let outcome = run_pack_journal(
         rt.alloc(),
@@ -80,7 +83,7 @@ fn pack_file(rt: &HostRuntime, order: &PackJournalOrder) -> Result<u8, CommandFa
         &mut journal,
         &mut sink,
     );
-    flushed(outcome, sink.into_inner().flush())
+    unless_locked(flushed(outcome, sink.into_inner().flush()), journal)
 }
 
 // Checks the folder, and flushes standard output once.
@@ -91,12 +94,12 @@ fn run_check(rt: &HostRuntime, folder: &str) -> Result<u8, CommandFault> {
 }
 
 // Upgrades a journal file. The new file is created when something is written to it.
-fn upgrade_files(rt: &HostRuntime, order: &UpgradeOrder) -> Result<u8, CommandFault> {
+fn upgrade_files(rt: &HostRuntime, order: &UpgradeOrder) -> Result<u8, ProgramFault> {
     let Ok(file) = File::open(rt, order.journal.as_str()) else {
-        return Err(CommandFault::Read);
+        return Err(ProgramFault::Command(CommandFault::Read));
     };
     let mut source = FromRead::new(file);
-    let mut journal = IntoWrite::new(NewFile::new(rt, order.to.as_str()));
+    let mut journal = open_replaced(rt, order.to.as_str())?;
     let mut sink = IntoWrite::new(rt.stdout());
     let outcome = run_upgrade(
         rt.alloc(),
@@ -105,7 +108,7 @@ fn upgrade_files(rt: &HostRuntime, order: &UpgradeOrder) -> Result<u8, CommandFa
         order.close,
         &mut sink,
     );
-    flushed(outcome, sink.into_inner().flush())
+    unless_locked(flushed(outcome, sink.into_inner().flush()), journal)
 }
 
 // Prints the messages of a journal file to standard output, which is flushed once. If these are blocks, a refusal goes
@@ -135,7 +138,7 @@ fn run(rt: &HostRuntime, order: &Order) -> Result<u8, ProgramFault> {
     match order {
         Order::Show { request: _ } => Ok(run_streamed(rt, order)?),
         Order::Pack(_) => Ok(run_streamed(rt, order)?),
-        Order::PackJournal(order) => Ok(pack_file(rt, order)?),
+        Order::PackJournal(order) => pack_file(rt, order),
         Order::Sim(_) => Ok(run_streamed(rt, order)?),
         Order::Check { folder } => Ok(run_check(rt, folder.as_str())?),
         Order::CheckLines => Ok(run_streamed(rt, order)?),
@@ -145,7 +148,7 @@ fn run(rt: &HostRuntime, order: &Order) -> Result<u8, ProgramFault> {
         Order::Receive(order) => run_receive(rt, order),
         Order::Record(order) => run_record(rt, order),
         Order::Loop(order) => run_loop(rt, order),
-        Order::Upgrade(files) => Ok(upgrade_files(rt, files)?),
+        Order::Upgrade(files) => upgrade_files(rt, files),
         Order::Dump(order) => Ok(run_dump(rt, order)?),
     }
 }

@@ -1,5 +1,5 @@
 -- What sources and sinks of bytes do: the definitions that their contracts share.
-use Rattle.std.specs.Prelude.{◌≡◌, ℕ, ◌+◌, Bool, List, ◌++◌, Option, None, Some, Result, MatchResult}
+use Rattle.std.specs.Prelude.{◌≡◌, ℕ, ◌+◌, Bool, List, ◌++◌, Option, Result, MatchResult}
 use Rattle.std.specs.Io.Iter.{u64_saturate}
 use Rattle.std.specs.Io.KnownBytes.{Appends}
 
@@ -33,12 +33,6 @@ pub record WriterState (W : Type 0) : Type 0 where
   pub failures : ℕ
   -- Whether text is written to it as soon as it is available.
   pub live : Bool
-
--- The bytes of a file, if they are known. They are not known if the file is not created yet or does not
--- expose its bytes.
-abbrev pub held_by : {F : Type 0} → (F → Option (List ℕ)) → Option F → Option (List ℕ)
-held_by held None = None
-held_by held (Some file) = held file
 
 -- The model of a source in memory.
 pub record MemoryLeft : Type 0 where

@@ -100,7 +100,7 @@ fn emptied(file: File) -> Result<FileStorage, JournalFileError> {
 
 // Opens the file at `path` for reading and writing, and locks it. If `creates` is set, a file that does not exist is
 // created; otherwise `None` is returned for it.
-fn lock_file(
+pub(crate) fn lock_file(
     rt: &HostRuntime,
     path: &str,
     creates: bool,

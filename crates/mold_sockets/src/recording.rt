@@ -3,11 +3,10 @@
 ghost use Rattle.std.specs.Prelude.{◌≡◌, [], false};
 
 use crate::receiving::{open_ports, open_session, receive_options, start_of};
+use crate::replacing::fault_of;
 use crate::unsynced_file::UnsyncedFile;
 use mold_devices::{CommandFault, IntoWrite, write_all};
-use mold_durable::{
-    DurableJournal, JournalFileError, OpenError, Storage, create_file, open_file, sync_folder,
-};
+use mold_durable::{DurableJournal, OpenError, Storage, create_file, open_file, sync_folder};
 use mold_follow::{device_fault, load_error};
 use mold_port_set::{PortSet, UdpPortSet};
 use mold_receive::{FirstPacket, Opened, ReceiveOptions, ReceiveParts, Unopened, end_unopened};
@@ -37,15 +36,6 @@ struct Recording<S> {
     ports: UdpPortSet,
     // A packet that the ports gave before, and that is taken first.
     first: Option<FirstPacket>,
-}
-
-// Returns the fault of the program for an error of the journal file.
-fn fault_of(error: JournalFileError) -> ProgramFault {
-    match error {
-        JournalFileError::Locked => ProgramFault::Locked,
-        JournalFileError::Write => ProgramFault::Command(CommandFault::Write),
-        JournalFileError::Memory => ProgramFault::Command(CommandFault::Memory),
-    }
 }
 
 // Prints a line of words on standard error.

@@ -7,8 +7,10 @@ ghost use Rattle.mold_wiring.specs.Addresses.{IsSocketOf};
 
 use crate::following::{open_served, serve_followed};
 use crate::options::{listen_options, publish_options, serve_turns};
+use crate::replacing::{open_replaced, unless_locked};
 use crate::streams::{standard_output, tell_refused};
-use mold_devices::{CommandFault, FromRead, IntoWrite, NewFile};
+use mold_devices::{CommandFault, FromRead, IntoWrite};
+use mold_durable::ReplacedFile;
 use mold_input::{BlocksToEmpty, HexLines, MessageBlocks, MessageFormat, MessageReader};
 use mold_listen::{ListenPorts, listen};
 use mold_ports::UdpPort;
@@ -110,33 +112,38 @@ fn listen_on(
 }
 
 /// Publishes the messages of standard input on lines A and B, from a port that the system chooses. The order states how
-/// the input encodes the messages. The journal's file is created at its first write.
+/// the input encodes the messages. The journal's file is locked before the port is opened if it exists, and created at
+/// its first write.
 pub fn run_publish(rt: &HostRuntime, order: &PublishOrder) -> Result<u8, ProgramFault> {
+    let journal = open_replaced(rt, order.journal.as_str())?;
     let mut port = open_port(rt, ANY)?;
-    Ok(match order.input {
-        MessageFormat::Lines => publish_on::<HexLines>(rt, order, &mut port),
-        MessageFormat::Blocks => publish_on::<MessageBlocks>(rt, order, &mut port),
-        MessageFormat::BlocksToEmpty => publish_on::<BlocksToEmpty>(rt, order, &mut port),
-    }?)
+    match order.input {
+        MessageFormat::Lines => publish_on::<HexLines>(rt, order, &mut port, journal),
+        MessageFormat::Blocks => publish_on::<MessageBlocks>(rt, order, &mut port, journal),
+        MessageFormat::BlocksToEmpty => publish_on::<BlocksToEmpty>(rt, order, &mut port, journal),
+    }
 }
 
-// Publishes from the port. The reader `M` reads the messages that the order's input holds.
+// Publishes from the port, and saves the journal. The reader `M` reads the messages that the order's input holds.
 fn publish_on<M: MessageReader>(
     rt: &HostRuntime,
     order: &PublishOrder,
     port: &mut UdpPort,
-) -> Result<u8, CommandFault>
+    journal: IntoWrite<ReplacedFile<'_>>,
+) -> Result<u8, ProgramFault>
     requires kind { M.input_kind ≡ kind_of order.now.input }
     requires entries { M.entries ≡ entries_of order.now.input }
 {
-    let mut publisher = make_publisher(rt.alloc(), order)?;
+    let Ok(mut publisher) = make_publisher(rt.alloc(), order) else {
+        return Err(ProgramFault::Command(CommandFault::Memory));
+    };
     let mut devices = PublishDevices {
         source: FromRead::new(rt.stdin()),
         sink: IntoWrite::new(rt.stdout()),
-        journal: IntoWrite::new(NewFile::new(rt, order.journal.as_str())),
+        journal,
     };
     let options = publish_options(order);
     let outcome = publish::<M, _, _, _, _>(rt.alloc(), port, options, &mut publisher, &mut devices);
-    let PublishDevices { sink, .. } = devices;
-    flushed(outcome, sink.into_inner().flush())
+    let PublishDevices { sink, journal, .. } = devices;
+    unless_locked(flushed(outcome, sink.into_inner().flush()), journal)
 }

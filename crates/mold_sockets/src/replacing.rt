@@ -1,0 +1,39 @@
+//! The files that a command replaces.
+
+use mold_devices::{CommandFault, IntoWrite};
+use mold_durable::{JournalFileError, ReplacedFile};
+use mold_wiring::ProgramFault;
+
+/// Returns the fault of the program for an error of a journal's file.
+pub(crate) fn fault_of(error: JournalFileError) -> ProgramFault {
+    match error {
+        JournalFileError::Locked => ProgramFault::Locked,
+        JournalFileError::Write => ProgramFault::Command(CommandFault::Write),
+        JournalFileError::Memory => ProgramFault::Command(CommandFault::Memory),
+    }
+}
+
+/// Makes a sink whose first write creates the file at `path`, or empties it. If the file exists, it is locked at once. If
+/// another process has locked it, the fault is `Locked`; if it cannot be opened for writing, `Write`.
+pub fn open_replaced<'a>(
+    rt: &'a HostRuntime,
+    path: &'a str,
+) -> Result<IntoWrite<ReplacedFile<'a>>, ProgramFault> {
+    match ReplacedFile::open(rt, path) {
+        Ok(file) => Ok(IntoWrite::new(file)),
+        Err(error) => Err(fault_of(error)),
+    }
+}
+
+/// Returns the outcome of a command that wrote to this sink. The fault is `Locked` if another process has created and
+/// locked the file since the sink was made.
+pub fn unless_locked(
+    outcome: Result<u8, CommandFault>,
+    sink: IntoWrite<ReplacedFile<'_>>,
+) -> Result<u8, ProgramFault> {
+    match outcome {
+        Ok(status) => Ok(status),
+        Err(_) if sink.into_inner().is_locked() => Err(ProgramFault::Locked),
+        Err(fault) => Err(ProgramFault::Command(fault)),
+    }
+}
