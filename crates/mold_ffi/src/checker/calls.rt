@@ -31,13 +31,7 @@ pub extern "C" fn mold_checker_new(alloc: Global, checker: &mut MoldHandle) -> u
     if checker.live {
         return BROKEN;
     }
-    match Box::new(alloc, Held::Checker(Checker::new(alloc))) {
-        Ok(boxed) => {
-            *checker = MoldHandle::of(boxed);
-            DONE
-        }
-        Err(_) => MEMORY,
-    }
+    checker.hold(alloc, Held::Checker(Checker::new(alloc)))
 }
 
 /// Takes a datagram, or refuses it if no session explains both it and the datagrams taken before. The code is then that

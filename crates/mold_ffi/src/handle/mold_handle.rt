@@ -1,7 +1,9 @@
 //! The handle as a program in C declares it.
 
-ghost use Rattle.std.specs.Prelude.{◌≡◌, None, Some, is_some};
+ghost use Rattle.std.specs.Prelude.{◌≡◌, ◌⊎◌, None, Some, is_some};
+ghost use Rattle.mold_ffi.specs.declared.code.TheConstants as codes;
 
+use crate::code::{DONE, MEMORY};
 use crate::handle::Handle;
 use crate::handle::held::Held;
 use std::alloc::Global;
@@ -35,6 +37,21 @@ impl MoldHandle {
         MoldHandle {
             handle: Handle::of(boxed),
             live: true,
+        }
+    }
+
+    /// Moves a value into the handle and returns `DONE`. If an allocation fails, the code is `MEMORY`, the value is
+    /// dropped, and the handle is unchanged.
+    pub(crate) fn hold(&mut self, alloc: Global, held: Held) -> u32
+        ensures { ((result ≡ codes.DONE) × (self.new.handle.value ≡ Some held))
+            ⊎ ((result ≡ codes.MEMORY) × (self.new.handle.value ≡ self.old.handle.value)) }
+    {
+        match Box::new(alloc, held) {
+            Ok(boxed) => {
+                *self = MoldHandle::of(boxed);
+                DONE
+            }
+            Err(_) => MEMORY,
         }
     }
 }

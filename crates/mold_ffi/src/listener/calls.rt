@@ -45,13 +45,7 @@ pub extern "C" fn mold_listener_new(
         return BROKEN;
     }
     match BatchedArbiter::new(alloc, Session(*session), next, window) {
-        Ok(made) => match Box::new(alloc, Held::Listener(made)) {
-            Ok(boxed) => {
-                *listener = MoldHandle::of(boxed);
-                DONE
-            }
-            Err(_) => MEMORY,
-        },
+        Ok(made) => listener.hold(alloc, Held::Listener(made)),
         Err(ReceiverError::NextZero) => NEXT_ZERO,
         Err(ReceiverError::Window) => WINDOW,
         Err(ReceiverError::Memory) => MEMORY,

@@ -39,13 +39,7 @@ pub extern "C" fn mold_publisher_new(
         return BROKEN;
     }
     match Exchange::new(alloc, Session(*session), limit) {
-        Ok(made) => match Box::new(alloc, Held::Publisher(made)) {
-            Ok(boxed) => {
-                *publisher = MoldHandle::of(boxed);
-                DONE
-            }
-            Err(_) => MEMORY,
-        },
+        Ok(made) => publisher.hold(alloc, Held::Publisher(made)),
         Err(PublisherError::Limit) => LIMIT,
         Err(PublisherError::Memory) => MEMORY,
     }

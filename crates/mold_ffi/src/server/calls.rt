@@ -61,13 +61,10 @@ pub extern "C" fn mold_server_new(
     let Some(serving) = Serving::new(alloc, limit, burst, bytes) else {
         return code_of_refusal(most, bytes, number);
     };
-    match Box::new(alloc, Held::Server(serving)) {
-        Ok(boxed) => {
-            *server = MoldHandle::of(boxed);
-            DONE
-        }
-        Err(_) => code_of_refusal(most, bytes, number),
+    if server.hold(alloc, Held::Server(serving)) == DONE {
+        return DONE;
     }
+    code_of_refusal(most, bytes, number)
 }
 
 /// Writes the first response to a request. The buffer must have at least as many bytes as the limit. `number` is the
