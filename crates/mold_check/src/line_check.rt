@@ -18,7 +18,7 @@ use mold_text::{Word, push_line, push_line_with, push_refusal};
 use std::alloc::{AllocError, Global};
 
 /// Why a line is refused.
-#[derive(Clone, Copy, Debug, PartialEq, Eq)]
+#[derive(Clone, Copy)]
 pub(crate) enum CheckedLineRefusal {
     /// The line is not an even number of hexadecimal digits.
     NotHex,
@@ -27,7 +27,7 @@ pub(crate) enum CheckedLineRefusal {
 }
 
 /// A line that is refused. The first line has number 1. The numbers stop at `u64::MAX`.
-#[derive(Clone, Copy, Debug, PartialEq, Eq)]
+#[derive(Clone, Copy)]
 pub(crate) struct RefusedLine {
     pub(crate) number: u64,
     pub(crate) why: CheckedLineRefusal,
@@ -35,7 +35,7 @@ pub(crate) struct RefusedLine {
 
 /// A check of lines up to the first refused one. The lines after it are only counted. It keeps no line, only
 /// the messages that the checker stores.
-#[derive(Debug, Drop)]
+#[derive(Drop)]
 pub(crate) struct LineCheck {
     checker: Checker,
     bytes: Vec<u8>,

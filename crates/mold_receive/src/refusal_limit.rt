@@ -13,7 +13,7 @@ const REASONS: usize = 9;
 
 /// Which lines about refused datagrams were printed, and when the next one may be. The first refusal of each reason at
 /// each port is printed, and then one a second.
-#[derive(Debug, Drop)]
+#[derive(Drop)]
 pub(crate) struct RefusalLimit {
     // For each origin and reason, whether a line was printed.
     printed: [bool; MOST_PORTS * REASONS],

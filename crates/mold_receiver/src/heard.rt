@@ -14,7 +14,7 @@ pub struct Heard<'a> {
 }
 
 /// The same, and the packet's top.
-#[derive(Clone, Debug, Drop)]
+#[derive(Drop)]
 pub(crate) struct HeardPacket<'a> {
     pub taken: Taken,
     pub own: Messages<'a>,

@@ -1,7 +1,7 @@
 //! A run of stored messages.
 
 /// Stored messages that follow each other in one segment.
-#[derive(Clone, Copy, Debug)]
+#[derive(Clone, Copy)]
 pub(crate) struct Run<'a> {
     /// The messages' blocks, and nothing else.
     pub bytes: &'a [u8],

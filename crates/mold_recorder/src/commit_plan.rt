@@ -20,7 +20,7 @@ const BUSY_SPAN: u64 = 1_000_000_000;
 const NEVER: u64 = u64::MAX;
 
 /// What decides when the waiting messages are committed. Times are in nanoseconds since the ports were opened.
-#[derive(Clone, Copy, Debug)]
+#[derive(Clone, Copy)]
 pub(crate) struct CommitPlan {
     // The bytes of the records of the waiting messages.
     bytes: usize,
