@@ -93,18 +93,17 @@ impl RepairCounts {
     }
 
     // Counts a datagram that was accepted on this line.
-    // For the optimizer: one test decides it for a datagram in order. A second branch would be merged with the first.
+    // For the optimizer: both tests come first. A datagram that brought something new then writes nothing.
     #[inline(always)]
     fn take_on(&mut self, line: Line, taken: Taken)
         ensures { self.new ≡ counted_line line taken self.old }
     {
-        if taken.handed != 0 {
+        if taken.handed != 0 || taken.kept != 0 {
             return;
         }
-        let again = u64::from(taken.kept == 0);
         match line {
-            Line::A => self.again_a = self.again_a.saturating_add(again),
-            Line::B => self.again_b = self.again_b.saturating_add(again),
+            Line::A => self.again_a = self.again_a.saturating_add(1),
+            Line::B => self.again_b = self.again_b.saturating_add(1),
         }
     }
 
