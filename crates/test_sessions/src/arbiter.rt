@@ -116,7 +116,7 @@ impl Arbitration {
 
     /// Takes messages 1 to 3 of line A. If an allocation fails, neither line has a datagram, and the packet is taken
     /// again.
-    fn take_again(&mut self, rt: &impl Abort) -> Result<(), Refusal> {
+    fn take_again(&mut self, rt: &impl Abort) -> Result<(), Fail> {
         if self.take(rt, Some(Line::A), DATA_1_3) == Err(Refusal::Memory) {
             self.expect_steps(rt, "no memory", &[Step::Lines((0, 0, 1), (0, 0, 1))]);
             self.take(rt, Some(Line::A), DATA_1_3)?;
@@ -125,7 +125,7 @@ impl Arbitration {
         Ok(())
     }
 
-    fn hear_backwards(&mut self, rt: &impl Abort) -> Result<(), Refusal> {
+    fn hear_backwards(&mut self, rt: &impl Abort) -> Result<(), Fail> {
         self.hears_again(rt, DATA_3, &[])?;
         self.hears_again(rt, DATA_2, &[])?;
         let is_delivered = self.hears_again(rt, DATA_1, &[b"A"])?;
@@ -135,7 +135,7 @@ impl Arbitration {
     }
 
     /// Takes a response with messages 1 to 3, and then the steps.
-    fn take_and_expect(&mut self, rt: &impl Abort, steps: &[Step]) -> Result<(), Refusal> {
+    fn take_and_expect(&mut self, rt: &impl Abort, steps: &[Step]) -> Result<(), Fail> {
         self.take(rt, None, DATA_1_3)?;
         self.expect_steps(rt, "nothing new", steps);
         Ok(())
@@ -242,16 +242,14 @@ const TAKEN_AGAIN: &[Step] = &[
 #[test]
 fn out_of_memory_is_not_reported(rt: HostRuntime) -> Result<(), Fail> {
     let mut arbitration = Arbitration::new(rt.alloc())?;
-    arbitration.take_again(&rt)?;
-    Ok(())
+    arbitration.take_again(&rt)
 }
 
 /// Messages 3 and 2 are stored. Message 1 is delivered from its datagram, and messages 2 and 3 follow it in the batch.
 #[test]
 fn out_of_memory_while_stored_messages_follow(rt: HostRuntime) -> Result<(), Fail> {
     let mut arbitration = Arbitration::new(rt.alloc())?;
-    arbitration.hear_backwards(&rt)?;
-    Ok(())
+    arbitration.hear_backwards(&rt)
 }
 
 /// Responses that bring nothing new.
@@ -274,8 +272,7 @@ const NO_NEWS_OF_LINES: &[Step] = &[
 
 fn expect_no_news(rt: &(impl Abort + AllocGlobal), steps: &[Step]) -> Result<(), Fail> {
     let mut arbitration = Arbitration::new(rt.alloc())?;
-    arbitration.take_and_expect(rt, steps)?;
-    Ok(())
+    arbitration.take_and_expect(rt, steps)
 }
 
 /// The arbiter takes a response with messages 1 to 3 first. What follows allocates nothing.

@@ -353,6 +353,12 @@ impl Read for Asking<'_> {
     }
 }
 
+fn expect_long_messages(rt: &impl Abort, journal: &Journal) {
+    holds(rt, journal.next() == 3);
+    holds(rt, journal.get(1) == Some(LONG.as_slice()));
+    holds(rt, journal.get(2) == Some(b"AB"));
+}
+
 /// The file has the long messages, and reads of it ask for at most 4,096 bytes.
 fn expect_long_loaded(rt: &impl Abort, alloc: Global, file: &[u8]) -> Result<(), FileError> {
     let mut source = FromRead::new(Asking {
@@ -360,9 +366,7 @@ fn expect_long_loaded(rt: &impl Abort, alloc: Global, file: &[u8]) -> Result<(),
         most: 0,
     });
     let journal = Journal::load(alloc, 10000, &mut source)?;
-    holds(rt, journal.next() == 3);
-    holds(rt, journal.get(1) == Some(LONG.as_slice()));
-    holds(rt, journal.get(2) == Some(b"AB"));
+    expect_long_messages(rt, &journal);
     holds(rt, source.into_inner().most <= 4096);
     Ok(())
 }

@@ -8,7 +8,7 @@ use crate::receiver_steps::{
 };
 use mold_receiver::{Batch, Receiver, ReceiverError, Refusal};
 use mold_wire::{DecodeError, Packer};
-use std::alloc::{AllocError, Global};
+use std::alloc::Global;
 use std::process::Abort;
 use std::test::Fail;
 
@@ -226,7 +226,7 @@ fn expect_full_window(
     rt: &impl Abort,
     packer: &mut Packer,
     reception: &mut Reception,
-) -> Result<(), Refusal> {
+) -> Result<(), Fail> {
     reception.expect_steps(rt, "last of window", LAST_OF_WINDOW);
     for part in 0..5u64 {
         fill(packer, part * 13107 + 2);
@@ -237,12 +237,15 @@ fn expect_full_window(
     Ok(())
 }
 
+fn expect_widest(rt: &(impl Abort + AllocGlobal), packer: &mut Packer) -> Result<(), Fail> {
+    let mut reception = Reception::new(rt.alloc(), 1, 65536)?;
+    expect_full_window(rt, packer, &mut reception)
+}
+
 #[test]
 fn a_full_window_is_delivered_at_once(rt: HostRuntime) -> Result<(), Fail> {
     let mut packer = Packer::new(rt.alloc(), 65507)?;
-    let mut reception = Reception::new(rt.alloc(), 1, 65536)?;
-    expect_full_window(&rt, &mut packer, &mut reception)?;
-    Ok(())
+    expect_widest(&rt, &mut packer)
 }
 
 /// A receiver at message 1 with a window of 4. If an allocation fails, it is made again.
@@ -265,7 +268,7 @@ fn out_of_memory_makes_no_receiver(rt: HostRuntime) -> Result<(), Fail> {
 
 const BACKWARDS_AGAIN: &[Step] = &[Step::Batch(1, &[b"A", b"B", b"C"]), Step::Numbers(4, 4, 0)];
 
-fn take_backwards(rt: &impl Abort, reception: &mut Reception) -> Result<(), Refusal> {
+fn take_backwards(rt: &impl Abort, reception: &mut Reception) -> Result<(), Fail> {
     reception.take_again(rt, DATA_3)?;
     reception.take_again(rt, DATA_2)?;
     reception.take_again(rt, DATA_1)?;
@@ -277,13 +280,13 @@ fn take_backwards(rt: &impl Abort, reception: &mut Reception) -> Result<(), Refu
 #[test]
 fn out_of_memory_takes_nothing(rt: HostRuntime) -> Result<(), Fail> {
     let mut reception = reception_again(&rt, rt.alloc())?;
-    take_backwards(&rt, &mut reception)?;
-    Ok(())
+    take_backwards(&rt, &mut reception)
 }
 
 const GIVEN_UP_AGAIN: &[Step] = &[Step::Batch(2, &[b"B", b"C"]), Step::Numbers(4, 4, 0)];
 
-fn give_up(rt: &impl Abort, reception: &mut Reception) -> Result<(), AllocError> {
+fn give_up(rt: &impl Abort, reception: &mut Reception) -> Result<(), Fail> {
+    reception.take_again(rt, DATA_2_3)?;
     reception.skip_again(rt)?;
     reception.expect_steps(rt, "given up", GIVEN_UP_AGAIN);
     Ok(())
@@ -294,9 +297,7 @@ fn give_up(rt: &impl Abort, reception: &mut Reception) -> Result<(), AllocError>
 #[test]
 fn out_of_memory_gives_up_nothing(rt: HostRuntime) -> Result<(), Fail> {
     let mut reception = reception_again(&rt, rt.alloc())?;
-    reception.take_again(&rt, DATA_2_3)?;
-    give_up(&rt, &mut reception)?;
-    Ok(())
+    give_up(&rt, &mut reception)
 }
 
 /// The order in which long messages arrive: a new gap opens before the old one is closed.
@@ -308,7 +309,7 @@ fn take_never_empty(
     rt: &impl Abort,
     packer: &mut Packer,
     reception: &mut Reception,
-) -> Result<(), Refusal> {
+) -> Result<(), Fail> {
     for number in NEVER_EMPTY {
         packer.start(SESSION, number);
         packer.add(&LONG);
@@ -322,14 +323,17 @@ fn take_never_empty(
     Ok(())
 }
 
+fn expect_never_empty(rt: &(impl Abort + AllocGlobal), packer: &mut Packer) -> Result<(), Fail> {
+    let mut reception = Reception::new(rt.alloc(), 1, 8)?;
+    take_never_empty(rt, packer, &mut reception)
+}
+
 /// Each message of 10,000 bytes needs a segment. Messages 6 and 8 take the memory of segments that were given back, and
 /// an empty store has only these two.
 #[test]
 fn out_of_memory_of_a_store_in_segments(rt: HostRuntime) -> Result<(), Fail> {
     let mut packer = Packer::new(rt.alloc(), 65507)?;
-    let mut reception = Reception::new(rt.alloc(), 1, 8)?;
-    take_never_empty(&rt, &mut packer, &mut reception)?;
-    Ok(())
+    expect_never_empty(&rt, &mut packer)
 }
 
 const FIVE: &[u8] = b"SESSION001\0\0\0\0\0\0\0\x05\0\x01\0\x01E";
@@ -374,7 +378,7 @@ fn expect_after_five(
     rt: &impl Abort,
     reception: &mut Reception,
     steps: &[Step],
-) -> Result<(), Refusal> {
+) -> Result<(), Fail> {
     reception.take(rt, DATA_1_3)?;
     reception.take(rt, FIVE)?;
     reception.expect_steps(rt, "nothing new", steps);
@@ -384,8 +388,7 @@ fn expect_after_five(
 
 fn expect_no_news(rt: &(impl Abort + AllocGlobal), steps: &[Step]) -> Result<(), Fail> {
     let mut reception = Reception::new(rt.alloc(), 1, 4)?;
-    expect_after_five(rt, &mut reception, steps)?;
-    Ok(())
+    expect_after_five(rt, &mut reception, steps)
 }
 
 /// A packet of which nothing is delivered or stored allocates nothing, nor do a packet that is refused, and the calls

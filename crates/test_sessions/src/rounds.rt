@@ -4,7 +4,7 @@
 use crate::comparisons::holds;
 use crate::receiver_steps::{Reception, expect_batch};
 use crate::server::Service;
-use mold_receiver::{Receiver, Refusal};
+use mold_receiver::Receiver;
 use mold_rounds::{Memory, catch_up};
 use std::alloc::Global;
 use std::process::Abort;
@@ -140,7 +140,7 @@ fn expect_rounds(rt: &impl Abort, parts: &mut Parts, rounds: u64) {
     holds(rt, catch_up_checked(rt, parts) == Ok(rounds));
 }
 
-fn expect_caught_up(rt: &impl Abort, parts: &mut Parts, case: &Catching) -> Result<(), Refusal> {
+fn expect_caught_up(rt: &impl Abort, parts: &mut Parts, case: &Catching) -> Result<(), Fail> {
     parts.reception.take_all(rt, case.packets)?;
     holds(rt, missing(&parts.reception.receiver) == case.missing);
     expect_rounds(rt, parts, case.rounds);
@@ -152,8 +152,7 @@ fn expect_caught_up(rt: &impl Abort, parts: &mut Parts, case: &Catching) -> Resu
 
 fn expect_case(rt: &(impl Abort + AllocGlobal), case: &Catching) -> Result<(), Fail> {
     let mut parts = new_parts(rt.alloc(), case)?;
-    expect_caught_up(rt, &mut parts, case)?;
-    Ok(())
+    expect_caught_up(rt, &mut parts, case)
 }
 
 #[test]
@@ -181,7 +180,8 @@ fn catch_up_again(rt: &impl Abort, parts: &mut Parts) -> Result<u64, Memory> {
     Ok(3)
 }
 
-fn expect_going_on(rt: &impl Abort, parts: &mut Parts) -> Result<(), Memory> {
+fn expect_going_on(rt: &impl Abort, parts: &mut Parts) -> Result<(), Fail> {
+    parts.reception.take_all(rt, TWO_ROUNDS.packets)?;
     let answered = catch_up_again(rt, parts)?;
     expect_first(rt, parts, FIVE, answered);
     Ok(())
@@ -190,7 +190,5 @@ fn expect_going_on(rt: &impl Abort, parts: &mut Parts) -> Result<(), Memory> {
 #[test]
 fn out_of_memory_stops_in_a_round(rt: HostRuntime) -> Result<(), Fail> {
     let mut parts = new_parts(rt.alloc(), &TWO_ROUNDS)?;
-    parts.reception.take_all(&rt, TWO_ROUNDS.packets)?;
-    expect_going_on(&rt, &mut parts)?;
-    Ok(())
+    expect_going_on(&rt, &mut parts)
 }
