@@ -1,15 +1,17 @@
 //! A repairer by worked examples. The expected values were worked out by hand: patience 10, timeout 100, ceiling 400,
 //! settle 5, one request each 10 and two at once, two servers, and two requests before a message is given up.
 
+ghost use Rattle.std.specs.Prelude.{◌<◌, ◌^◌};
+
+use crate::comparisons::{holds, holds_at};
 use mold_pacing::Gap;
 use mold_receiver::{Arbiter, Batch, Line, Receiver};
 use mold_repair::run::{apply, run};
 use mold_repair::{
-    Ask, LineStats, Outcome, RepairError, RepairOptions, RepairOrigin, RepairStats, RepairStep,
-    Repairer,
+    Ask, LineStats, Outcome, RepairError, RepairOptions, RepairOrigin, RepairStep, Repairer,
 };
 use mold_wire::{Request, Session};
-use std::alloc::Global;
+use std::alloc::{AllocError, Global};
 use std::process::Abort;
 use std::test::Fail;
 
@@ -27,6 +29,10 @@ const OTHER_3: &[u8] = b"SESSION001\0\0\0\0\0\0\0\x03\0\x01\0\x01?";
 
 const DATA_5: &[u8] = b"SESSION001\0\0\0\0\0\0\0\x05\0\x01\0\x01E";
 
+const ON_A: RepairOrigin = RepairOrigin::Line(Line::A);
+
+const ON_B: RepairOrigin = RepairOrigin::Line(Line::B);
+
 const OPTIONS: RepairOptions = RepairOptions {
     patience: 10,
     timeout: 100,
@@ -40,143 +46,139 @@ const OPTIONS: RepairOptions = RepairOptions {
     audit: 0,
 };
 
-fn repairer(alloc: Global, options: RepairOptions) -> Result<Repairer, Fail> {
+// A repairer and a batch of messages.
+#[derive(Drop)]
+struct Parts {
+    repairer: Repairer,
+    batch: Batch,
+}
+
+fn new_parts(alloc: Global, options: RepairOptions) -> Result<Parts, Fail> {
     let receiver = Receiver::new(alloc, SESSION, 1, 16)?;
-    Ok(Repairer::new(alloc, Arbiter::new(receiver), options)?)
+    Ok(Parts {
+        repairer: Repairer::new(alloc, Arbiter::new(receiver), options)?,
+        batch: Batch::new(alloc),
+    })
 }
 
-fn outcome(ask: Option<Ask>, lost: Option<Gap>, first: u64, end: u64) -> Outcome {
-    Outcome {
-        ask,
-        lost,
-        delivered: Gap { first, end },
-    }
-}
+/// A step of a repairer, the server to which it requests message 2, what is lost, and what is delivered.
+type Row = (
+    RepairStep<'static>,
+    Option<u32>,
+    Option<(u64, u64)>,
+    (u64, u64),
+);
 
-fn ask_for_2(server: u32) -> Option<Ask> {
+fn ask_of(server: Option<u32>) -> Option<Ask> {
     let request = Request {
         session: SESSION,
         sequence: 2,
         count: 1,
     };
-    Some(Ask { request, server })
+    Some(Ask {
+        request,
+        server: server?,
+    })
 }
 
-fn expect(
-    rt: &impl Abort,
-    repairer: &mut Repairer,
-    batch: &mut Batch,
-    step: RepairStep<'_>,
-    wanted: Outcome,
-) {
+fn gap_of(range: Option<(u64, u64)>) -> Option<Gap> {
+    let (first, end) = range?;
+    Some(Gap { first, end })
+}
+
+fn outcome_of(row: &Row) -> Outcome {
+    let (first, end) = row.3;
+    Outcome {
+        ask: ask_of(row.1),
+        lost: gap_of(row.2),
+        delivered: Gap { first, end },
+    }
+}
+
+fn is_taken(parts: &mut Parts, row: &Row) -> bool {
+    let step = row.0;
     let time = match step {
         RepairStep::Pass { time }
         | RepairStep::Take { time, .. }
         | RepairStep::Poll { time }
         | RepairStep::Lost { time } => time,
     };
-    assert!(rt; time < 1_000_000, "a time of the test");
-    let found = apply(repairer, step, batch);
-    assert!(rt; found == wanted, "another outcome");
+    if time >= 1_000_000 {
+        return false;
+    }
+    apply(&mut parts.repairer, step, &mut parts.batch) == outcome_of(row)
 }
 
+fn expect_rows(rt: &impl Abort, parts: &mut Parts, rows: &[Row]) {
+    for (at, row) in rows.iter().enumerate() {
+        holds_at(rt, is_taken(parts, row), at);
+    }
+}
+
+const TAKE_1: RepairStep<'static> = RepairStep::Take {
+    time: 1,
+    origin: ON_A,
+    datagram: DATA_1,
+};
+
+const TAKE_3: RepairStep<'static> = RepairStep::Take {
+    time: 2,
+    origin: ON_A,
+    datagram: DATA_3,
+};
+
 // Message 2 is missing. It is requested after one to two patiences, and again at the other server.
-fn expect_requests(rt: &impl Abort, repairer: &mut Repairer, batch: &mut Batch) {
-    let none = outcome(None, None, 2, 2);
-    let a = RepairOrigin::Line(Line::A);
-    expect(
-        rt,
-        repairer,
-        batch,
-        RepairStep::Take {
-            time: 1,
-            origin: a,
-            datagram: DATA_1,
-        },
-        outcome(None, None, 1, 2),
-    );
-    expect(
-        rt,
-        repairer,
-        batch,
-        RepairStep::Take {
-            time: 2,
-            origin: a,
-            datagram: DATA_3,
-        },
-        none,
-    );
-    expect(rt, repairer, batch, RepairStep::Poll { time: 10 }, none);
-    expect(
-        rt,
-        repairer,
-        batch,
-        RepairStep::Poll { time: 20 },
-        outcome(ask_for_2(0), None, 2, 2),
-    );
-    expect(rt, repairer, batch, RepairStep::Poll { time: 20 }, none);
-    expect(rt, repairer, batch, RepairStep::Poll { time: 119 }, none);
-    expect(
-        rt,
-        repairer,
-        batch,
-        RepairStep::Poll { time: 120 },
-        outcome(ask_for_2(1), None, 2, 2),
-    );
+const REQUESTS: &[Row] = &[
+    (TAKE_1, None, None, (1, 2)),
+    (TAKE_3, None, None, (2, 2)),
+    (RepairStep::Poll { time: 10 }, None, None, (2, 2)),
+    (RepairStep::Poll { time: 20 }, Some(0), None, (2, 2)),
+    (RepairStep::Poll { time: 20 }, None, None, (2, 2)),
+    (RepairStep::Poll { time: 119 }, None, None, (2, 2)),
+    (RepairStep::Poll { time: 120 }, Some(1), None, (2, 2)),
+];
+
+const GIVES_UP: &[Row] = &[
+    (RepairStep::Lost { time: 319 }, None, None, (2, 2)),
+    (RepairStep::Poll { time: 320 }, None, None, (2, 2)),
+    (RepairStep::Lost { time: 320 }, None, Some((2, 3)), (3, 4)),
+];
+
+fn expect_given_up(rt: &impl Abort, parts: &mut Parts) {
+    expect_rows(rt, parts, REQUESTS);
+    holds(rt, parts.repairer.deadline(130) == Some(320));
+    expect_rows(rt, parts, GIVES_UP);
+    holds(rt, parts.batch.get(0) == Some(b"C".as_slice()));
+    holds(rt, parts.repairer.deadline(330).is_none());
+    let stats = parts.repairer.stats();
+    holds(rt, stats.counts.requests == 2 && stats.counts.lost == 1);
+    holds(rt, stats.next == 4 && stats.missing == 0);
+    holds(rt, stats.gap.is_none());
 }
 
 #[test]
 fn requests_and_gives_up(rt: HostRuntime) -> Result<(), Fail> {
-    let mut repairer = repairer(rt.alloc(), OPTIONS)?;
-    let mut batch = Batch::new(rt.alloc());
-    expect_requests(&rt, &mut repairer, &mut batch);
-    assert!(&rt; repairer.deadline(130) == Some(320), "another deadline");
-    let none = outcome(None, None, 2, 2);
-    expect(
-        &rt,
-        &mut repairer,
-        &mut batch,
-        RepairStep::Lost { time: 319 },
-        none,
-    );
-    expect(
-        &rt,
-        &mut repairer,
-        &mut batch,
-        RepairStep::Poll { time: 320 },
-        none,
-    );
-    let lost = outcome(None, Some(Gap { first: 2, end: 3 }), 3, 4);
-    expect(
-        &rt,
-        &mut repairer,
-        &mut batch,
-        RepairStep::Lost { time: 320 },
-        lost,
-    );
-    assert!(&rt; batch.get(0) == Some(b"C".as_slice()), "another message");
-    let stats = repairer.stats();
-    assert!(&rt;
-        stats.counts.requests == 2 && stats.counts.lost == 1,
-        "other counts"
-    );
-    assert!(&rt;
-        stats.next == 4 && stats.missing == 0 && stats.gap.is_none(),
-        "another state"
-    );
-    assert!(&rt;
-        repairer.deadline(330).is_none(),
-        "a deadline without a gap"
-    );
+    let mut parts = new_parts(rt.alloc(), OPTIONS)?;
+    expect_given_up(&rt, &mut parts);
     Ok(())
 }
 
-#[test]
-fn takes_a_response(rt: HostRuntime) -> Result<(), Fail> {
-    let mut repairer = repairer(rt.alloc(), OPTIONS)?;
-    let mut batch = Batch::new(rt.alloc());
-    expect_requests(&rt, &mut repairer, &mut batch);
-    assert!(&rt; repairer.next_missing(0).is_some(), "no gap");
+const DELIVERED: [Outcome; 2] = [
+    Outcome {
+        ask: None,
+        lost: None,
+        delivered: Gap { first: 2, end: 4 },
+    },
+    Outcome {
+        ask: None,
+        lost: None,
+        delivered: Gap { first: 4, end: 4 },
+    },
+];
+
+fn expect_response(rt: &impl Abort, alloc: Global, parts: &mut Parts) -> Result<(), AllocError> {
+    expect_rows(rt, parts, REQUESTS);
+    holds(rt, parts.repairer.next_missing(0).is_some());
     let steps = [
         RepairStep::Take {
             time: 130,
@@ -185,11 +187,54 @@ fn takes_a_response(rt: HostRuntime) -> Result<(), Fail> {
         },
         RepairStep::Pass { time: 131 },
     ];
-    let wanted = [outcome(None, None, 2, 4), outcome(None, None, 4, 4)];
-    let outcomes = run(&mut repairer, rt.alloc(), &steps, &mut batch)?;
-    assert!(&rt; outcomes.as_slice() == wanted.as_slice(), "other outcomes");
-    assert!(&rt; repairer.next_missing(0).is_none(), "a gap");
+    let outcomes = run(&mut parts.repairer, alloc, &steps, &mut parts.batch)?;
+    holds(rt, outcomes.as_slice() == DELIVERED.as_slice());
+    holds(rt, parts.repairer.next_missing(0).is_none());
     Ok(())
+}
+
+#[test]
+fn takes_a_response(rt: HostRuntime) -> Result<(), Fail> {
+    let mut parts = new_parts(rt.alloc(), OPTIONS)?;
+    expect_response(&rt, rt.alloc(), &mut parts)?;
+    Ok(())
+}
+
+// Takes a datagram, and counts it or its refusal.
+fn take(parts: &mut Parts, time: u64, origin: RepairOrigin, datagram: &[u8])
+    requires { time < 2 ^ 62 }
+{
+    parts.batch.clear();
+    let _taken = parts
+        .repairer
+        .take(time, origin, datagram, &mut parts.batch);
+}
+
+// Nothing is requested at this time, and the next deadline is this one.
+fn is_idle(parts: &mut Parts, time: u64, deadline: u64) -> bool
+    requires { time < 2 ^ 62 }
+{
+    parts.repairer.poll(time).is_none() && parts.repairer.deadline(time) == Some(deadline)
+}
+
+fn is_lost(parts: &mut Parts, first: u64, end: u64) -> bool {
+    parts.batch.clear();
+    match parts.repairer.lost(320, &mut parts.batch) {
+        Ok(lost) => lost == Some(Gap { first, end }),
+        Err(_) => false,
+    }
+}
+
+fn expect_given_up_alone(rt: &impl Abort, parts: &mut Parts) {
+    take(parts, 1, ON_A, DATA_1);
+    take(parts, 1, ON_A, DATA_3);
+    take(parts, 1, ON_A, DATA_5);
+    holds(rt, is_idle(parts, 10, 20));
+    holds(rt, is_idle(parts, 20, 120));
+    holds(rt, is_idle(parts, 120, 320));
+    holds(rt, is_lost(parts, 2, 3));
+    holds(rt, is_lost(parts, 4, 5));
+    holds(rt, parts.repairer.counts().requests == 0);
 }
 
 // Messages 2 and 4 are missing, and there is no server. Each wait counts for both, so both are given up together.
@@ -199,27 +244,36 @@ fn gives_up_without_a_server(rt: HostRuntime) -> Result<(), Fail> {
         servers: 0,
         ..OPTIONS
     };
-    let mut repairer = repairer(rt.alloc(), options)?;
-    let mut batch = Batch::new(rt.alloc());
-    for datagram in [DATA_1, DATA_3, DATA_5] {
-        batch.clear();
-        let _taken = repairer.take(1, RepairOrigin::Line(Line::A), datagram, &mut batch);
-    }
-    for (time, deadline) in [(10, 20), (20, 120), (120, 320)] {
-        let ask = repairer.poll(time);
-        assert!(&rt; ask.is_none(), "a request to no server");
-        assert!(&rt;
-            repairer.deadline(time) == Some(deadline),
-            "another deadline"
-        );
-    }
-    for (first, end) in [(2, 3), (4, 5)] {
-        batch.clear();
-        let lost = repairer.lost(320, &mut batch)?;
-        assert!(&rt; lost == Some(Gap { first, end }), "other messages are lost");
-    }
-    assert!(&rt; repairer.stats().counts.requests == 0, "a request counts");
+    let mut parts = new_parts(rt.alloc(), options)?;
+    expect_given_up_alone(&rt, &mut parts);
     Ok(())
+}
+
+const STATS_A: LineStats = LineStats {
+    datagrams: 1,
+    first: 1,
+    again: 0,
+    refused: 1,
+    late: 0,
+};
+
+const STATS_B: LineStats = LineStats {
+    datagrams: 2,
+    first: 1,
+    again: 1,
+    refused: 0,
+    late: 300_000,
+};
+
+fn expect_lines(rt: &impl Abort, parts: &mut Parts) {
+    take(parts, 1_000, ON_A, DATA_1);
+    take(parts, 301_000, ON_B, DATA_1);
+    take(parts, 302_000, ON_B, DATA_2);
+    take(parts, 303_000, ON_A, b"?");
+    let stats = parts.repairer.stats();
+    holds(rt, stats.a == STATS_A);
+    holds(rt, stats.b == STATS_B);
+    holds(rt, stats.patience == 600_000);
 }
 
 // Message 1 comes on both lines, B 300 microseconds after A, and message 2 on line B alone. The patience adapts.
@@ -229,36 +283,28 @@ fn counts_lines(rt: HostRuntime) -> Result<(), Fail> {
         patience: 0,
         ..OPTIONS
     };
-    let mut repairer = repairer(rt.alloc(), options)?;
-    let mut batch = Batch::new(rt.alloc());
-    for (time, line, datagram) in [
-        (1_000, Line::A, DATA_1),
-        (301_000, Line::B, DATA_1),
-        (302_000, Line::B, DATA_2),
-        (303_000, Line::A, b"?".as_slice()),
-    ] {
-        batch.clear();
-        let _taken = repairer.take(time, RepairOrigin::Line(line), datagram, &mut batch);
-    }
-    let stats = repairer.stats();
-    let a = LineStats {
-        datagrams: 1,
-        first: 1,
-        again: 0,
-        refused: 1,
-        late: 0,
-    };
-    let b = LineStats {
-        datagrams: 2,
-        first: 1,
-        again: 1,
-        refused: 0,
-        late: 300_000,
-    };
-    assert!(&rt; stats.a == a, "other statistics of line A");
-    assert!(&rt; stats.b == b, "other statistics of line B");
-    assert!(&rt; stats.patience == 600_000, "another patience");
+    let mut parts = new_parts(rt.alloc(), options)?;
+    expect_lines(&rt, &mut parts);
     Ok(())
+}
+
+// Takes two datagrams of line B. Afterwards this is the number of contradictions, and this the last one.
+fn is_contradicted(parts: &mut Parts, datagrams: [&[u8]; 2], count: u64, last: u64) -> bool {
+    take(parts, 400, ON_B, datagrams[0]);
+    take(parts, 400, ON_B, datagrams[1]);
+    let counts = parts.repairer.counts();
+    counts.contradictions == count && counts.contradiction == Some(last)
+}
+
+fn expect_contradictions(rt: &impl Abort, parts: &mut Parts) {
+    expect_rows(rt, parts, REQUESTS);
+    holds(rt, is_contradicted(parts, [DATA_1, OTHER_1], 1, 1));
+    expect_rows(
+        rt,
+        parts,
+        &[(RepairStep::Lost { time: 400 }, None, Some((2, 3)), (3, 4))],
+    );
+    holds(rt, is_contradicted(parts, [DATA_3, OTHER_3], 2, 3));
 }
 
 // Message 1 comes again as it was, and then with another byte. Message 2 is given up. Then message 3, which was stored,
@@ -269,28 +315,9 @@ fn counts_contradictions(rt: HostRuntime) -> Result<(), Fail> {
         audit: 2,
         ..OPTIONS
     };
-    let mut repairer = repairer(rt.alloc(), options)?;
-    let mut batch = Batch::new(rt.alloc());
-    expect_requests(&rt, &mut repairer, &mut batch);
-    let stats = take_all(&mut repairer, &mut batch, [DATA_1, OTHER_1]);
-    assert!(&rt; stats.counts.contradictions == 1, "another count");
-    assert!(&rt; stats.counts.contradiction == Some(1), "another number");
-    batch.clear();
-    let lost = repairer.lost(400, &mut batch)?;
-    assert!(&rt; lost.is_some(), "nothing is given up");
-    let stats = take_all(&mut repairer, &mut batch, [DATA_3, OTHER_3]);
-    assert!(&rt; stats.counts.contradictions == 2, "another count");
-    assert!(&rt; stats.counts.contradiction == Some(3), "another number");
+    let mut parts = new_parts(rt.alloc(), options)?;
+    expect_contradictions(&rt, &mut parts);
     Ok(())
-}
-
-// Takes two datagrams of line B, and returns the statistics after them.
-fn take_all(repairer: &mut Repairer, batch: &mut Batch, datagrams: [&[u8]; 2]) -> RepairStats {
-    for datagram in datagrams {
-        batch.clear();
-        let _taken = repairer.take(400, RepairOrigin::Line(Line::B), datagram, batch);
-    }
-    repairer.stats()
 }
 
 #[test]
@@ -301,9 +328,6 @@ fn refuses_options(rt: HostRuntime) -> Result<(), Fail> {
         ..OPTIONS
     };
     let error = Repairer::new(rt.alloc(), Arbiter::new(receiver), options).err();
-    assert!(&rt;
-        error == Some(RepairError::Options),
-        "another error, or none"
-    );
+    holds(&rt, error == Some(RepairError::Options));
     Ok(())
 }

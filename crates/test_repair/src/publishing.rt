@@ -1,5 +1,6 @@
 //! A publisher that commits before it sends: a worked example, and a failed commit.
 
+use crate::comparisons::holds;
 use crate::journals::same_number;
 use mold_durable::{CommitError, DurableJournal, MemoryStorage, WaitingError};
 use mold_durable_publisher::{CloseError, DurablePublisher};
@@ -26,7 +27,7 @@ fn start(alloc: Global, storage: MemoryStorage) -> Result<InMemory, Fail> {
 }
 
 fn same_datagram(rt: &impl Abort, found: Option<&[u8]>, wanted: Option<&[u8]>) {
-    assert!(rt; found == wanted, "another datagram");
+    holds(rt, found == wanted);
 }
 
 fn publish_one(rt: &impl Abort, publisher: &mut InMemory) -> Result<(), Fail> {
@@ -42,7 +43,8 @@ fn publish_one(rt: &impl Abort, publisher: &mut InMemory) -> Result<(), Fail> {
     Ok(())
 }
 
-fn close(rt: &impl Abort, publisher: &mut InMemory) -> Result<(), Fail> {
+fn close_one(rt: &impl Abort, publisher: &mut InMemory) -> Result<(), Fail> {
+    publish_one(rt, publisher)?;
     same_datagram(rt, publisher.end(), None);
     publisher.close()?;
     same_datagram(rt, publisher.heartbeat(), None);
@@ -55,9 +57,8 @@ fn close(rt: &impl Abort, publisher: &mut InMemory) -> Result<(), Fail> {
 #[test]
 fn a_message_is_sent_after_its_commit(rt: HostRuntime) -> Result<(), Fail> {
     let mut publisher = start(rt.alloc(), MemoryStorage::new(rt.alloc()))?;
-    publish_one(&rt, &mut publisher)?;
-    close(&rt, &mut publisher)?;
-    assert!(rt; publisher.into_storage().bytes() == CLOSED, "other bytes");
+    close_one(&rt, &mut publisher)?;
+    holds(&rt, publisher.into_storage().bytes() == CLOSED);
     Ok(())
 }
 
@@ -72,11 +73,24 @@ fn append_again(rt: &impl Abort, publisher: &mut InMemory) -> Result<u64, Waitin
     }
 }
 
+fn expect_appended(rt: &impl Abort, publisher: &mut InMemory) -> Result<(), Fail> {
+    same_number(rt, append_again(rt, publisher)?, 1);
+    Ok(())
+}
+
 #[test]
 fn out_of_memory_appends_no_message(rt: HostRuntime) -> Result<(), Fail> {
     let mut publisher = start(rt.alloc(), MemoryStorage::new(rt.alloc()))?;
-    same_number(&rt, append_again(&rt, &mut publisher)?, 1);
-    Ok(())
+    expect_appended(&rt, &mut publisher)
+}
+
+fn expect_unsent(rt: &impl Abort, publisher: &mut InMemory) {
+    holds(rt, publisher.append(b"AB") == Ok(1));
+    holds(rt, publisher.commit() == Err(CommitError::Write));
+    same_datagram(rt, publisher.next_datagram(), None);
+    holds(rt, publisher.commit() == Err(CommitError::Broken));
+    let unsent = CloseError::Unsent(Unsent { count: 1 });
+    holds(rt, publisher.close() == Err(unsent));
 }
 
 /// The first sync of the commit fails, which is call 8 of the storage.
@@ -85,10 +99,6 @@ fn a_message_whose_commit_failed_is_not_sent(rt: HostRuntime) -> Result<(), Fail
     let mut storage = MemoryStorage::new(rt.alloc());
     storage.fail_at(8);
     let mut publisher = start(rt.alloc(), storage)?;
-    publisher.append(b"AB")?;
-    assert!(rt; publisher.commit() == Err(CommitError::Write));
-    same_datagram(&rt, publisher.next_datagram(), None);
-    assert!(rt; publisher.commit() == Err(CommitError::Broken));
-    assert!(rt; publisher.close() == Err(CloseError::Unsent(Unsent { count: 1 })));
+    expect_unsent(&rt, &mut publisher);
     Ok(())
 }

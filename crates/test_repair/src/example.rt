@@ -1,21 +1,22 @@
 //! The worked example: the bytes of a journal that is created, written and closed.
 
-use crate::journals::{EXAMPLE, InMemory, create, same_bytes, same_number};
+use crate::comparisons::same_bytes;
+use crate::journals::{EXAMPLE, InMemory, create, same_number};
 use mold_durable::MemoryStorage;
 use std::process::Abort;
 use std::test::Fail;
 
-fn append_two(journal: &mut InMemory) -> Result<(), Fail> {
+fn close_two(journal: &mut InMemory) -> Result<(), Fail> {
     journal.append(b"AB")?;
     journal.append(b"")?;
+    journal.close()?;
     Ok(())
 }
 
 #[test]
 fn two_messages_and_the_closing_take_31_bytes(rt: HostRuntime) -> Result<(), Fail> {
     let mut journal = create(rt.alloc(), MemoryStorage::new(rt.alloc()))?;
-    append_two(&mut journal)?;
-    journal.close()?;
+    close_two(&mut journal)?;
     same_bytes(&rt, journal.into_storage().bytes(), &EXAMPLE);
     Ok(())
 }

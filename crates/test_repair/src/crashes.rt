@@ -1,6 +1,7 @@
 //! A crash at each call of a small journal, with each torn outcome of the write.
 
-use crate::journals::{InMemory, create, expect_either, load, one_tear};
+use crate::comparisons::holds;
+use crate::journals::{InMemory, append_two, create, expect_either, load, one_tear};
 use mold_durable::{DurableJournal, MemoryStorage};
 use mold_session::FileError;
 use std::alloc::Global;
@@ -27,19 +28,23 @@ fn after_crash(alloc: Global, storage: &MemoryStorage, tear: &[u8]) -> Result<Me
     Ok(storage.after_crash(&tears)?)
 }
 
-// A storage in which the commit of the second message crashed at its call number `k`.
-fn crashed(alloc: Global, k: u64, closes: bool) -> Result<MemoryStorage, Fail> {
-    let mut storage = MemoryStorage::new(alloc);
-    storage.crash_at(k.saturating_add(10));
-    let mut journal = create(alloc, storage)?;
-    journal.append(b"AB")?;
-    journal.commit()?;
-    journal.append(b"C")?;
+// Appends two messages and commits the second one, or closes the session.
+fn append_and_crash(journal: &mut InMemory, closes: bool) -> Result<(), Fail> {
+    append_two(journal)?;
     let _ = if closes {
         journal.close()
     } else {
         journal.commit()
     };
+    Ok(())
+}
+
+// A storage in which the commit of the second message crashed at its call number `k`.
+fn crashed(alloc: Global, k: u64, closes: bool) -> Result<MemoryStorage, Fail> {
+    let mut storage = MemoryStorage::new(alloc);
+    storage.crash_at(k.saturating_add(10));
+    let mut journal = create(alloc, storage)?;
+    append_and_crash(&mut journal, closes)?;
     Ok(journal.into_storage())
 }
 
@@ -54,7 +59,7 @@ fn expect_left(
     expect_either(rt, alloc, left.bytes(), (1, false), after);
     let journal = DurableJournal::open(alloc, 42, left)?;
     let opened = (journal.committed(), journal.is_closed());
-    assert!(rt; opened == (1, false) || opened == after, "another journal");
+    holds(rt, opened == (1, false) || opened == after);
     Ok(())
 }
 
@@ -96,9 +101,8 @@ fn a_crash_leaves_the_closed_session_or_what_was_before(rt: HostRuntime) -> Resu
 // The bytes are no journal, or the empty one.
 fn expect_none_or_empty(rt: &impl Abort, alloc: Global, bytes: &[u8]) {
     match load(alloc, bytes) {
-        Ok(found) => assert!(rt; found == (0, false), "a journal with messages"),
-        Err(FileError::Memory) => assert!(rt; false, "out of memory"),
-        Err(_) => {}
+        Ok(found) => holds(rt, found == (0, false)),
+        Err(error) => holds(rt, error != FileError::Memory),
     }
 }
 
@@ -107,7 +111,7 @@ fn expect_not_created(rt: &impl Abort, alloc: Global, k: u64, tear: &[u8]) -> Re
     let mut storage = MemoryStorage::new(alloc);
     storage.crash_at(k);
     match create(alloc, storage) {
-        Ok(_) => assert!(rt; false, "it is created"),
+        Ok(_) => holds(rt, false),
         Err(fault) => {
             let left = after_crash(alloc, &fault.storage, tear)?;
             expect_none_or_empty(rt, alloc, left.bytes());

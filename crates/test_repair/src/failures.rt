@@ -1,6 +1,7 @@
 //! Each write and each sync of a journal fails in turn.
 
-use crate::journals::{InMemory, create, expect_loaded, same_commit, same_number};
+use crate::comparisons::holds;
+use crate::journals::{InMemory, append_two, create, expect_loaded, same_commit, same_number};
 use mold_durable::{CommitError, MemoryStorage, OpenError, Storage, WaitingError};
 use std::alloc::Global;
 use std::process::Abort;
@@ -13,7 +14,7 @@ fn expect_not_created(rt: &impl Abort, alloc: Global, k: u64) {
     match create(alloc, storage) {
         Ok(_) => same_number(rt, k, 0),
         Err(fault) => {
-            assert!(rt; fault.error == OpenError::Write, "another error");
+            holds(rt, fault.error == OpenError::Write);
             same_number(rt, fault.storage.failures(), 1);
         }
     }
@@ -35,24 +36,25 @@ fn failing(alloc: Global, k: u64) -> Result<InMemory, Fail> {
     let mut storage = MemoryStorage::new(alloc);
     storage.fail_at(CALLS_BEFORE.saturating_add(k));
     let mut journal = create(alloc, storage)?;
-    journal.append(b"AB")?;
-    journal.commit()?;
-    journal.append(b"C")?;
+    append_two(&mut journal)?;
     Ok(journal)
 }
 
 fn expect_broken(rt: &impl Abort, journal: &mut InMemory) {
-    let appended = journal.append(b"D");
-    assert!(rt; appended == Err(WaitingError::Broken), "another outcome");
+    holds(rt, journal.append(b"D") == Err(WaitingError::Broken));
     same_commit(rt, journal.commit(), Err(CommitError::Broken));
     same_commit(rt, journal.close(), Err(CommitError::Broken));
 }
 
+fn expect_one_committed(rt: &impl Abort, journal: &mut InMemory) {
+    same_commit(rt, journal.commit(), Err(CommitError::Write));
+    expect_broken(rt, journal);
+    same_number(rt, journal.committed(), 1);
+}
+
 fn expect_not_committed(rt: &impl Abort, alloc: Global, k: u64) -> Result<(), Fail> {
     let mut journal = failing(alloc, k)?;
-    same_commit(rt, journal.commit(), Err(CommitError::Write));
-    expect_broken(rt, &mut journal);
-    same_number(rt, journal.committed(), 1);
+    expect_one_committed(rt, &mut journal);
     same_number(rt, journal.into_storage().failures(), 1);
     Ok(())
 }
@@ -66,11 +68,15 @@ fn each_call_of_a_commit_fails(rt: HostRuntime) -> Result<(), Fail> {
     Ok(())
 }
 
+fn expect_open(rt: &impl Abort, journal: &mut InMemory) {
+    same_commit(rt, journal.close(), Err(CommitError::Write));
+    expect_broken(rt, journal);
+    holds(rt, !journal.is_closed());
+}
+
 fn expect_not_closed(rt: &impl Abort, alloc: Global, k: u64) -> Result<(), Fail> {
     let mut journal = failing(alloc, k)?;
-    same_commit(rt, journal.close(), Err(CommitError::Write));
-    expect_broken(rt, &mut journal);
-    assert!(rt; !journal.is_closed(), "it is closed");
+    expect_open(rt, &mut journal);
     Ok(())
 }
 

@@ -1,6 +1,7 @@
 //! Journals that are opened: worked examples, each cut file, calls that fail, and a journal of several reads.
 
-use crate::journals::{EXAMPLE, SESSION, expect_loaded, same_number, same_truth};
+use crate::comparisons::holds;
+use crate::journals::{EXAMPLE, InMemory, SESSION, expect_loaded, same_number};
 use mold_durable::{DurableJournal, MemoryStorage, OpenError, Storage};
 use std::alloc::Global;
 use std::process::Abort;
@@ -21,7 +22,7 @@ fn expect_opened(rt: &impl Abort, alloc: Global, bytes: &[u8], max_message: u16,
         Ok(storage) => open_storage(alloc, max_message, storage),
         Err(_) => Err(OpenError::Memory),
     };
-    assert!(rt; found == wanted, "another outcome of {bytes:?}");
+    holds(rt, found == wanted);
 }
 
 /// What opening returns for a prefix of `EXAMPLE`.
@@ -103,25 +104,30 @@ fn count_reads(alloc: Global) -> Result<u64, Fail> {
 #[test]
 fn each_call_of_an_opening_fails(rt: HostRuntime) -> Result<(), Fail> {
     let reads = count_reads(rt.alloc())?;
-    same_truth(&rt, reads > 0, true);
+    holds(&rt, reads > 0);
     let synced = open_with_failure(rt.alloc(), reads.saturating_add(1))?;
-    same_truth(&rt, synced == Err(OpenError::Write), true);
+    holds(&rt, synced == Err(OpenError::Write));
     let opened = open_with_failure(rt.alloc(), reads.saturating_add(2))?;
-    same_truth(&rt, opened == Ok((2, true)), true);
+    holds(&rt, opened == Ok((2, true)));
     Ok(())
 }
 
 /// The length of each message of a long journal. Its records end at no multiple of a read's length.
 const LONG: usize = 50_001;
 
-fn long_storage(alloc: Global) -> Result<MemoryStorage, Fail> {
+fn append_nine(alloc: Global, journal: &mut InMemory) -> Result<(), Fail> {
     let message = vec![in alloc; 1u8; LONG]?;
-    let storage = MemoryStorage::new(alloc);
-    let mut journal = DurableJournal::create(alloc, SESSION, u16::MAX, storage)?;
     for _ in 0..9u8 {
         journal.append(&message)?;
     }
     journal.commit()?;
+    Ok(())
+}
+
+fn long_storage(alloc: Global) -> Result<MemoryStorage, Fail> {
+    let storage = MemoryStorage::new(alloc);
+    let mut journal = DurableJournal::create(alloc, SESSION, u16::MAX, storage)?;
+    append_nine(alloc, &mut journal)?;
     Ok(journal.into_storage())
 }
 
@@ -129,15 +135,20 @@ fn long_storage(alloc: Global) -> Result<MemoryStorage, Fail> {
 fn a_long_journal_is_opened(rt: HostRuntime) -> Result<(), Fail> {
     let storage = long_storage(rt.alloc())?;
     let opened = open_storage(rt.alloc(), u16::MAX, storage);
-    same_truth(&rt, opened == Ok((9, false)), true);
+    holds(&rt, opened == Ok((9, false)));
+    Ok(())
+}
+
+fn append_one(journal: &mut InMemory) -> Result<(), Fail> {
+    journal.append(b"C")?;
+    journal.commit()?;
     Ok(())
 }
 
 // Appends a message and commits it.
 fn commit_one(storage: MemoryStorage, alloc: Global) -> Result<MemoryStorage, Fail> {
     let mut journal = DurableJournal::open(alloc, 42, storage)?;
-    journal.append(b"C")?;
-    journal.commit()?;
+    append_one(&mut journal)?;
     Ok(journal.into_storage())
 }
 

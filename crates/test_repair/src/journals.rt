@@ -1,11 +1,13 @@
 //! Journals in memory, and comparisons that several modules make.
 
+use crate::comparisons::holds;
 use mold_devices::MemorySource;
 use mold_durable::{CommitError, DurableJournal, MemoryStorage, NotOpened};
 use mold_session::{FileError, Journal};
 use mold_wire::Session;
 use std::alloc::{AllocError, Global};
 use std::process::Abort;
+use std::test::Fail;
 
 /// The session of all journals.
 pub const SESSION: Session = Session(*b"SESSION001");
@@ -28,9 +30,16 @@ pub fn load(alloc: Global, bytes: &[u8]) -> Loaded {
     Ok((journal.next() - 1, journal.is_closed()))
 }
 
+/// Appends the message `AB`, commits it, and appends another message.
+pub fn append_two(journal: &mut InMemory) -> Result<(), Fail> {
+    journal.append(b"AB")?;
+    journal.commit()?;
+    journal.append(b"C")?;
+    Ok(())
+}
+
 pub fn expect_loaded(rt: &impl Abort, alloc: Global, bytes: &[u8], wanted: Loaded) {
-    let found = load(alloc, bytes);
-    assert!(rt; found == wanted, "another journal");
+    holds(rt, load(alloc, bytes) == wanted);
 }
 
 /// The bytes are the file of one of two journals.
@@ -42,22 +51,11 @@ pub fn expect_either(
     after: (u64, bool),
 ) {
     let found = load(alloc, bytes);
-    assert!(rt;
-        found == Ok(before) || found == Ok(after),
-        "another journal"
-    );
-}
-
-pub fn same_bytes(rt: &impl Abort, found: &[u8], wanted: &[u8]) {
-    assert_eq!(rt; found, wanted);
+    holds(rt, found == Ok(before) || found == Ok(after));
 }
 
 pub fn same_number(rt: &impl Abort, found: u64, wanted: u64) {
     assert!(rt; found == wanted, "{found}, not {wanted}");
-}
-
-pub fn same_truth(rt: &impl Abort, found: bool, wanted: bool) {
-    assert!(rt; found == wanted, "not {wanted}");
 }
 
 pub fn same_commit(
@@ -65,7 +63,7 @@ pub fn same_commit(
     found: Result<(), CommitError>,
     wanted: Result<(), CommitError>,
 ) {
-    assert!(rt; found == wanted, "another outcome");
+    holds(rt, found == wanted);
 }
 
 /// The tear of a single write.

@@ -1,6 +1,7 @@
 //! A journal in a file.
 
-use crate::journals::{EXAMPLE, SESSION, same_bytes, same_truth};
+use crate::comparisons::{holds, same_bytes};
+use crate::journals::{EXAMPLE, SESSION};
 use mold_durable::{
     DurableJournal, FileStorage, JournalFileError, create_file, open_file, sync_folder,
 };
@@ -36,7 +37,7 @@ fn is_kept(rt: &HostRuntime) -> Result<bool, Fail> {
 fn a_journal_is_written_to_a_file(rt: HostRuntime) -> Result<(), Fail> {
     let mut journal = create(&rt)?;
     sync_folder(&rt, PATH)?;
-    same_truth(&rt, is_kept(&rt)?, true);
+    holds(&rt, is_kept(&rt)?);
     write_example(&mut journal)?;
     same_bytes(&rt, &fs::read(&rt, PATH)?, &EXAMPLE);
     fs::remove_file(&rt, PATH)?;
@@ -45,6 +46,6 @@ fn a_journal_is_written_to_a_file(rt: HostRuntime) -> Result<(), Fail> {
 
 #[test]
 fn no_storage_is_opened_without_a_file(rt: HostRuntime) -> Result<(), Fail> {
-    same_truth(&rt, open_file(&rt, "test_durable.none")?.is_none(), true);
+    holds(&rt, open_file(&rt, "test_durable.none")?.is_none());
     Ok(())
 }
