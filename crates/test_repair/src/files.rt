@@ -3,12 +3,18 @@
 use crate::comparisons::{holds, same_bytes};
 use crate::journals::{EXAMPLE, SESSION};
 use mold_durable::{
-    DurableJournal, FileStorage, JournalFileError, create_file, open_file, sync_folder,
+    DurableJournal, FileStorage, JournalFileError, ReplacedFile, create_file, open_file,
+    sync_folder,
 };
 use std::fs;
+use std::io::Write;
 use std::test::Fail;
 
 const PATH: &str = "test_durable.moldjnl";
+
+const REPLACED: &str = "test_durable.replaced";
+
+const OTHER: &str = "test_durable.other";
 
 fn create(rt: &HostRuntime) -> Result<DurableJournal<FileStorage>, Fail> {
     let _ = fs::remove_file(rt, PATH);
@@ -47,5 +53,35 @@ fn a_journal_is_written_to_a_file(rt: HostRuntime) -> Result<(), Fail> {
 #[test]
 fn no_storage_is_opened_without_a_file(rt: HostRuntime) -> Result<(), Fail> {
     holds(&rt, open_file(&rt, "test_durable.none")?.is_none());
+    Ok(())
+}
+
+#[test]
+fn the_first_write_replaces_a_file(rt: HostRuntime) -> Result<(), Fail> {
+    fs::write(&rt, REPLACED, b"older bytes")?;
+    let mut file = ReplacedFile::open(&rt, REPLACED)?;
+    same_bytes(&rt, &fs::read(&rt, REPLACED)?, b"older bytes");
+    file.write_all(b"new")?;
+    same_bytes(&rt, &fs::read(&rt, REPLACED)?, b"new");
+    fs::remove_file(&rt, REPLACED)?;
+    Ok(())
+}
+
+// Writes to a file that another writer has created since, and returns whether the writer reports that it is locked.
+fn is_refused(rt: &HostRuntime, file: &mut ReplacedFile<'_>) -> Result<bool, Fail> {
+    let journal = create_file(rt, OTHER, SESSION, 42)?;
+    let is_refused = file.write(b"new").is_err() && file.is_locked();
+    drop(journal);
+    Ok(is_refused)
+}
+
+#[test]
+fn a_file_that_another_writer_creates_is_not_replaced(rt: HostRuntime) -> Result<(), Fail> {
+    let _ = fs::remove_file(&rt, OTHER);
+    let mut file = ReplacedFile::open(&rt, OTHER)?;
+    holds(&rt, !file.is_locked());
+    holds(&rt, is_refused(&rt, &mut file)?);
+    same_bytes(&rt, &fs::read(&rt, OTHER)?, b"MOLDJNL3SESSION001\0");
+    fs::remove_file(&rt, OTHER)?;
     Ok(())
 }
