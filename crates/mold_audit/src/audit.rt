@@ -18,7 +18,7 @@ const EMPTY: u64 = 0;
 
 /// The digests of the messages that were delivered last: of those among the last numbers, as many as its size. It takes
 /// 8 bytes for each of them. A number that was given up has no digest, but counts.
-#[derive(Debug, Drop)]
+#[derive(Drop)]
 pub struct Audit {
     // A digest or `EMPTY` for each of the last numbers, at the number's remainder by the length.
     slots: Vec<u64>,

@@ -26,7 +26,7 @@ use std::marker::Model;
 
 /// The messages by sequence number. One buffer has all their bytes once. Messages that arrive together with
 /// consecutive numbers take one entry of the map.
-#[derive(Debug, Drop)]
+#[derive(Drop)]
 pub(crate) struct Carried {
     runs: BTreeMap<u64, Run>,
     kept: MessageList,

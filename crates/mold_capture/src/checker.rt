@@ -17,6 +17,8 @@ use mold_rule::laws::refusal_law;
 use mold_rule::{Refusal, check_header};
 use mold_wire::{Body, Packet, Session, decode};
 use std::alloc::Global;
+use std::fmt;
+use std::fmt::{Debug, Formatter};
 use std::marker::Model;
 
 // The sequence number of the first end packet, with this packet included.
@@ -49,13 +51,19 @@ fn join_messages(carried: &mut Carried, packet: &Packet<'_>) -> Result<(), Refus
 /// A checker of datagrams. It keeps what the accepted datagrams state: the session, the largest top of a
 /// packet, the end, and the messages. The datagrams may come in any order. Each message is stored once. A
 /// datagram without a new message allocates nothing.
-#[derive(Debug, Drop)]
+#[derive(Drop)]
 pub struct Checker {
     session: Option<Session>,
     known: u64,
     ended: Option<u64>,
     carried: Carried,
     alloc: Global,
+}
+
+impl Debug for Checker {
+    fn fmt<W: fmt::Write>(&self, f: &mut Formatter<W>) -> fmt::Result {
+        f.debug_struct("Checker").finish_non_exhaustive()
+    }
 }
 
 impl Model for Checker {

@@ -11,7 +11,7 @@ use std::collections::BTreeMap;
 
 /// Messages with consecutive sequence numbers: `count` messages, the first of which has index `start` in the
 /// list of messages.
-#[derive(Clone, Copy, Debug)]
+#[derive(Clone, Copy)]
 pub(crate) struct Run {
     pub(crate) start: usize,
     pub(crate) count: u64,

@@ -1,7 +1,7 @@
 //! The verdict of a checker.
 
 /// A range of sequence numbers.
-#[derive(Clone, Copy, Debug, PartialEq, Eq, Hash)]
+#[derive(Clone, Copy, Debug, PartialEq, Eq)]
 pub struct Range {
     /// The first number of the range.
     pub first: u64,

@@ -2,7 +2,7 @@
 
 /// An entry of a folder, in memory. It is a datagram if its name ends in `.pkt`. The bytes of other entries are
 /// not read, so they may be left empty.
-#[derive(Debug, Drop)]
+#[derive(Drop)]
 pub struct Entry {
     /// The name of the entry within its folder.
     pub name: String,

@@ -6,7 +6,7 @@ ghost use Rattle.mold_devices.specs.Devices.{Counts, one_more};
 use crate::device_fault::DeviceFault;
 
 /// The plan for the calls of a device in memory: which one fails, and how many bytes a call moves at most.
-#[derive(Clone, Copy, Debug)]
+#[derive(Clone, Copy)]
 pub struct FailurePlan {
     /// The call that fails, counted from 1 for the next call. 0 means that no call fails.
     pub fails_at: u64,

@@ -12,7 +12,7 @@ use std::marker::Model;
 
 /// A source that reads from a reader. Every error of the reader is a failure, including an interrupted call.
 /// Each call after the first `u64::MAX` is a failure too.
-#[derive(Debug, Drop)]
+#[derive(Drop)]
 pub struct FromRead<R> {
     reader: R,
     calls_left: u64,

@@ -10,7 +10,7 @@ use std::marker::Model;
 /// A sink that writes to a writer. Every error of the writer is a failure, including an interrupted call. If
 /// a write of one or more bytes writes nothing, it is a failure too. The sink never flushes, even if it is
 /// live: standard output does not buffer.
-#[derive(Debug, Drop)]
+#[derive(Drop)]
 pub struct IntoWrite<W> {
     writer: W,
     failures: u64,

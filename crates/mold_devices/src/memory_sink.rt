@@ -11,7 +11,7 @@ use std::alloc::Global;
 use std::marker::Model;
 
 /// A sink that stores its bytes in memory. It fails only if `fail_at` says so or if an allocation fails.
-#[derive(Debug, Drop)]
+#[derive(Drop)]
 pub struct MemorySink {
     held: Vec<u8>,
     plan: FailurePlan,

@@ -12,7 +12,7 @@ use crate::source::Source;
 use std::marker::Model;
 
 /// A source that reads bytes from memory. It fails only if `fail_at` says so.
-#[derive(Debug, Drop)]
+#[derive(Drop)]
 pub struct MemorySource<'a> {
     left: &'a [u8],
     plan: FailurePlan,

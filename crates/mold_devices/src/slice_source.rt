@@ -10,7 +10,7 @@ use crate::source::Source;
 use std::marker::Model;
 
 /// A source that reads from a slice and never fails.
-#[derive(Debug, Drop)]
+#[derive(Drop)]
 pub struct SliceSource<'a> {
     left: &'a [u8],
 }

@@ -1,7 +1,7 @@
 //! The result of one turn of a command.
 
 /// What follows one turn of a command.
-#[derive(Clone, Copy, Debug, PartialEq, Eq)]
+#[derive(Clone, Copy)]
 pub enum Turn {
     /// The command goes on: another turn follows.
     More,

@@ -14,7 +14,7 @@ use mold_wire::MAX_MESSAGE;
 use std::alloc::Global;
 
 /// A call on a durable journal.
-#[derive(Debug, Drop)]
+#[derive(Drop)]
 pub enum Step {
     /// Appends this message.
     Append(Vec<u8>),

@@ -34,7 +34,7 @@ use std::marker::Model;
 ///
 /// After a call that returned `Write`, the journal is broken: `append`, `commit` and `close` return `Broken` from then
 /// on.
-#[derive(Debug, Drop)]
+#[derive(Drop)]
 pub struct DurableJournal<S> {
     storage: S,
     session: Session,

@@ -2,6 +2,8 @@
 
 use mold_session::AppendError;
 use std::alloc::AllocError;
+use std::fmt;
+use std::fmt::{Debug, Formatter};
 use thiserror::Error;
 
 /// Why a message is not appended. If both reasons apply, `Broken` is returned.
@@ -69,10 +71,18 @@ impl From<AllocError> for OpenError {
 }
 
 /// A journal that is not created or opened: why, and its storage.
-#[derive(Debug, Drop)]
+#[derive(Drop)]
 pub struct NotOpened<S> {
     /// Why it is not opened.
     pub error: OpenError,
     /// The storage.
     pub storage: S,
+}
+
+impl<S> Debug for NotOpened<S> {
+    fn fmt<W: fmt::Write>(&self, f: &mut Formatter<W>) -> fmt::Result {
+        f.debug_struct("NotOpened")
+            .field("error", &self.error)
+            .finish_non_exhaustive()
+    }
 }

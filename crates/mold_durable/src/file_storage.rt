@@ -17,7 +17,7 @@ pub const MAX_LENGTH: u64 = i64::MAX as u64;
 ///
 /// No contract can state what a file contains. So no bytes satisfy `shows` or `may_leave` here, and the clauses of
 /// `Storage` about bytes state nothing. The tests check what they would state.
-#[derive(Debug, Drop)]
+#[derive(Drop)]
 pub struct FileStorage {
     file: File,
     failures: u64,

@@ -11,7 +11,7 @@ use std::fs::File;
 ///
 /// No contract can state what a file contains. So no history is possible here, and the clauses of `GrowingFile` about
 /// bytes state nothing. The tests check what they would state.
-#[derive(Debug, Drop)]
+#[derive(Drop)]
 pub struct FollowedFile {
     file: File,
     failures: u64,

@@ -22,7 +22,7 @@ use std::marker::Model;
 
 /// Reads the journal in a file of version 3 while another process writes it. It returns only durable messages. It holds
 /// the messages of the last poll, and 65,540 bytes for a record.
-#[derive(Debug, Drop)]
+#[derive(Drop)]
 pub struct Follower<F> {
     file: F,
     session: Session,

@@ -27,7 +27,7 @@ const END: [u8; 3] = [SHUT_GATE, CLOSING, SHUT_GATE];
 
 /// Messages that wait to be committed. They are kept as the records that a commit writes, so a commit copies nothing.
 /// A message takes its bytes and 4 more. The group keeps its memory until it is dropped.
-#[derive(Debug, Drop)]
+#[derive(Drop)]
 pub struct Group {
     // The records of the messages, and the bytes of `END` after them. If the group closes the session, the first byte
     // of `END` is an open gate.

@@ -17,7 +17,7 @@ use std::marker::Model;
 
 /// A storage in memory, for tests. A call fails only if `fail_at` or `crash_at` selected it, if a write begins after
 /// the end of the bytes, or if an allocation fails. The storage records each write and each sync, so its memory grows.
-#[derive(Debug, Drop)]
+#[derive(Drop)]
 pub struct MemoryStorage {
     alloc: Global,
     bytes: Vec<u8>,

@@ -29,7 +29,7 @@ pub struct Recovered {
 }
 
 /// The records of a journal.
-#[derive(Clone, Copy, Debug)]
+#[derive(Clone, Copy)]
 pub struct Records {
     /// The number of messages.
     pub count: u64,

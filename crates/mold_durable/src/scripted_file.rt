@@ -12,7 +12,7 @@ use mold_devices::DeviceFault;
 /// Each read begins at the moment at which the last one ended, and takes one moment: its first `split` bytes are of the
 /// later moment, and the others of the earlier one, as far as that had them. A call fails only if `fail_at` selected
 /// it.
-#[derive(Debug, Drop)]
+#[derive(Drop)]
 pub struct ScriptedFile {
     snapshots: Vec<Vec<u8>>,
     split: usize,

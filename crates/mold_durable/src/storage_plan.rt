@@ -7,7 +7,7 @@ ghost use Rattle.mold_durable.specs.Memory.{fails_next};
 use mold_devices::DeviceFault;
 
 /// The plan for the calls of a storage in memory: which one fails, and whether all later calls fail too.
-#[derive(Clone, Copy, Debug)]
+#[derive(Clone, Copy)]
 pub(crate) struct StoragePlan {
     // The call that fails, counted from 1 for the next call. 0 means that no call fails.
     pub fails_at: u64,

@@ -34,7 +34,7 @@ use std::alloc::Global;
 ///
 /// It holds all messages of the session in memory, for the server that responds to requests, and those that wait once
 /// more, as the durable journal keeps them. A returned datagram is valid until the next call.
-#[derive(Debug, Drop)]
+#[derive(Drop)]
 pub struct DurablePublisher<S> {
     // The messages that are committed or wait.
     publisher: Publisher,

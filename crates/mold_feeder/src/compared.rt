@@ -3,7 +3,7 @@
 use mold_publish::RefusalReason;
 
 /// How an entry of an input compares with the journal's message of its number.
-#[derive(Clone, Copy, Debug, PartialEq, Eq)]
+#[derive(Clone, Copy)]
 pub enum Compared {
     /// It is the same message.
     Same,

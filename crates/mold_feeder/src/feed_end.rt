@@ -1,7 +1,7 @@
 //! How a publisher over ports ends its session.
 
 /// What a publisher sends at the end of its input, and whether its session stays open.
-#[derive(Clone, Copy, Debug)]
+#[derive(Clone, Copy)]
 pub struct FeedEnd {
     /// The number of heartbeats that are sent after the last message.
     pub beats: u32,

@@ -7,7 +7,7 @@ use mold_port_set::PortSet;
 
 /// The addresses of a publisher's lines. Line A is sent from the port with index 0 of a set of ports, and line B from
 /// the port with index 1.
-#[derive(Clone, Copy, Debug)]
+#[derive(Clone, Copy)]
 pub struct FeedLines<P: Copy> {
     /// The address of line A.
     pub a: P,

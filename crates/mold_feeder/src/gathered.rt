@@ -3,7 +3,7 @@
 use mold_publish::MessageRefusal;
 
 /// Why no more messages of an input joined a group.
-#[derive(Clone, Copy, Debug, PartialEq, Eq)]
+#[derive(Clone, Copy)]
 pub enum Gathered {
     /// The group has as many messages as it may have.
     Full,

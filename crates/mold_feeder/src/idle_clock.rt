@@ -10,7 +10,7 @@ pub(crate) const MILLISECOND: u64 = 1_000_000;
 pub(crate) const NEVER: u64 = u64::MAX;
 
 /// When the next heartbeat is due, because nothing was sent on the lines for a time.
-#[derive(Clone, Copy, Debug)]
+#[derive(Clone, Copy)]
 pub struct IdleClock {
     // After how many milliseconds without a datagram a heartbeat is due. 0 is never.
     idle: u32,

@@ -7,7 +7,7 @@ ghost use Rattle.mold_feeder.specs.Pace.{IsDelay, IsDelayAt, IsPaced, group_of};
 pub(crate) const SECOND: u64 = 1_000_000_000;
 
 /// The pace of a publisher that sends at most a number of messages a second. Times are in nanoseconds.
-#[derive(Clone, Copy, Debug)]
+#[derive(Clone, Copy)]
 pub struct Pace {
     // The most messages in a second. 0 is no bound.
     rate: u32,

@@ -1,7 +1,7 @@
 //! The kinds of inputs.
 
 /// How an input encodes messages. Refusals name its parts by it: `line` or `block`.
-#[derive(Clone, Copy, Debug, PartialEq, Eq)]
+#[derive(Clone, Copy)]
 pub enum InputKind {
     /// Lines of hexadecimal digits.
     Lines,

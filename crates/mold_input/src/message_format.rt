@@ -1,7 +1,7 @@
 //! The formats of messages in inputs and outputs, from which a user chooses.
 
 /// How bytes encode messages.
-#[derive(Clone, Copy, Debug, PartialEq, Eq)]
+#[derive(Clone, Copy)]
 pub enum MessageFormat {
     /// Lines of hexadecimal digits.
     Lines,

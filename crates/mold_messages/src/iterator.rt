@@ -5,7 +5,7 @@ use std::marker::Model;
 
 /// An iterator over the messages of a list, in order. Each item is a slice of the list's bytes and is valid
 /// as long as the list is borrowed.
-#[derive(Debug, Drop)]
+#[derive(Drop)]
 pub struct MessageIterator<'a> {
     // The number of bytes before each message that belong to none.
     spacing: usize,

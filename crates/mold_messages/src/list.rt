@@ -14,7 +14,7 @@ use std::marker::Model;
 /// Messages of any lengths, joined in one buffer. A message takes its bytes and 8 more for the offset at
 /// which it ends. Only `push`, `extend_last` and `reserve` allocate. They mostly allocate more than is
 /// requested, and the list keeps its memory until it is dropped.
-#[derive(Debug, Drop)]
+#[derive(Drop)]
 pub struct MessageList {
     // The offset at which each message ends in the bytes.
     ends: Vec<usize>,

@@ -18,7 +18,7 @@ pub const SPACING: usize = 2;
 /// Messages of any lengths as parts of one buffer, in order, with `SPACING` other bytes before each of them. The bytes
 /// of many messages are copied at once, and each message is then marked where it ends. A message takes its bytes and 10
 /// more: the bytes before it, and 8 for the offset at which it ends. The list keeps its memory until it is dropped.
-#[derive(Debug, Drop)]
+#[derive(Drop)]
 pub struct PartList {
     // The offset at which each message ends in the bytes.
     ends: Vec<usize>,

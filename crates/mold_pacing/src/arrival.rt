@@ -6,7 +6,7 @@ ghost use Rattle.mold_pacing.specs.Delays.{mark_of};
 use crate::mark::{LINES, Mark, TIMES};
 
 /// A datagram that a line brought.
-#[derive(Clone, Copy, Debug, PartialEq, Eq)]
+#[derive(Clone, Copy)]
 pub struct Arrival {
     /// The number of its first message.
     pub first: u64,

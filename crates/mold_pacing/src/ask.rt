@@ -1,7 +1,7 @@
 //! A request to send.
 
 /// A request to send now: for the numbers from `first` to `end - 1`, to this server.
-#[derive(Clone, Copy, Debug, PartialEq, Eq)]
+#[derive(Clone, Copy, PartialEq, Eq)]
 pub struct Ask {
     /// The first number to request.
     pub first: u64,

@@ -9,7 +9,7 @@ use crate::mark::{LINES, TIMES};
 pub(crate) const LAST_LINE: u64 = 2;
 
 /// A delay between the lines, in 8 bytes: how much later the second line brought a datagram, and which line that was.
-#[derive(Clone, Copy, Debug, PartialEq, Eq)]
+#[derive(Clone, Copy)]
 pub struct Delay {
     /// Four times the delay in nanoseconds, plus 1, plus the line's index. It is 0 if there is no delay.
     pub stamp: u64,

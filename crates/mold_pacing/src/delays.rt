@@ -32,7 +32,7 @@ const NO_DELAY: Delay = Delay { stamp: 0 };
 /// The delays between two lines: how much later the second line brought a datagram that both brought. It counts the
 /// last 1,024 of them. The first arrival of a datagram is forgotten when the arrival of one follows whose first number
 /// is greater by a multiple of 65,536.
-#[derive(Debug, Drop)]
+#[derive(Drop)]
 pub struct Delays {
     // The marks of the arrivals, each at the slot of its first number.
     arrivals: Vec<Mark>,

@@ -2,7 +2,7 @@
 
 /// A request that was sent. Until `until` it is in flight. After that its record remains, so that the next request for
 /// one of its numbers waits longer and goes to the next server.
-#[derive(Clone, Copy, Debug, PartialEq, Eq)]
+#[derive(Clone, Copy)]
 pub struct Flight {
     /// The first number that was requested.
     pub first: u64,

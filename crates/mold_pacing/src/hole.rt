@@ -1,7 +1,7 @@
 //! The numbers between two requests in flight.
 
 /// The numbers from `first` to `end - 1`, none of which is in flight.
-#[derive(Clone, Copy, Debug, PartialEq, Eq)]
+#[derive(Clone, Copy)]
 pub struct Hole {
     /// The index of the next request. Those before it that are in flight end at or below `first`.
     pub index: usize,

@@ -25,7 +25,7 @@ pub(crate) const BOTH: u64 = 3;
 
 /// What is kept of an arrival, in 16 bytes. Its slot and `end` determine its first number, because a datagram has fewer
 /// than 65,536 messages.
-#[derive(Clone, Copy, Debug, PartialEq, Eq)]
+#[derive(Clone, Copy)]
 pub struct Mark {
     /// One more than the number of its last message.
     pub end: u64,

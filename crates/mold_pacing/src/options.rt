@@ -3,7 +3,7 @@
 ghost use Rattle.std.specs.Prelude.{◌<◌, ◌≤◌, ◌^◌};
 
 /// What a pacer keeps to. Times are in nanoseconds.
-#[derive(Clone, Copy, Debug)]
+#[derive(Clone, Copy)]
 pub struct PacerOptions {
     /// How long a number has to be known before it may be requested, until `Pacer::adapt` changes it. A missing number
     /// waits one to two patiences.

@@ -21,7 +21,7 @@ use crate::waiting::{free_from, next_over, over_from};
 use std::alloc::{AllocError, Global};
 
 /// The policy of requests. It knows the time, the requests in flight, and the missing numbers only from its caller.
-#[derive(Debug, Drop)]
+#[derive(Drop)]
 pub struct Pacer {
     options: PacerOptions,
     state: PacerState,

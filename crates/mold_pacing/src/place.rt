@@ -11,7 +11,7 @@ use crate::flight::Flight;
 
 /// The place for a new request: the index of the request that leaves the table, if one has to, and the last request for
 /// the same number.
-#[derive(Clone, Copy, Debug)]
+#[derive(Clone, Copy)]
 pub(crate) struct Place {
     pub(crate) leaves: Option<usize>,
     pub(crate) before: Option<Flight>,

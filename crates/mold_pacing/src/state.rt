@@ -11,7 +11,7 @@ use crate::options::PacerOptions;
 pub(crate) const GROWTH: u32 = 16;
 
 /// The time, the limit on requests, the numbers that are ripe, and what was learned about the servers.
-#[derive(Clone, Copy, Debug, PartialEq, Eq)]
+#[derive(Clone, Copy)]
 pub struct PacerState {
     /// The latest time that was reported.
     pub now: u64,

@@ -3,7 +3,7 @@
 use crate::gap::Gap;
 
 /// What happens to a pacer: one of its calls.
-#[derive(Clone, Copy, Debug)]
+#[derive(Clone, Copy)]
 pub enum Step<'a> {
     /// `Pacer::advance`: the time, and one more than the greatest known number.
     Advance { time: u64, known: u64 },

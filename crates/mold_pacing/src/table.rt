@@ -14,7 +14,7 @@ use crate::gap::Gap;
 use crate::hole::Hole;
 
 /// A free number, the end of its gap, and the index from which on all requests begin above it.
-#[derive(Clone, Copy, Debug)]
+#[derive(Clone, Copy)]
 pub(crate) struct Free {
     pub(crate) index: usize,
     pub(crate) first: u64,

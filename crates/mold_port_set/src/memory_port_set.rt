@@ -23,7 +23,7 @@ use std::marker::Model;
 ///
 /// A step of the script is due when the clock has reached its time. Each call takes the first due step that is for this
 /// call. A step is taken once. The set keeps the datagrams that receives gave and those that were sent.
-#[derive(Debug, Drop)]
+#[derive(Drop)]
 pub struct MemoryPortSet {
     alloc: Global,
     script: Script,

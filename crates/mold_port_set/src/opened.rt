@@ -3,7 +3,7 @@
 use std::net::SocketAddrV4;
 
 /// How a port of a set was opened.
-#[derive(Clone, Copy, Debug, PartialEq, Eq)]
+#[derive(Clone, Copy, PartialEq, Eq)]
 pub enum Opened {
     /// At an address of this machine. Its port number may be 0.
     Bound(SocketAddrV4),

@@ -7,7 +7,7 @@ use crate::port_set_call::PortSetCall;
 
 /// A step of the script of a set of ports in memory. It is taken at the time `at` or later, in nanoseconds since the
 /// set was made. If `at` is 2^62 or more, it is never taken, because the clock stops below.
-#[derive(Debug, Drop)]
+#[derive(Drop)]
 pub enum PortSetStep {
     /// A datagram arrives at a port. A receive on the port gives it.
     Come {

@@ -8,7 +8,7 @@ use crate::port_set_call::PortSetCall;
 use crate::port_set_step::PortSetStep;
 
 /// The steps that were not taken yet, in order.
-#[derive(Debug, Drop)]
+#[derive(Drop)]
 pub(crate) struct Script {
     pub(crate) steps: Vec<PortSetStep>,
 }

@@ -13,7 +13,7 @@ use std::marker::Model;
 
 /// A script as a port. Each receive gives the next step of the script. After the last step, receives give nothing. The
 /// port keeps what is sent. A send fails only if `fail_send` says so, or if there is no memory to keep the datagram.
-#[derive(Debug, Drop)]
+#[derive(Drop)]
 pub struct MemoryPort {
     alloc: Global,
     script: Vec<Step>,

@@ -13,7 +13,7 @@ ghost use Rattle.mold_ports.specs.Outlook.{after_nothing, after_sent};
 /// | `Unanswered` | waits as `Quiet` | `Unanswered` | `Busy` | `Unanswered` |
 ///
 /// A send that fails does not change the state. A new port is `Quiet`.
-#[derive(Clone, Copy, Debug, PartialEq, Eq)]
+#[derive(Clone, Copy)]
 pub enum Outlook {
     /// The last receive gave nothing.
     Quiet,

@@ -1,7 +1,7 @@
 //! The steps of the script of a port in memory.
 
 /// What one receive of a port in memory gives.
-#[derive(Debug, Drop)]
+#[derive(Drop)]
 pub enum Step {
     /// A datagram from the peer `from`.
     Come { from: u32, bytes: Vec<u8> },

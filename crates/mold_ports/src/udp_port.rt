@@ -38,7 +38,7 @@ const NO_DESCRIPTOR: RawFd = -1;
 /// A receive fails if the system refuses or interrupts its wait. It also fails if a datagram was here and cannot be
 /// taken, for example because of a wrong checksum. The port allocates no memory. Its socket is closed when the port is
 /// dropped.
-#[derive(Debug, Drop)]
+#[derive(Drop)]
 pub struct UdpPort {
     socket: UdpSocket,
     // The address that the port was opened at. Its port number may be 0.

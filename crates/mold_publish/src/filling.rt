@@ -16,7 +16,7 @@ use mold_wire::laws::packet_length_law;
 use std::alloc::AllocError;
 
 /// Why no more messages were published.
-#[derive(Clone, Copy, Debug, PartialEq, Eq)]
+#[derive(Clone, Copy)]
 pub enum Filled {
     /// The messages that are not yet in a datagram do not all fit one. Without the last one they do.
     Full,

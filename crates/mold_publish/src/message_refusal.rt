@@ -10,7 +10,7 @@ use mold_text::{Word, push_line_with};
 use std::alloc::AllocError;
 
 /// Why an entry of an input is not published as a message.
-#[derive(Clone, Copy, Debug, PartialEq, Eq)]
+#[derive(Clone, Copy)]
 pub struct MessageRefusal {
     /// The kind of the input. A line of text names the entry by it.
     pub kind: InputKind,

@@ -4,7 +4,7 @@ use mold_repair::RepairOrigin;
 use mold_wire::Session;
 
 /// The first data packet or heartbeat of a session that arrived.
-#[derive(Debug, Drop)]
+#[derive(Drop)]
 pub struct FirstPacket {
     /// The line on which it arrived, or the server.
     pub origin: RepairOrigin,

@@ -17,7 +17,7 @@ use std::alloc::{AllocError, Global};
 const UNFINISHED: u8 = 1;
 
 /// What the last line of a receiver without a first packet reports.
-#[derive(Clone, Copy, Debug, PartialEq, Eq)]
+#[derive(Clone, Copy)]
 pub struct Unopened {
     /// The number at which it would have started.
     pub next: u64,

@@ -20,7 +20,7 @@ pub(crate) const SECOND: u64 = 1_000_000_000;
 pub(crate) const NEVER: u64 = u64::MAX;
 
 /// The options of a receiver over ports.
-#[derive(Debug, Drop)]
+#[derive(Drop)]
 pub struct ReceiveOptions<P> {
     // The number of lines. Their ports come first in the set of ports, and those of the servers follow.
     pub(crate) lines: usize,

@@ -20,14 +20,22 @@ use crate::receiver::Receiver;
 use crate::taken::{Accepted, Taken};
 use mold_rule::Refusal;
 use std::alloc::AllocError;
+use std::fmt;
+use std::fmt::{Debug, Formatter};
 use std::marker::Model;
 
 /// A receiver of packets that arrive on two lines, with a report for each line. It doesn't matter on which line a
 /// packet arrives first: the receiver handles it as it would without lines.
-#[derive(Debug, Drop)]
+#[derive(Drop)]
 pub struct Arbiter {
     receiver: Receiver,
     reports: LineReports,
+}
+
+impl Debug for Arbiter {
+    fn fmt<W: fmt::Write>(&self, f: &mut Formatter<W>) -> fmt::Result {
+        f.debug_struct("Arbiter").finish_non_exhaustive()
+    }
 }
 
 impl Model for Arbiter {

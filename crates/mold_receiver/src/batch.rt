@@ -18,11 +18,12 @@ use crate::segment::length_at;
 use mold_messages::{MessageIterator, PartList};
 use mold_wire::{Blocks, LENGTH_BYTES};
 use std::alloc::{AllocError, Global};
+use std::fmt::{Debug, Formatter};
 use std::marker::Model;
-use std::mem;
+use std::{fmt, mem};
 
 // A run that was refused for memory: the number that it begins with, or 0, and the room that it needs.
-#[derive(Clone, Copy, Debug)]
+#[derive(Clone, Copy)]
 struct Refused {
     next: u64,
     room: Room,
@@ -31,7 +32,7 @@ struct Refused {
 /// A list of delivered messages with consecutive sequence numbers. The messages are in one buffer. Most are copied there
 /// one after the other. An empty batch may instead take over the memory of a segment, and gives back the one before it.
 /// The buffer grows ahead of need, and the memory is freed only when the batch is dropped.
-#[derive(Debug, Drop)]
+#[derive(Drop)]
 pub struct Batch {
     // The number of the first message, if there is one.
     first: u64,
@@ -46,6 +47,12 @@ pub struct Batch {
     ends: Vec<usize>,
     // The run that was last refused for memory.
     refused: Refused,
+}
+
+impl Debug for Batch {
+    fn fmt<W: fmt::Write>(&self, f: &mut Formatter<W>) -> fmt::Result {
+        f.debug_struct("Batch").finish_non_exhaustive()
+    }
 }
 
 impl Model for Batch {

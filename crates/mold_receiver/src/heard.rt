@@ -4,7 +4,7 @@ use crate::taken::Taken;
 use mold_wire::Messages;
 
 /// What a receiver did with a datagram that it accepted, and the datagram's own messages that are delivered.
-#[derive(Clone, Debug, Drop)]
+#[derive(Clone, Drop)]
 pub struct Heard<'a> {
     /// The counts. `handed` counts the own messages and those of the batch.
     pub taken: Taken,

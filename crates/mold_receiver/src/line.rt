@@ -16,7 +16,7 @@ pub enum Line {
 }
 
 /// What was received on one line. A count that reaches 18446744073709551615 stays there.
-#[derive(Clone, Copy, Debug, PartialEq, Eq, Hash)]
+#[derive(Clone, Copy, Debug, PartialEq, Eq)]
 pub struct LineReport {
     /// The number of datagrams that were accepted.
     pub datagrams: u64,
@@ -28,7 +28,7 @@ pub struct LineReport {
 }
 
 /// The reports of both lines.
-#[derive(Clone, Copy, Debug)]
+#[derive(Clone, Copy)]
 pub(crate) struct LineReports {
     a: LineReport,
     b: LineReport,

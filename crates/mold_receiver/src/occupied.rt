@@ -95,7 +95,7 @@ fn first_clear_in_word(words: &[u64], from: usize) -> usize
 
 // Bits in levels. `bits` has a bit for each flag of a ring. Each other level has a bit for each word of the level below
 // it, which is set exactly if that word isn't 0. So `next` reads at most two words of each level.
-#[derive(Debug, Drop)]
+#[derive(Drop)]
 struct Levels {
     bits: Vec<u64>,
     words: Vec<u64>,
@@ -262,7 +262,7 @@ impl Levels {
 
 /// A ring of flags, one for each slot. It is allocated once, and takes little more than one bit for each flag. No call
 /// searches for a set flag: `first_from` reads at most 28 words, wherever it is.
-#[derive(Debug, Drop)]
+#[derive(Drop)]
 pub(crate) struct Occupied {
     levels: Levels,
     // The bit of the first slot. The other slots follow it, and go on at bit 0 after the last one.

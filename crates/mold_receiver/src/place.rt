@@ -8,7 +8,7 @@ pub(crate) const NO_START: u32 = u32::MAX;
 
 /// The segment of a stored message, and the offset where its block starts there. The block has the message's length.
 /// A ring has many places, so a place has eight bytes.
-#[derive(Clone, Copy, Debug)]
+#[derive(Clone, Copy)]
 pub(crate) struct Place {
     pub segment: u32,
     pub start: u32,

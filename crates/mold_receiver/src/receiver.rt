@@ -38,6 +38,8 @@ use mold_wire::{
     decode, decode_plain,
 };
 use std::alloc::{AllocError, Global};
+use std::fmt;
+use std::fmt::{Debug, Formatter};
 use std::marker::Model;
 
 // Returns how many of a packet's messages are past the window. `top` is the packet's top and `count` is the number of
@@ -63,7 +65,7 @@ fn known_end(packet: &Packet<'_>, ended: Option<u64>) -> Option<u64>
 /// A receiver of one session's downstream packets. It delivers each message once, in the order of the sequence
 /// numbers, starting at the number given to `new`. It stores messages that arrive above a gap, if they are in its
 /// window. Packets may arrive late, repeatedly and in any order.
-#[derive(Debug, Drop)]
+#[derive(Drop)]
 pub struct Receiver {
     session: Session,
     next: u64,
@@ -71,6 +73,12 @@ pub struct Receiver {
     ended: Option<u64>,
     slots: Slots,
     alloc: Global,
+}
+
+impl Debug for Receiver {
+    fn fmt<W: fmt::Write>(&self, f: &mut Formatter<W>) -> fmt::Result {
+        f.debug_struct("Receiver").finish_non_exhaustive()
+    }
 }
 
 impl Model for Receiver {

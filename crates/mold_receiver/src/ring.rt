@@ -34,7 +34,7 @@ fn second_index(head: usize, count: usize) -> usize
 }
 
 /// A ring of slots. It is allocated once, and takes 8 bytes a slot. Its slots move without a copy.
-#[derive(Debug, Drop)]
+#[derive(Drop)]
 pub(crate) struct Ring {
     places: Vec<Place>,
     // The index of the first slot.

@@ -7,7 +7,7 @@ const SMALL_MESSAGES: usize = 4096;
 const SMALL_BYTES: usize = 65536;
 
 /// Room for a number of messages, and for a number of bytes: those of the messages and of their length fields.
-#[derive(Clone, Copy, Debug)]
+#[derive(Clone, Copy)]
 pub(crate) struct Room {
     pub messages: usize,
     pub bytes: usize,

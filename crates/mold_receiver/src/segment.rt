@@ -15,7 +15,7 @@ use std::mem;
 pub(crate) const SEGMENT_BYTES: usize = 16384;
 
 /// A block of memory, of which the first bytes are in use.
-#[derive(Debug, Drop)]
+#[derive(Drop)]
 pub(crate) struct Segment {
     // The memory. Its length is its capacity.
     pub bytes: Vec<u8>,

@@ -28,7 +28,7 @@ const MAX_EMPTY: usize = 256;
 /// The segments in use, each with a key. A segment's memory is at most twice as large as its bytes, but one segment may
 /// have `SEGMENT_BYTES` bytes: the roomy one, which grew last. A segment is given back when its last stored message is
 /// gone: its memory is kept as spare, or freed.
-#[derive(Debug, Drop)]
+#[derive(Drop)]
 pub(crate) struct Segments {
     table: Slab<Segment>,
     // The key of the roomy segment.

@@ -34,7 +34,7 @@ use std::alloc::{AllocError, Global};
 /// A ring with one slot for each number of a receiver's window. A slot is empty or has the place of a message. The
 /// messages are in segments, as they were in their packets. The ring is allocated once. A segment has messages between
 /// which no slot is empty. So all its messages leave in one release, and it is given back.
-#[derive(Debug, Drop)]
+#[derive(Drop)]
 pub(crate) struct Shelf {
     ring: Ring,
     // The slots that have a message.

@@ -27,7 +27,7 @@ use std::marker::Model;
 // For the prover: `Slots` only forwards to `Shelf`, but they are two types. The invariant of a type must hold before
 // and after each call that takes it. `Shelf` has no invariant, and its contracts state `IsKept` where it holds. So
 // its methods can call one another while `IsKept` doesn't hold for a moment.
-#[derive(Debug, Drop)]
+#[derive(Drop)]
 pub(crate) struct Slots {
     shelf: Shelf,
 }

@@ -1,7 +1,7 @@
 //! What a receiver did with a datagram.
 
 /// The counts of what a receiver did with the messages of a datagram that it accepted.
-#[derive(Clone, Copy, Debug, PartialEq, Eq, Hash)]
+#[derive(Clone, Copy, Debug, PartialEq, Eq)]
 pub struct Taken {
     /// The number of messages that were delivered. They are the last messages of the batch, and may include messages
     /// that were stored before.
@@ -14,7 +14,7 @@ pub struct Taken {
 }
 
 /// What a receiver did with a packet that it accepted, and the packet's top.
-#[derive(Clone, Copy, Debug)]
+#[derive(Clone, Copy)]
 pub struct Accepted {
     /// The counts.
     pub taken: Taken,

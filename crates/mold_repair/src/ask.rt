@@ -3,7 +3,7 @@
 use mold_wire::Request;
 
 /// A request to send now, to this server.
-#[derive(Clone, Copy, Debug, PartialEq, Eq)]
+#[derive(Clone, Copy, PartialEq, Eq)]
 pub struct Ask {
     /// The request. It asks for at least one message.
     pub request: Request,

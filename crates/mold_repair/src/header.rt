@@ -9,7 +9,7 @@ use byteorder::{BigEndian, ByteOrder};
 use mold_wire::SESSION_LENGTH;
 
 /// The numbers of a packet's messages.
-#[derive(Clone, Copy, Debug)]
+#[derive(Clone, Copy)]
 pub(crate) struct Head {
     /// The number of the first message, or of the next one if there is no message.
     pub(crate) first: u64,

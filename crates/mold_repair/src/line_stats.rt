@@ -6,7 +6,7 @@ ghost use Rattle.mold_repair.specs.Stats.{line_stats};
 use mold_receiver::LineReport;
 
 /// What a line brought. A count that reaches 2^64 - 1 stays there.
-#[derive(Clone, Copy, Debug, PartialEq, Eq)]
+#[derive(Clone, Copy, PartialEq, Eq)]
 pub struct LineStats {
     /// The datagrams that were accepted on the line.
     pub datagrams: u64,

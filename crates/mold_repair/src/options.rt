@@ -27,7 +27,7 @@ pub(crate) const MAX_SERVERS: u32 = 8;
 pub(crate) const MAX_GIVE_UP: u32 = 1000;
 
 /// What a repairer keeps to. Times are in nanoseconds. `Repairer::new` refuses a number outside its range.
-#[derive(Clone, Copy, Debug, PartialEq, Eq)]
+#[derive(Clone, Copy)]
 pub struct RepairOptions {
     /// How long a number has to be known before it may be requested, 1 to 1,000,000,000. A missing number waits one to
     /// two patiences. If it is 0, the patience adapts to the delays between the lines. It is a millisecond until the

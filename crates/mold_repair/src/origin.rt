@@ -7,7 +7,7 @@ ghost use Rattle.mold_repair.specs.Timing.{is_line, line_index};
 use mold_receiver::{Line, Origin};
 
 /// The origin of a datagram: one of the two lines, or a re-request server.
-#[derive(Clone, Copy, Debug, PartialEq, Eq)]
+#[derive(Clone, Copy)]
 pub enum RepairOrigin {
     /// The datagram arrived on this line.
     Line(Line),

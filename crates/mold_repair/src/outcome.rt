@@ -4,7 +4,7 @@ use crate::ask::Ask;
 use mold_pacing::Gap;
 
 /// What a step returned, and the numbers of the messages that it delivered.
-#[derive(Clone, Copy, Debug, PartialEq, Eq)]
+#[derive(Clone, Copy, PartialEq, Eq)]
 pub struct Outcome {
     /// The request, if the step was a poll that returned one.
     pub ask: Option<Ask>,

@@ -25,7 +25,7 @@ use std::alloc::{AllocError, Global};
 /// datagrams and the time, sends the requests that `poll` returns, and calls `poll` again at the `deadline`.
 ///
 /// Times are in nanoseconds, and below 2^62. A time below the last one counts as the last one.
-#[derive(Debug, Drop)]
+#[derive(Drop)]
 pub struct Repairer {
     arbiter: Arbiter,
     pacer: Pacer,

@@ -10,7 +10,7 @@ use mold_pacing::Gap;
 use mold_receiver::{Gap as Missing, Line, Taken};
 
 /// What a repairer counted. A count that reaches 2^64 - 1 stays there.
-#[derive(Clone, Copy, Debug, PartialEq, Eq)]
+#[derive(Clone, Copy)]
 pub struct RepairCounts {
     /// The requests that `Repairer::poll` returned.
     pub requests: u64,
@@ -31,7 +31,7 @@ pub struct RepairCounts {
 }
 
 /// The state of a repairer, as statistics show it.
-#[derive(Clone, Copy, Debug)]
+#[derive(Clone, Copy)]
 pub struct RepairStats {
     /// The number of the next message to deliver.
     pub next: u64,

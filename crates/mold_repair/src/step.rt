@@ -3,7 +3,7 @@
 use crate::origin::RepairOrigin;
 
 /// What happens to a repairer: one of its calls, at this time.
-#[derive(Clone, Copy, Debug)]
+#[derive(Clone, Copy)]
 pub enum RepairStep<'a> {
     /// `Repairer::deadline`: nothing happens but that time passes.
     Pass {

@@ -4,7 +4,7 @@ use mold_wire::DecodeError;
 use thiserror::Error;
 
 /// The reason why a datagram is refused. If several reasons apply, the first one in this order is returned.
-#[derive(Clone, Copy, Debug, PartialEq, Eq, Hash, Error)]
+#[derive(Clone, Copy, Debug, PartialEq, Eq, Error)]
 pub enum Refusal {
     /// The bytes do not encode a packet.
     #[error("{0}")]

@@ -5,7 +5,7 @@ use thiserror::Error;
 
 /// Why a message is not appended or published. If several reasons apply, the first one in this list is
 /// returned.
-#[derive(Clone, Copy, Debug, PartialEq, Eq, Hash, Error)]
+#[derive(Clone, Copy, Debug, PartialEq, Eq, Error)]
 pub enum AppendError {
     /// The session is closed.
     #[error("the session is closed")]
@@ -34,7 +34,7 @@ pub enum PublisherError {
 }
 
 /// Why a publisher is not closed: some messages were not put into a datagram yet.
-#[derive(Clone, Copy, Debug, PartialEq, Eq, Hash, Error)]
+#[derive(Clone, Copy, Debug, PartialEq, Eq, Error)]
 #[error("{count} messages have not been sent yet")]
 pub struct Unsent {
     /// The number of those messages, at least 1.
@@ -57,7 +57,7 @@ pub enum ServerError {
 }
 
 /// Why a server refuses a request. If several reasons apply, the first one in this list is returned.
-#[derive(Clone, Copy, Debug, PartialEq, Eq, Hash, Error)]
+#[derive(Clone, Copy, Debug, PartialEq, Eq, Error)]
 pub enum AnswerError {
     /// The bytes don't have the length of a request packet. `len` is their length.
     #[error("a request of {len} bytes, not of 20")]
@@ -78,7 +78,7 @@ pub enum AnswerError {
 }
 
 /// Why a publisher or a re-request server refused a call.
-#[derive(Clone, Copy, Debug, PartialEq, Eq, Hash, Error)]
+#[derive(Clone, Copy, Debug, PartialEq, Eq, Error)]
 pub enum SessionError {
     /// The message is not published.
     #[error("{0}")]
@@ -93,7 +93,7 @@ pub enum SessionError {
 
 /// Why the file of a journal is not loaded, saved or upgraded. A file has at most one fault: the first one in
 /// the order of its bytes.
-#[derive(Clone, Copy, Debug, PartialEq, Eq, Hash, Error)]
+#[derive(Clone, Copy, Debug, PartialEq, Eq, Error)]
 pub enum FileError {
     /// The file ends within its head, which has 27 bytes in version 2 and 18 in the others. `len` is the file's
     /// length.

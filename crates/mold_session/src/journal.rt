@@ -25,18 +25,26 @@ use mold_devices::{Sink, Source};
 use mold_messages::{MessageIterator, MessageList};
 use mold_wire::{LENGTH_BYTES, MAX_NUMBER, Session};
 use std::alloc::Global;
+use std::fmt;
+use std::fmt::{Debug, Formatter};
 use std::marker::Model;
 
 /// The largest number of messages in a session. The sequence number after the last message's must fit 64 bits, too.
 pub const MAX_MESSAGES: u64 = MAX_NUMBER - 1;
 
 /// The journal of a session. Its first message has sequence number 1. It takes messages until it is closed.
-#[derive(Debug, Drop)]
+#[derive(Drop)]
 pub struct Journal {
     session: Session,
     max_message: u16,
     list: MessageList,
     closed: bool,
+}
+
+impl Debug for Journal {
+    fn fmt<W: fmt::Write>(&self, f: &mut Formatter<W>) -> fmt::Result {
+        f.debug_struct("Journal").finish_non_exhaustive()
+    }
 }
 
 impl Model for Journal {

@@ -19,13 +19,15 @@ use crate::packing::pack_front;
 use mold_wire::laws::{front_law, packet_length_law, true_packet_law};
 use mold_wire::{HEADER_LENGTH, LENGTH_BYTES, MESSAGE_OVERHEAD, Packer, PackerError, Session};
 use std::alloc::Global;
+use std::fmt;
+use std::fmt::{Debug, Formatter};
 use std::marker::Model;
 
 /// Publishes the messages of a session. It keeps them in a journal and packs them into datagrams, each with the
 /// longest prefix of the unsent messages that fits.
 ///
 /// Only `new`, `resume` and `publish` allocate. A returned datagram is valid until the next call.
-#[derive(Debug, Drop)]
+#[derive(Drop)]
 pub struct Publisher {
     journal: Journal,
     packer: Packer,
@@ -33,6 +35,12 @@ pub struct Publisher {
     limit: usize,
     // The number of messages that were put into a datagram.
     sent: u64,
+}
+
+impl Debug for Publisher {
+    fn fmt<W: fmt::Write>(&self, f: &mut Formatter<W>) -> fmt::Result {
+        f.debug_struct("Publisher").finish_non_exhaustive()
+    }
 }
 
 impl Model for Publisher {

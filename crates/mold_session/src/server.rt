@@ -19,6 +19,8 @@ use crate::request_check::check_request;
 use mold_wire::laws::{front_law, packet_length_law, true_packet_law};
 use mold_wire::{MAX_BURST, MAX_LIMIT, MESSAGE_OVERHEAD, MIN_LIMIT, Packer};
 use std::alloc::Global;
+use std::fmt;
+use std::fmt::{Debug, Formatter};
 use std::marker::Model;
 
 /// A re-request server, which responds to a request with messages of a journal. A request gets at most `burst`
@@ -27,7 +29,7 @@ use std::marker::Model;
 ///
 /// Only `new` allocates. Each call reads at most one message more than it returns. A returned datagram is valid
 /// until the next call.
-#[derive(Debug, Drop)]
+#[derive(Drop)]
 pub struct Server {
     packer: Packer,
     // The largest length of a journal's message, in bytes.
@@ -36,6 +38,12 @@ pub struct Server {
     burst: u16,
     // The number of accepted requests.
     answered: u64,
+}
+
+impl Debug for Server {
+    fn fmt<W: fmt::Write>(&self, f: &mut Formatter<W>) -> fmt::Result {
+        f.debug_struct("Server").finish_non_exhaustive()
+    }
 }
 
 impl Model for Server {

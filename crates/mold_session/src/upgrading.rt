@@ -13,7 +13,7 @@ use mold_wire::MAX_MESSAGE;
 use std::alloc::Global;
 
 /// What `upgrade` read and wrote.
-#[derive(Clone, Copy, Debug, PartialEq, Eq, Hash)]
+#[derive(Clone, Copy, Debug, PartialEq, Eq)]
 pub struct Upgraded {
     /// The number of messages in the journal.
     pub messages: u64,

@@ -10,7 +10,7 @@ use mold_text::{Word, push_refused};
 use std::alloc::AllocError;
 
 /// Why a dump does not print all messages that it was asked for.
-#[derive(Clone, Copy, Debug, PartialEq, Eq)]
+#[derive(Clone, Copy)]
 pub enum DumpFault {
     /// The message is empty, and an empty block would mark the end. `number` is its sequence number.
     Empty { number: u64 },

@@ -3,7 +3,7 @@
 use mold_input::MessageFormat;
 
 /// Which messages of a journal `dump_file` writes, and how.
-#[derive(Clone, Copy, Debug, PartialEq, Eq)]
+#[derive(Clone, Copy)]
 pub struct DumpOptions {
     /// The sequence number of the first message that is written. 0 counts as 1.
     pub from: u64,

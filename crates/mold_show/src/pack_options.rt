@@ -5,7 +5,7 @@ ghost use Rattle.mold_wire.specs.Packer.{IsLimit};
 use mold_wire::Session;
 
 /// The options of `Pack`: the session, and the limit of its packets.
-#[derive(Clone, Copy, Debug, PartialEq, Eq)]
+#[derive(Clone, Copy)]
 pub struct PackOptions {
     /// The session's name.
     pub session: Session,

@@ -8,7 +8,7 @@ use mold_text::{Word, push_line};
 use std::alloc::AllocError;
 
 /// What saving the messages of an input as a journal came to.
-#[derive(Clone, Copy, Debug, PartialEq, Eq)]
+#[derive(Clone, Copy)]
 pub enum SaveOutcome {
     /// The journal was saved.
     Saved {

@@ -81,7 +81,7 @@ fn show_line(
 }
 
 /// The command `show`. It prints the packets, or the requests, that the lines of its input encode.
-#[derive(Debug, Drop)]
+#[derive(Drop)]
 pub struct Show {
     requests: bool,
     refused: bool,

@@ -54,7 +54,7 @@ fn print_line(
 
 /// The command `sim`. It applies the events of its input lines to a world and prints the result of each. At the end,
 /// it prints a line for each receiver.
-#[derive(Debug, Drop)]
+#[derive(Drop)]
 pub struct Sim {
     world: World,
     refused: bool,

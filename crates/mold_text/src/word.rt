@@ -10,7 +10,7 @@ use mold_digits::{
 };
 
 /// A word of a line: its value and how it is printed.
-#[derive(Debug, Drop)]
+#[derive(Drop)]
 pub enum Word<'a> {
     /// The bytes, unchanged.
     Text(&'a [u8]),

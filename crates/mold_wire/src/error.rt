@@ -4,7 +4,7 @@ use thiserror::Error;
 
 /// The reason why a datagram does not encode a downstream packet. At most one of these faults applies to any
 /// bytes.
-#[derive(Clone, Copy, Debug, PartialEq, Eq, Hash, Error)]
+#[derive(Clone, Copy, Debug, PartialEq, Eq, Error)]
 pub enum DecodeError {
     /// The datagram is shorter than a header. `len` is its length in bytes.
     #[error("a packet has at least 20 bytes, and this one has {len}")]
@@ -19,7 +19,7 @@ pub enum DecodeError {
 }
 
 /// The reason why a datagram does not encode a request packet.
-#[derive(Clone, Copy, Debug, PartialEq, Eq, Hash, Error)]
+#[derive(Clone, Copy, Debug, PartialEq, Eq, Error)]
 pub enum RequestError {
     /// The datagram does not have the length of a request, which is `HEADER_LENGTH`. `len` is its length in
     /// bytes.

@@ -8,11 +8,13 @@ use crate::error::PackerError;
 use crate::session::Session;
 use std::alloc::Global;
 use std::boxed::BoxedSlice;
+use std::fmt;
+use std::fmt::{Debug, Formatter};
 use std::marker::Model;
 
 /// Writes downstream packets, one after another, into one buffer. Only `new` allocates: the buffer is a boxed
 /// slice, so it cannot grow.
-#[derive(Debug, Drop)]
+#[derive(Drop)]
 pub struct Packer {
     // Its length is the limit.
     buffer: BoxedSlice<u8>,
@@ -21,6 +23,12 @@ pub struct Packer {
     // The number of messages of the open packet.
     count: u16,
     is_open: bool,
+}
+
+impl Debug for Packer {
+    fn fmt<W: fmt::Write>(&self, f: &mut Formatter<W>) -> fmt::Result {
+        f.debug_struct("Packer").finish_non_exhaustive()
+    }
 }
 
 impl Model for Packer {

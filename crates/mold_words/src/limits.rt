@@ -5,7 +5,7 @@ ghost use Rattle.mold_wire.specs.declared.limits.TheConstants.{MAX_LIMIT, MIN_LI
 
 /// The maximum datagram lengths of a publisher and its re-request server, in bytes. Both are `MIN_LIMIT` to
 /// `MAX_LIMIT`.
-#[derive(Clone, Copy, Debug, PartialEq, Eq)]
+#[derive(Clone, Copy)]
 pub struct Limits {
     /// The publisher's limit.
     pub limit: usize,

@@ -3,7 +3,7 @@
 use crate::address::Address;
 
 /// The port that receives a line.
-#[derive(Clone, Copy, Debug, PartialEq, Eq)]
+#[derive(Clone, Copy)]
 pub enum LinePort {
     /// An address of this machine. It is not a multicast group, whose first byte is 224 to 239.
     Address(Address),

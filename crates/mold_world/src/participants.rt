@@ -29,7 +29,7 @@ use mold_wire::{MESSAGE_OVERHEAD, Session, decode};
 use std::alloc::Global;
 
 /// A publisher, a re-request server, all datagrams that they ever sent, and the receivers.
-#[derive(Debug, Drop)]
+#[derive(Drop)]
 pub(crate) struct Participants {
     pub(crate) alloc: Global,
     pub(crate) publisher: Publisher,

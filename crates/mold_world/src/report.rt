@@ -5,7 +5,7 @@ use mold_session::SessionError;
 use thiserror::Error;
 
 /// What an event did in the world.
-#[derive(Clone, Copy, Debug, PartialEq, Eq, Hash)]
+#[derive(Clone, Copy, Debug, PartialEq, Eq)]
 pub enum Report {
     /// A message was published with this number.
     Published { number: u64 },

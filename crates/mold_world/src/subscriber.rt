@@ -18,7 +18,7 @@ use std::marker::Model;
 
 /// A receiver with its arbiter and its book. The book has all messages that the receiver delivered, from message 1
 /// on.
-#[derive(Debug, Drop)]
+#[derive(Drop)]
 pub(crate) struct Subscriber {
     arbiter: Arbiter,
     book: Batch,

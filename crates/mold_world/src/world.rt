@@ -28,13 +28,21 @@ use mold_receiver::{Batch, Line, LineReport, Receiver};
 use mold_session::{Journal, Publisher, Server};
 use mold_wire::Session;
 use std::alloc::{AllocError, Global};
+use std::fmt;
+use std::fmt::{Debug, Formatter};
 use std::marker::Model;
 
 /// A publisher, a re-request server and receivers of one session, with every datagram that was ever sent. Any
 /// receiver may receive any of these datagrams, at any time and any number of times.
-#[derive(Debug, Drop)]
+#[derive(Drop)]
 pub struct World {
     parts: Participants,
+}
+
+impl Debug for World {
+    fn fmt<W: fmt::Write>(&self, f: &mut Formatter<W>) -> fmt::Result {
+        f.debug_struct("World").finish_non_exhaustive()
+    }
 }
 
 impl Model for World {
