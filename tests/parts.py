@@ -9,8 +9,8 @@ from dataclasses import dataclass
 TOP = os.path.dirname(os.path.dirname(os.path.realpath(__file__)))
 # The documents whose command lines tests/documents runs.
 DOCUMENTS = ("README.md", "docs/HEADLINE.md", "docs/USING.md", "docs/TROUBLESHOOTING.md", "docs/LIBRARY.md")
-# The root crates of the program, of the library, and of the programs of tests/repair-network and tests/durable.
-PROGRAM, LIBRARY, DRIVER, WRITER = "mold_cmd", "mold_ffi", "drive_repair", "drive_durable"
+# The root crates of the program, of the library, and of the program of tests/repair-network and tests/durable.
+PROGRAM, LIBRARY, DRIVER = "mold_cmd", "mold_ffi", "drive_tests"
 COMPILERS = ("cc", "gcc", "clang")
 
 
@@ -67,7 +67,7 @@ WITHOUT_PROGRAM = (
     # Longer runs with other seeds are not part of the gate.
     Part("tests/repair-network gate 200", (), DRIVER),
     # Kills at random moments, a thousand of them, are not part of the gate.
-    Part("tests/durable gate", ("tests/record_writes.c", "examples/read-journal.py"), WRITER),
+    Part("tests/durable gate", ("tests/record_writes.c", "examples/read-journal.py"), DRIVER),
 )
 # Lanes run in parallel; the parts of a lane run one after the other. The parts of the first lane use fixed ports and mostly
 # wait. In the second lane, and in tests/repair, each process has a separate loopback address.
@@ -95,7 +95,7 @@ LANES = (
         # Longer conditions of the network are not part of the gate.
         over_program("tests/repair"),
         over_program("tests/follow", "tests/durable", "tests/libraries.py", "tests/model.py",
-                     f"crates/{WRITER}/src/*"),
+                     f"crates/{DRIVER}/src/*"),
     ),
 )
 

@@ -1,5 +1,5 @@
-/* A program that writes a durable journal as crates/drive_durable does, for library/bench/durable. It builds the same
- * records, keeps the same messages, and makes the same calls. Its input is that of crates/drive_durable. */
+/* A program that writes a durable journal as crates/drive_tests does, for library/bench/durable. It builds the same
+ * records, keeps the same messages, and makes the same calls. Its input is that of crates/drive_tests. */
 #include <fcntl.h>
 #include <stdio.h>
 #include <stdlib.h>
@@ -114,7 +114,7 @@ int main(void) {
     unsigned long most, repeats;
     int closes, reports;
     if (getline(&line, &size, stdin) < 0) return 0;
-    if (sscanf(line, "%3999s %lu %lu %d %d", path, &most, &repeats, &closes, &reports) != 5) return 2;
+    if (sscanf(line, "durable %3999s %lu %lu %d %d", path, &most, &repeats, &closes, &reports) != 5) return 2;
     group = malloc(room = 64);
     if (!group) return 5;
     open_locked(path, 0);

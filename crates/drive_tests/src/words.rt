@@ -14,6 +14,13 @@ impl<'a> Words<'a> {
         Words { rest: line }
     }
 
+    /// Returns the words of the line after its first one.
+    pub(crate) fn after_first(line: &'a [u8]) -> Words<'a> {
+        let mut words = Words::new(line);
+        words.next_word();
+        words
+    }
+
     /// Returns the next word. It is empty if the line has no more words.
     pub(crate) fn next_word(&mut self) -> &'a [u8] {
         let line = self.rest;

@@ -1,9 +1,7 @@
 //! Opens the journal's file.
 
-use crate::writer::Problem;
-use mold_durable::{
-    DurableJournal, FileStorage, JournalFileError, create_file, open_file, sync_folder,
-};
+use crate::problem::Problem;
+use mold_durable::{DurableJournal, FileStorage, create_file, open_file, sync_folder};
 use mold_wire::Session;
 
 /// The session of each journal.
@@ -11,16 +9,6 @@ const SESSION: Session = Session(*b"DURABLE   ");
 
 /// The largest length of a message, in bytes.
 const MAX_MESSAGE: u16 = u16::MAX;
-
-impl From<JournalFileError> for Problem {
-    fn from(error: JournalFileError) -> Problem {
-        match error {
-            JournalFileError::Locked => Problem::Locked,
-            JournalFileError::Write => Problem::File,
-            JournalFileError::Memory => Problem::Device,
-        }
-    }
-}
 
 /// Opens the journal's file, or creates it if it does not exist.
 pub(crate) fn open_journal(

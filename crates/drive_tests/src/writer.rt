@@ -1,53 +1,11 @@
 //! Writes messages to a journal, and reports commits.
 
 use crate::options::WriterOptions;
-use mold_devices::{CommandFault, ReadFault, Sink, send};
+use crate::problem::Problem;
+use mold_devices::{Sink, send};
 use mold_digits::{MAX_DIGITS, write_number};
 use mold_durable::{DurableJournal, Storage};
-use std::alloc::{AllocError, Global};
-
-/// Why the driver ends early.
-#[derive(Clone, Copy)]
-pub(crate) enum Problem {
-    /// The first line does not have the options, or the path could not be allocated.
-    Options,
-    /// Standard input or output failed, or an allocation failed.
-    Device,
-    /// The journal's file is locked.
-    Locked,
-    /// The journal's file is not opened, created or written.
-    File,
-}
-
-impl Problem {
-    /// Returns the status of the program.
-    pub(crate) fn status(self) -> u8 {
-        match self {
-            Problem::Options => 2,
-            Problem::Device => 3,
-            Problem::Locked => 4,
-            Problem::File => 5,
-        }
-    }
-}
-
-impl From<CommandFault> for Problem {
-    fn from(_fault: CommandFault) -> Problem {
-        Problem::Device
-    }
-}
-
-impl From<ReadFault> for Problem {
-    fn from(_fault: ReadFault) -> Problem {
-        Problem::Device
-    }
-}
-
-impl From<AllocError> for Problem {
-    fn from(_error: AllocError) -> Problem {
-        Problem::Device
-    }
-}
+use std::alloc::Global;
 
 /// A journal that is written in groups.
 #[derive(Drop)]

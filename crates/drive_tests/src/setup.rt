@@ -24,11 +24,10 @@ fn read_options(words: &mut Words<'_>) -> Option<RepairOptions> {
     })
 }
 
-/// Makes the repairer of a line of numbers: the first message, the window, and the options in the order of
-/// `RepairOptions`, without `audit`, which is 0. Returns `None` if the line has other words, if a number is outside its
-/// range, or if an allocation fails.
-pub(crate) fn make_repairer(alloc: Global, line: &[u8]) -> Option<Repairer> {
-    let mut words = Words::new(line);
+/// Makes the repairer of these numbers: the first message, the window, and the options in the order of
+/// `RepairOptions`, without `audit`, which is 0. Returns `None` if there are other words, if a number is outside its range,
+/// or if an allocation fails.
+pub(crate) fn make_repairer(alloc: Global, mut words: Words<'_>) -> Option<Repairer> {
     let next = words.next_number()?;
     let window = words.next_small()?;
     let options = read_options(&mut words)?;

@@ -1,0 +1,121 @@
+//! A driver for tests. The first word of its input is `repair` or `durable`.
+//!
+//! `repair` is for `tests/repair-network`. The other words of the line are the options of a repairer. The driver applies
+//! the steps of the other lines to it, and prints what each call returns.
+//!
+//! `durable` is for `tests/durable`. The other words are `PATH GROUP REPEATS CLOSES REPORTS`, as in `WriterOptions`. PATH
+//! has no space. The driver writes a journal file. Each other line is a message.
+#![tactic(auto)]
+
+mod driver;
+mod opened;
+mod options;
+mod problem;
+mod setup;
+mod words;
+mod writer;
+
+use driver::Driver;
+use mold_devices::{FromRead, IntoWrite, Lines, send};
+use mold_repair::Repairer;
+use opened::open_journal;
+use options::{WriterOptions, read_options};
+use problem::Problem;
+use setup::make_repairer;
+use std::io::Stdin;
+use std::process::ExitCode;
+use words::Words;
+use writer::Writer;
+
+// Applies the steps of all other lines. The text is written at each empty line, and at the end.
+fn run_steps(
+    rt: &HostRuntime,
+    repairer: Repairer,
+    source: &mut FromRead<Stdin>,
+    lines: &mut Lines,
+) -> Result<(), Problem> {
+    let mut driver = Driver::new(rt.alloc(), repairer);
+    let mut sink = IntoWrite::new(rt.stdout());
+    let mut text = Vec::new(rt.alloc());
+    for _ in 0..u64::MAX {
+        if !lines.advance(source)? {
+            break;
+        }
+        if lines.line().is_empty() {
+            send(&mut sink, &mut text)?;
+        } else {
+            driver.apply(lines.line(), &mut text)?;
+        }
+    }
+    Ok(send(&mut sink, &mut text)?)
+}
+
+// Writes the messages of all other lines.
+fn write_lines(
+    rt: &HostRuntime,
+    options: WriterOptions,
+    path: &str,
+    source: &mut FromRead<Stdin>,
+    lines: &mut Lines,
+) -> Result<(), Problem> {
+    let journal = open_journal(rt, path)?;
+    let mut writer = Writer::new(rt.alloc(), journal, options);
+    let mut sink = IntoWrite::new(rt.stdout());
+    writer.report(&mut sink)?;
+    for _ in 0..u64::MAX {
+        if !lines.advance(source)? {
+            break;
+        }
+        writer.append(lines.line(), &mut sink)?;
+    }
+    writer.finish(&mut sink)
+}
+
+// Writes a journal with the options of the current line.
+fn write_journal(
+    rt: &HostRuntime,
+    source: &mut FromRead<Stdin>,
+    lines: &mut Lines,
+) -> Result<(), Problem> {
+    let mut path = Vec::new(rt.alloc());
+    let Some(options) = read_options(Words::after_first(lines.line()), &mut path) else {
+        return Err(Problem::Options);
+    };
+    let Ok(path) = str::from_utf8(&path) else {
+        return Err(Problem::Options);
+    };
+    write_lines(rt, options, path, source, lines)
+}
+
+// Runs a repairer with the options of the current line.
+fn run_repairer(
+    rt: &HostRuntime,
+    source: &mut FromRead<Stdin>,
+    lines: &mut Lines,
+) -> Result<(), Problem> {
+    let Some(repairer) = make_repairer(rt.alloc(), Words::after_first(lines.line())) else {
+        return Err(Problem::Options);
+    };
+    run_steps(rt, repairer, source, lines)
+}
+
+// If the input is empty, nothing is written.
+fn run(rt: &HostRuntime) -> Result<(), Problem> {
+    let mut source = FromRead::new(rt.stdin());
+    let mut lines = Lines::new(rt.alloc())?;
+    if !lines.advance(&mut source)? {
+        return Ok(());
+    }
+    match Words::new(lines.line()).next_word() {
+        b"repair" => run_repairer(rt, &mut source, &mut lines),
+        b"durable" => write_journal(rt, &mut source, &mut lines),
+        _ => Err(Problem::Options),
+    }
+}
+
+fn main(rt: HostRuntime) -> ExitCode {
+    match run(&rt) {
+        Ok(()) => ExitCode::SUCCESS,
+        Err(problem) => ExitCode::from(problem.status()),
+    }
+}
