@@ -1,5 +1,8 @@
 //! The files that a command replaces.
 
+ghost use Rattle.std.specs.Prelude.{◌≡◌, ◌⊎◌, Err, IfErr, IfOk, Ok};
+ghost use Rattle.mold_wiring.specs.declared.program_fault.ProgramFault.TheVariants.{Command, Locked};
+
 use mold_devices::{CommandFault, IntoWrite};
 use mold_durable::{JournalFileError, ReplacedFile};
 use mold_wiring::ProgramFault;
@@ -30,7 +33,10 @@ pub fn open_replaced<'a>(
 pub fn unless_locked(
     outcome: Result<u8, CommandFault>,
     sink: IntoWrite<ReplacedFile<'_>>,
-) -> Result<u8, ProgramFault> {
+) -> Result<u8, ProgramFault>
+    ensures status { IfOk outcome (λ status. result ≡ Ok status) }
+    ensures fault { IfErr outcome (λ fault. (result ≡ Err Locked) ⊎ (result ≡ Err (Command fault))) }
+{
     match outcome {
         Ok(status) => Ok(status),
         Err(_) if sink.into_inner().is_locked() => Err(ProgramFault::Locked),
