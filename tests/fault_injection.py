@@ -119,8 +119,10 @@ def calls_of_files():
     upgrade = ["upgrade", "--journal", "@old", "--to", "@new", "--close"]
     folder = {"b.pkt": data(1, b"AB", b""), "a.pkt": model.encoding(model.Packet("end", S, 5)), "c.txt": b""}
     conflict = {"b.pkt": data(2, b"X"), "a.pkt": data(2, b"Y")}
+    end, heartbeat = (model.encoding(model.Packet(kind, S, 1)) for kind in ("end", "heartbeat"))
     return [
         Call("check", ["check", "@"], files=folder, status=1),
+        Call("check, whole", ["check", "@"], files={"b.pkt": end, "a.pkt": heartbeat}),
         Call("check, refused", ["check", "@"], files=conflict, status=2),
         Call("pack --journal", pack, LINES, made=("new",)),
         Call("pack --journal over a file", pack, LINES, files={"new": b"old content"}, made=("new",)),
@@ -171,6 +173,7 @@ def all_calls():
         Call("pack", pack, LINES),
         Call("pack, pack-two-messages", pack, b"4142\n\n"),
         Call("pack --blocks", [*pack, "--blocks"], b"\0\2AB\0\0"),
+        Call("pack --blocks --end-at-empty", [*pack, "--blocks", "--end-at-empty"], b"\0\1A\0\0"),
         Call("pack --blocks, refused", [*pack, "--blocks", "--end-at-empty"], b"\0\2AB", status=2),
         Call("pack, refused", pack, MESSAGES + b"4\n", status=2),
         Call("sim", sim, script, status=2),

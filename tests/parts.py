@@ -81,6 +81,7 @@ LANES = (
                      "mold-join"),
     ),
     (
+        over_program("tests/command-cases", "tests/cases*"),
         over_program("tests/out-of-memory", "examples/*", "tests/inject_faults.c"),
         over_program("tests/io-errors", "examples/*", "tests/inject_faults.c", needs_compiler=True),
         over_program("tests/mutations", "examples/packets.*", "tests/table*"),

@@ -1,4 +1,4 @@
-//! Tests of `mold_session`, `mold_receiver`, `mold_refusals`, `mold_rounds`, `mold_capture`.
+//! Tests of `mold_session`, `mold_receiver`, `mold_refusals`, `mold_rounds`, `mold_capture`, `mold_world`.
 #![tactic(auto)]
 
 #[cfg(test)]
@@ -25,3 +25,9 @@ mod rounds;
 mod server;
 #[cfg(test)]
 mod upgrading;
+#[cfg(test)]
+mod world;
+#[cfg(test)]
+mod world_checks;
+#[cfg(test)]
+mod world_constants;

@@ -1,8 +1,7 @@
 //! The comparisons of the tests of a world. If an allocation fails, they check that nothing changed, and make the call
 //! once more.
 
-ghost use Rattle.std.specs.Prelude.{IsTrue};
-
+use crate::comparisons::{holds, holds_at, same_message};
 use crate::world_constants::{Answer, FIVE, MESSAGES, SESSION, SESSION_LENGTH, Standing};
 use mold_receiver::{Line, LineReport};
 use mold_world::{Event, Stopped, World, WorldError};
@@ -79,39 +78,22 @@ pub fn count(world: &World) -> Counts {
 
 /// Fails if two counts differ.
 pub fn same_counts(rt: &impl Abort, found: Counts, wanted: Counts) {
-    assert!(rt; found == wanted, "other counts");
-}
-
-/// Fails if a fact does not hold.
-pub fn holds(rt: &impl Abort, fact: bool)
-    ensures { IsTrue fact }
-{
-    assert!(rt; fact);
-}
-
-/// Fails if the case or the step of this index is not as it states.
-pub fn holds_at(rt: &impl Abort, fact: bool, name: &str, at: usize) {
-    assert!(rt; fact, "{name} {at}");
+    holds_at(rt, found == wanted, "counts", 0);
 }
 
 /// Fails if two sizes differ.
 pub fn same_size(rt: &impl Abort, found: usize, wanted: usize) {
-    assert!(rt; found == wanted);
-}
-
-/// Fails if the bytes differ.
-pub fn same_bytes(rt: &impl Abort, found: Option<&[u8]>, wanted: Option<&[u8]>) {
-    assert!(rt; found == wanted, "other bytes");
+    holds_at(rt, found == wanted, "size", wanted);
 }
 
 /// Fails if there is no refusal, or another one.
 pub fn same_refusal(rt: &impl Abort, found: Option<WorldError>, wanted: WorldError) {
-    assert!(rt; found == Some(wanted), "another refusal, or none");
+    holds_at(rt, found == Some(wanted), "refusal", 0);
 }
 
 /// Fails if the outcomes of an event differ.
 pub fn same_answer(rt: &impl Abort, found: Answer, wanted: Answer) {
-    assert!(rt; found == wanted, "another answer");
+    holds_at(rt, found == wanted, "outcome of an event", 0);
 }
 
 /// Applies an event, once more if an allocation failed. The failure changed no count.
@@ -195,7 +177,7 @@ pub fn expect_sent<'w, 'd>(rt: &impl Abort, world: &World, sent: &'w [&'d [u8]])
     holds(rt, count <= sent.len());
     for (i, bytes) in sent.iter().enumerate() {
         let want = if i < count { Some(*bytes) } else { None };
-        same_bytes(rt, world.sent_at(i), want);
+        same_message(rt, world.sent_at(i), want);
     }
     expect_same_sent(rt, world);
 }
@@ -204,7 +186,7 @@ pub fn expect_sent<'w, 'd>(rt: &impl Abort, world: &World, sent: &'w [&'d [u8]])
 fn expect_same_sent(rt: &impl Abort, world: &World) {
     let mut place = 0usize;
     for bytes in world.sent() {
-        same_bytes(rt, Some(bytes), world.sent_at(place));
+        same_message(rt, Some(bytes), world.sent_at(place));
         place = place.saturating_add(1);
     }
     same_size(rt, place, world.sent_len());
@@ -214,7 +196,7 @@ fn expect_same_sent(rt: &impl Abort, world: &World) {
 pub fn expect_front<'w, 'm>(rt: &impl Abort, world: &World, r: usize, messages: &'w [&'m [u8]]) {
     for (i, message) in messages.iter().enumerate() {
         if let Some(found) = message_of(world, r, i) {
-            same_bytes(rt, Some(found), Some(*message));
+            same_message(rt, Some(found), Some(*message));
         }
     }
     holds(rt, message_of(world, r, messages.len()).is_none());
@@ -225,7 +207,7 @@ pub fn expect_published<'w, 'm>(rt: &impl Abort, world: &World, messages: &'w [&
     let mut number = 1u64;
     for message in messages {
         if let Some(found) = world.published().get(number) {
-            same_bytes(rt, Some(found), Some(*message));
+            same_message(rt, Some(found), Some(*message));
         }
         number = number.saturating_add(1);
     }
@@ -280,7 +262,7 @@ pub fn expect_report(rt: &impl Abort, world: &World, r: usize, line: Line, want:
 pub fn expect_five(rt: &impl Abort, world: &World, r: usize) {
     holds(rt, first_of(world, r) == Some(1));
     for (i, message) in MESSAGES.iter().enumerate() {
-        same_bytes(rt, message_of(world, r, i), Some(*message));
+        same_message(rt, message_of(world, r, i), Some(*message));
     }
 }
 

@@ -2,10 +2,11 @@
 //! changes, and a second call does the work. So each test passes whichever allocation fails, and `tests/out-of-memory`
 //! makes each of them fail.
 
+use crate::comparisons::{holds, same_message};
 use crate::world_checks::{
     expect, expect_all, expect_end, expect_receiver, expect_report, expect_sent, expect_session,
-    expect_two_standings, holds, message_of, run_again, run_whole, same_answer, same_bytes,
-    same_refusal, same_size, world,
+    expect_two_standings, message_of, run_again, run_whole, same_answer, same_refusal, same_size,
+    world,
 };
 use crate::world_constants::{
     A, Answer, DELIVERED, FIVE, FOUR_AND_FIVE, FROM_TWO, LACKING, LACKING_ANSWERS, MESSAGES, OWN,
@@ -49,8 +50,8 @@ fn expect_one_receiver(rt: &impl Abort, world: &World) {
 
 fn expect_not_there(rt: &impl Abort, world: &mut World) -> Result<(), WorldError> {
     expect_all(rt, world, &LACKING, &LACKING_ANSWERS)?;
-    same_bytes(rt, world.sent_at(0), Some(OWN));
-    same_bytes(rt, world.sent_at(1), None);
+    same_message(rt, world.sent_at(0), Some(OWN));
+    same_message(rt, world.sent_at(1), None);
     expect_one_receiver(rt, world);
     Ok(())
 }
@@ -84,8 +85,8 @@ fn expect_burst(rt: &impl Abort, world: &mut World) -> Result<(), WorldError> {
     let want = Ok(Report::Burst { first: 4, count: 2 });
     expect(rt, world, &Event::Request(FROM_TWO), want)?;
     same_size(rt, world.sent_len(), 6);
-    same_bytes(rt, world.sent_at(4), Some(TWO_AND_THREE));
-    same_bytes(rt, world.sent_at(5), Some(FOUR_AND_FIVE));
+    same_message(rt, world.sent_at(4), Some(TWO_AND_THREE));
+    same_message(rt, world.sent_at(5), Some(FOUR_AND_FIVE));
     Ok(())
 }
 
@@ -106,7 +107,7 @@ fn expect_applied(rt: &impl Abort, world: &mut World, events: &[Event<'_>], answ
 /// Reads all values of a world whose session has one message, which was sent, and is closed.
 fn expect_read(rt: &impl Abort, world: &World) {
     holds(rt, world.is_closed());
-    same_bytes(rt, world.published().get(1), Some(b"\x41"));
+    same_message(rt, world.published().get(1), Some(b"\x41"));
     same_size(rt, world.sent_len(), 1);
     expect_sent(rt, world, &TWO_SENT);
     same_size(rt, world.receivers(), 1);
@@ -296,7 +297,7 @@ fn expect_whole_book(rt: &impl Abort, world: &World, r: usize) {
     let next = (DATAGRAMS as u64).saturating_add(1);
     expect_receiver(rt, world, r, (next, next, 0, DATAGRAMS, false));
     for i in 0..DATAGRAMS {
-        same_bytes(rt, message_of(world, r, i), Some(MESSAGES[i % 5]));
+        same_message(rt, message_of(world, r, i), Some(MESSAGES[i % 5]));
     }
 }
 
