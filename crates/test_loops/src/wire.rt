@@ -1,7 +1,8 @@
-//! The packets that a packer writes. `tests/program-checks` and `tests/mutations` have those that are read.
+//! The packets that a packer writes, and messages by their indices. `tests/program-checks` and `tests/mutations` have
+//! the packets that are read.
 
-use crate::comparisons::holds_at;
-use mold_wire::{Packer, PackerError, Session};
+use crate::comparisons::{holds, holds_at};
+use mold_wire::{Body, Packer, PackerError, Session, decode};
 use std::test::Fail;
 
 const MAX: u64 = 18446744073709551615;
@@ -24,6 +25,20 @@ const LAST: &[u8] = b"SESSION001\xff\xff\xff\xff\xff\xff\xff\xff\0\x01\0\x01A";
 const FULL: &[u8] = b"SESSION001\0\0\0\0\0\0\0\x01\0\x02\
     \0\x14\x01\x01\x01\x01\x01\x01\x01\x01\x01\x01\x01\x01\x01\x01\x01\x01\x01\x01\x01\x01\
     \0\x14\x02\x02\x02\x02\x02\x02\x02\x02\x02\x02\x02\x02\x02\x02\x02\x02\x02\x02\x02\x02";
+
+#[test]
+fn messages_are_got_by_their_indices(rt: HostRuntime) -> Result<(), Fail> {
+    let packet = decode(TWO_MESSAGES)?;
+    match &packet.body {
+        Body::Data(blocks) => {
+            holds(&rt, blocks.get(0) == Some(b"AB".as_slice()));
+            holds(&rt, blocks.get(1) == Some(b"".as_slice()));
+            holds(&rt, blocks.get(2).is_none());
+        }
+        _ => holds(&rt, false),
+    }
+    Ok(())
+}
 
 const LIMITS: &[(usize, Option<PackerError>)] = &[
     (63, Some(PackerError::Limit)),
