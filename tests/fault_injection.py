@@ -14,6 +14,7 @@ import udp_peers
 S = b"SESSION001"
 HEX = S.hex().encode()
 OLD = model.old_journal_file(S, [b"AB", b""])
+RECORDS = model.record_file(S, [b"AB", b""], True)
 MESSAGES = b"4142\n\n43\n"
 LINES = b"".join(b"%02d" % it * 20 + b"\n" for it in range(1, 6))
 # The exit status of a program that reports a fault.
@@ -128,9 +129,11 @@ def calls_of_files():
         Call("pack --journal over a file", pack, LINES, files={"new": b"old content"}, made=("new",)),
         Call("pack --journal, refused", pack, MESSAGES + b"4\n", made=("new",), status=2),
         Call("upgrade", upgrade, files={"old": OLD}, made=("new",)),
+        Call("upgrade, a file with records", upgrade, files={"old": RECORDS}, made=("new",)),
         Call("upgrade over a file", upgrade, files={"old": OLD, "new": b"old content"}, made=("new",)),
         Call("upgrade, refused", upgrade, files={"old": OLD[:-1]}, made=("new",), status=2),
         Call("dump", ["dump", "--journal", "@old"], files={"old": OLD}),
+        Call("dump, a file with records", ["dump", "--journal", "@old"], files={"old": RECORDS}),
         Call("dump, refused", ["dump", "--journal", "@old"], files={"old": OLD[:-1]}, status=2),
         Call("dump, blocks", ["dump", "--journal", "@old", "--blocks"], files={"old": OLD}),
     ]
@@ -155,6 +158,8 @@ def calls_over_ports():
         Call("publish", publish, MESSAGES, {}, ("new",), receive_lines, published, 0, sends),
         Call("publish over a file", publish, MESSAGES, existing, ("new",), receive_lines, published, 0, sends),
         Call("serve", serve, b"", {"old": OLD}, (), request_messages, (udp_peers.REQUESTING,), 0, responds),
+        Call("serve, a file with records", serve, b"", {"old": RECORDS}, (), request_messages,
+             (udp_peers.REQUESTING,), 0, responds),
         Call("serve, refused", serve, b"", {"old": OLD[:-1]}, status=2),
         Call("listen", listen, b"", {}, (), feed, (udp_peers.FEEDING, udp_peers.OWN), 0, receives),
     ]

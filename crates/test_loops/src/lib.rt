@@ -1,18 +1,19 @@
-//! Tests of the loops of `mold_send`, `mold_serve`, `mold_listen` and `mold_loop`, over ports in memory.
+//! Tests of `mold_wire`, `mold_devices`, `mold_ports`, `mold_port_set`, and of the loops of `mold_send`, `mold_serve`,
+//! `mold_listen` and `mold_loop`, over ports in memory.
 #![tactic(auto)]
 
 #[cfg(test)]
 mod comparisons;
 #[cfg(test)]
-mod large;
+mod devices;
 #[cfg(test)]
 mod listen;
 #[cfg(test)]
+mod port_sets;
+#[cfg(test)]
+mod ports;
+#[cfg(test)]
 mod publish;
-#[cfg(test)]
-mod receive;
-#[cfg(test)]
-mod reports;
 #[cfg(test)]
 mod scripts;
 #[cfg(test)]
@@ -20,4 +21,4 @@ mod serve;
 #[cfg(test)]
 mod session;
 #[cfg(test)]
-mod writes;
+mod wire;

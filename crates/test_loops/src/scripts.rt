@@ -1,8 +1,8 @@
-//! Scripts of ports in memory, sinks that fail, and the datagrams that ports sent.
+//! Scripts of ports in memory, and what loops over them wrote and sent.
 
-use crate::comparisons::{same_bytes, same_number, same_size};
+use crate::comparisons::{holds_at, same_text};
 use mold_devices::{CommandFault, MemorySink, Sink};
-use mold_ports::{Datagrams, MemoryPort, Step};
+use mold_ports::{MemoryPort, Step};
 use std::alloc::{AllocError, Global};
 use std::process::Abort;
 
@@ -79,28 +79,49 @@ pub fn sink(alloc: Global, write_fails: u64) -> MemorySink {
     sink
 }
 
-/// The port sent these datagrams.
-pub fn expect_sent(rt: &impl Abort, port: &MemoryPort, letters: &[(u32, &[u8])], at: usize) {
-    same_size(rt, port.sent().len(), letters.len(), at);
-    for (sent, letter) in port.sent().iter().zip(letters) {
-        same_number(rt, u64::from(sent.0), u64::from(letter.0), at);
-        same_bytes(rt, sent.1.as_slice(), letter.1, at);
-    }
-}
-
-/// The port sent a prefix of these datagrams.
-pub fn expect_sent_prefix(rt: &impl Abort, port: &MemoryPort, letters: &[(u32, &[u8])]) {
-    match letters.get(..port.sent().len()) {
-        Some(letters) => expect_sent(rt, port, letters, 0),
-        None => assert!(rt; false, "too many datagrams were sent"),
-    }
-}
-
-/// The fault of a loop whose allocation failed: `Write` if it was the sink's.
-pub fn fault_of(sink: &MemorySink) -> CommandFault {
-    if sink.failures() > 0 {
-        CommandFault::Write
+/// The loop wrote the text and had this outcome. Or a write failed: then the loop wrote a prefix of the text, and its
+/// outcome is that fault.
+pub fn expect_written(
+    rt: &impl Abort,
+    sink: &MemorySink,
+    outcome: Result<u8, CommandFault>,
+    (wanted, text): (Result<u8, CommandFault>, &[u8]),
+    at: usize,
+) {
+    if sink.failures() == 0 {
+        holds_at(rt, outcome == wanted, "outcome", at);
+        same_text(rt, sink.bytes(), text, at);
     } else {
-        CommandFault::Memory
+        holds_at(rt, outcome == Err(CommandFault::Write), "outcome", at);
+        holds_at(rt, text.starts_with(sink.bytes()), "text", at);
     }
+}
+
+fn is_letter(letter: Option<&(u32, Vec<u8>)>, to: u32, bytes: &[u8]) -> bool {
+    match letter {
+        Some(letter) => letter.0 == to && letter.1.as_slice() == bytes,
+        None => false,
+    }
+}
+
+/// How many of these datagrams the port sent, in this order. It may have sent others too.
+pub fn sent_of(port: &MemoryPort, letters: &[(u32, &[u8])]) -> usize {
+    let mut found = 0usize;
+    for (to, bytes) in letters {
+        if is_letter(port.sent().get(found), *to, bytes) {
+            found = found.saturating_add(1);
+        }
+    }
+    found
+}
+
+/// The port sent these datagrams, and no others.
+pub fn expect_sent(rt: &impl Abort, port: &MemoryPort, letters: &[(u32, &[u8])], at: usize) {
+    let is_sent = sent_of(port, letters) == letters.len();
+    holds_at(
+        rt,
+        is_sent && port.sent().len() == letters.len(),
+        "sent",
+        at,
+    );
 }

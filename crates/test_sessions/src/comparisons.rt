@@ -16,11 +16,7 @@ pub fn holds_at(rt: &impl Abort, fact: bool, name: &str, at: usize) {
     assert!(rt; fact, "{name} {at}");
 }
 
-/// Bytes, if there are any to return.
+/// Fails unless both are the same bytes, or neither has any.
 pub fn same_message(rt: &impl Abort, found: Option<&[u8]>, wanted: Option<&[u8]>) {
-    holds(rt, found == wanted);
-}
-
-pub fn same_bytes(rt: &impl Abort, found: &[u8], wanted: &[u8]) {
     holds(rt, found == wanted);
 }

@@ -1,4 +1,4 @@
-//! Tests of `mold_session`, `mold_receiver`, `mold_refusals`, `mold_rounds`, `mold_capture`, `mold_world`.
+//! Tests of `mold_session`, `mold_receiver`, `mold_rounds`, `mold_capture`, `mold_world`.
 #![tactic(auto)]
 
 #[cfg(test)]
@@ -10,7 +10,7 @@ mod comparisons;
 #[cfg(test)]
 mod journal_file;
 #[cfg(test)]
-mod journal_reader;
+mod journals;
 #[cfg(test)]
 mod publisher;
 #[cfg(test)]
@@ -18,13 +18,9 @@ mod receiver;
 #[cfg(test)]
 mod receiver_steps;
 #[cfg(test)]
-mod refusal_words;
-#[cfg(test)]
 mod rounds;
 #[cfg(test)]
 mod server;
-#[cfg(test)]
-mod upgrading;
 #[cfg(test)]
 mod world;
 #[cfg(test)]

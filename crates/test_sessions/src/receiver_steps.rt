@@ -1,12 +1,10 @@
 //! What the tests of receivers and arbiters share: packets of one session, and a receiver with its batch.
 
-use crate::comparisons::{holds, holds_at, same_message};
-use mold_receiver::{Batch, Heard, Receiver, ReceiverError, Refusal, Taken};
-use mold_wire::Session;
+use crate::comparisons::{holds, holds_at};
+pub use crate::journals::SESSION;
+use mold_receiver::{Batch, Receiver, ReceiverError, Refusal, Taken};
 use std::alloc::{AllocError, Global};
 use std::process::Abort;
-
-pub const SESSION: Session = Session(*b"SESSION001");
 
 /// Packets of messages by their numbers: message 1 is `A`, message 2 is `B`.
 pub const DATA_1: &[u8] = b"SESSION001\0\0\0\0\0\0\0\x01\0\x01\0\x01A";
@@ -36,31 +34,14 @@ pub fn taken(counts: (u32, u32, u32)) -> Result<Taken, Refusal> {
     })
 }
 
-/// The batch has these messages, the first of which has this number. The iterator and the index return them.
-pub fn expect_batch<'w, 'm>(rt: &impl Abort, batch: &Batch, first: u64, messages: &'w [&'m [u8]]) {
-    let mut i = 0usize;
-    for message in batch {
-        same_message(rt, Some(message), messages.get(i).copied());
-        same_message(rt, Some(message), batch.get(i));
-        i = i.saturating_add(1);
-    }
-    holds(rt, i == messages.len());
-    holds(rt, batch.len() == i);
-    holds(rt, batch.first() == Some(first));
-    holds(rt, batch.after() == first.checked_add(i as u64));
-    holds(rt, batch.get(i).is_none());
-}
-
-/// Whether the own messages of a datagram are these.
-pub fn is_own<'w, 'm>(heard: Heard<'_>, messages: &'w [&'m [u8]]) -> bool {
-    let mut i = 0usize;
-    for message in heard.own {
-        if Some(message) != messages.get(i).copied() {
+/// Whether the batch has these messages, the first of which has this number.
+pub fn is_batch<'w, 'm>(batch: &Batch, first: u64, messages: &'w [&'m [u8]]) -> bool {
+    for (i, message) in messages.iter().enumerate() {
+        if batch.get(i) != Some(*message) {
             return false;
         }
-        i = i.saturating_add(1);
     }
-    i == messages.len()
+    batch.len() == messages.len() && batch.first() == Some(first)
 }
 
 /// A receiver of the session, and its batch.
@@ -77,18 +58,14 @@ pub enum Step {
     Window(u32),
     /// A packet is taken: how many of its messages are delivered, stored and beyond the window.
     Taken(&'static [u8], (u32, u32, u32)),
-    /// A packet is taken without a copy: its messages that are delivered. The batch is then empty.
-    Heard(&'static [u8], &'static [&'static [u8]]),
+    /// A packet is taken without a copy: this many of its messages are delivered. The batch is then empty.
+    Heard(&'static [u8], u16),
     /// A packet is refused, and nothing changes.
     Refused(&'static [u8], Refusal),
     /// The next message, the greatest number that is known, and how many messages are stored.
     Numbers(u64, u64, u32),
     /// The request for missing messages, if there is one: its sequence number and its count.
     Wanted(Option<(u64, u16)>),
-    /// The first gap at or above a number: its first number and its end.
-    Missing(u64, Option<(u64, u64)>),
-    /// The gap at the next message is given up: how many stored messages are then delivered.
-    Skipped(u32),
     /// The batch: the number of its first message, and its messages.
     Batch(u64, &'static [&'static [u8]]),
     /// The end that is known, and whether the receiver has all messages before it.
@@ -141,19 +118,14 @@ impl Reception {
             && self.receiver.ended() == ended
     }
 
-    fn hears(&mut self, packet: &[u8], messages: &[&[u8]]) -> Result<bool, Refusal> {
+    fn hear(&mut self, packet: &[u8]) -> Result<u16, Refusal> {
         let heard = self.receiver.hear(packet, &mut self.batch)?;
-        Ok(heard.taken.handed as usize == messages.len() && is_own(heard, messages))
+        Ok(heard.own.len())
     }
 
     fn wanted(&self) -> Option<(u64, u16)> {
         let request = self.receiver.wanted()?;
         Some((request.sequence, request.count))
-    }
-
-    fn missing(&self, from: u64) -> Option<(u64, u64)> {
-        let gap = self.receiver.next_missing(from)?;
-        Some((gap.first, gap.end))
     }
 
     /// Gives up the gap at the next message. Returns how many stored messages were then delivered.
@@ -171,24 +143,17 @@ impl Reception {
     fn takes(&mut self, rt: &impl Abort, step: Step) -> bool {
         match step {
             Step::Window(window) => {
-                self.receiver.session() == SESSION && self.receiver.window() == window
+                self.receiver.window() == window && self.receiver.segments() == 0
             }
             Step::Taken(packet, counts) => self.take(rt, packet) == taken(counts),
-            Step::Heard(packet, messages) => {
-                self.hears(packet, messages) == Ok(true) && self.batch.is_empty()
-            }
+            Step::Heard(packet, own) => self.hear(packet) == Ok(own) && self.batch.is_empty(),
             Step::Refused(packet, refused) => self.is_refused(rt, packet, refused),
             Step::Numbers(next, known, stored) => {
                 let (found_next, found_known, found_stored, _, _) = self.state();
                 (found_next, found_known, found_stored) == (next, known, stored)
             }
             Step::Wanted(request) => self.wanted() == request,
-            Step::Missing(from, gap) => self.missing(from) == gap,
-            Step::Skipped(count) => self.skip(rt) == Ok(count),
-            Step::Batch(first, messages) => {
-                expect_batch(rt, &self.batch, first, messages);
-                true
-            }
+            Step::Batch(first, messages) => is_batch(&self.batch, first, messages),
             Step::Ended(end, finished) => {
                 self.receiver.ended() == end && self.receiver.finished() == finished
             }

@@ -2,16 +2,13 @@
 //! allocation of the test for it fail.
 
 use crate::comparisons::holds;
-use crate::receiver_steps::{Reception, expect_batch};
-use crate::server::Service;
+use crate::receiver_steps::{Reception, is_batch};
+use crate::server::{FIVE_MESSAGES, Service};
 use mold_receiver::Receiver;
 use mold_rounds::{Memory, catch_up};
 use std::alloc::Global;
 use std::process::Abort;
 use std::test::Fail;
-
-// Five messages, the k-th of which is twenty bytes of the value k.
-const FIVE: &[&[u8]] = &[&[1; 20], &[2; 20], &[3; 20], &[4; 20], &[5; 20]];
 
 // Packets of message 2, of message 3 and of message 4.
 const SECOND: &[u8] = b"SESSION001\0\0\0\0\0\0\0\x02\0\x01\
@@ -73,7 +70,7 @@ fn expect_first(rt: &impl Abort, parts: &Parts, messages: &'static [&'static [u8
     if messages.is_empty() {
         holds(rt, parts.reception.batch.is_empty());
     } else {
-        expect_batch(rt, &parts.reception.batch, 1, messages);
+        holds(rt, is_batch(&parts.reception.batch, 1, messages));
     }
 }
 
@@ -144,21 +141,35 @@ fn expect_caught_up(rt: &impl Abort, parts: &mut Parts, case: &Catching) -> Resu
     parts.reception.take_all(rt, case.packets)?;
     holds(rt, missing(&parts.reception.receiver) == case.missing);
     expect_rounds(rt, parts, case.rounds);
-    expect_first(rt, parts, FIVE, case.rounds);
+    expect_first(rt, parts, FIVE_MESSAGES, case.rounds);
     expect_rounds(rt, parts, 0);
-    expect_first(rt, parts, FIVE, case.rounds);
+    expect_first(rt, parts, FIVE_MESSAGES, case.rounds);
     Ok(())
 }
 
-fn expect_case(rt: &(impl Abort + AllocGlobal), case: &Catching) -> Result<(), Fail> {
+fn expect_parts(
+    rt: &impl Abort,
+    parts: &mut Parts,
+    case: &Catching,
+    again: bool,
+) -> Result<(), Fail> {
+    if again {
+        expect_going_on(rt, parts)
+    } else {
+        expect_caught_up(rt, parts, case)
+    }
+}
+
+// The only function that owns the parts: each of them costs its proof.
+fn expect_case(rt: &(impl Abort + AllocGlobal), case: &Catching, again: bool) -> Result<(), Fail> {
     let mut parts = new_parts(rt.alloc(), case)?;
-    expect_caught_up(rt, &mut parts, case)
+    expect_parts(rt, &mut parts, case, again)
 }
 
 #[test]
 fn catching_up_takes_a_known_number_of_rounds(rt: HostRuntime) -> Result<(), Fail> {
     for case in TABLE {
-        expect_case(&rt, case)?;
+        expect_case(&rt, case, false)?;
     }
     Ok(())
 }
@@ -174,7 +185,7 @@ fn catch_up_again(rt: &impl Abort, parts: &mut Parts) -> Result<u64, Memory> {
     } else {
         (3, 1)
     };
-    expect_first(rt, parts, &FIVE[..received], 3 - left);
+    expect_first(rt, parts, &FIVE_MESSAGES[..received], 3 - left);
     let rounds = catch_up_checked(rt, parts)?;
     holds(rt, rounds == left);
     Ok(3)
@@ -183,12 +194,11 @@ fn catch_up_again(rt: &impl Abort, parts: &mut Parts) -> Result<u64, Memory> {
 fn expect_going_on(rt: &impl Abort, parts: &mut Parts) -> Result<(), Fail> {
     parts.reception.take_all(rt, TWO_ROUNDS.packets)?;
     let answered = catch_up_again(rt, parts)?;
-    expect_first(rt, parts, FIVE, answered);
+    expect_first(rt, parts, FIVE_MESSAGES, answered);
     Ok(())
 }
 
 #[test]
 fn out_of_memory_stops_in_a_round(rt: HostRuntime) -> Result<(), Fail> {
-    let mut parts = new_parts(rt.alloc(), &TWO_ROUNDS)?;
-    expect_going_on(&rt, &mut parts)
+    expect_case(&rt, &TWO_ROUNDS, true)
 }

@@ -1,13 +1,11 @@
 //! The re-request server: worked examples, the order of its refusals, and several responses to a request.
 
 use crate::comparisons::{holds, holds_at};
-use mold_session::{AnswerError, AppendError, Journal, Plan, Server, ServerError};
-use mold_wire::Session;
+use crate::journals::journal_of;
+use mold_session::{AnswerError, Journal, Plan, Server, ServerError};
 use std::alloc::Global;
 use std::process::Abort;
 use std::test::Fail;
-
-const SESSION: Session = Session(*b"SESSION001");
 
 // Datagrams of the five messages.
 const ONE_AND_TWO: &[u8] = b"SESSION001\0\0\0\0\0\0\0\x01\0\x02\
@@ -41,14 +39,8 @@ const FROM_FIVE: &[u8] = b"SESSION001\0\0\0\0\0\0\0\x05\0\x09";
 
 const THREE_FROM_ONE: &[u8] = b"SESSION001\0\0\0\0\0\0\0\x01\0\x03";
 
-// Five messages, the k-th of which is twenty bytes of the value k.
-fn journal_of_five(alloc: Global) -> Result<Journal, AppendError> {
-    let mut journal = Journal::new(alloc, SESSION, 42);
-    for byte in 1..6u8 {
-        journal.append(&[byte; 20])?;
-    }
-    Ok(journal)
-}
+/// Five messages, the k-th of which is twenty bytes of the value k.
+pub const FIVE_MESSAGES: &[&[u8]] = &[&[1; 20], &[2; 20], &[3; 20], &[4; 20], &[5; 20]];
 
 /// The journal of five messages, and a server of datagrams of 64 bytes.
 #[derive(Drop)]
@@ -70,10 +62,6 @@ enum Step {
     /// The plan of a request: its first message, the message after its last one, how many datagrams it may have, and
     /// its datagrams.
     Plan(&'static [u8], u64, u64, u16, &'static [Datagram]),
-    /// The plan of the messages below a number.
-    PlanBelow(u64, &'static [u8], u64, u64, u16, &'static [Datagram]),
-    /// There is none, because the first message is not below the number.
-    Ahead(u64, &'static [u8], u64),
     /// How many requests were answered.
     Answered(u64),
 }
@@ -81,7 +69,7 @@ enum Step {
 impl Service {
     pub fn new(alloc: Global, burst: u16) -> Result<Service, Fail> {
         Ok(Service {
-            journal: journal_of_five(alloc)?,
+            journal: journal_of(alloc, 42, FIVE_MESSAGES)?,
             server: Server::new(alloc, 64, 42, burst)?,
         })
     }
@@ -91,17 +79,9 @@ impl Service {
         self.server.answer(&self.journal, request)
     }
 
-    fn plan(
-        &mut self,
-        rt: &impl Abort,
-        below: Option<u64>,
-        request: &[u8],
-    ) -> Result<Plan, AnswerError> {
+    fn plan(&mut self, rt: &impl Abort, request: &[u8]) -> Result<Plan, AnswerError> {
         holds(rt, self.journal.max_message() <= self.server.max_message());
-        match below {
-            Some(below) => self.server.plan_below(&self.journal, below, request),
-            None => self.server.plan(&self.journal, request),
-        }
+        self.server.plan(&self.journal, request)
     }
 
     /// Whether the next datagram of a plan is this one.
@@ -125,24 +105,16 @@ impl Service {
     fn is_planned(
         &mut self,
         rt: &impl Abort,
-        (below, request): (Option<u64>, &[u8]),
+        request: &[u8],
         wanted: (u64, u64, u16),
         datagrams: &[Datagram],
     ) -> bool {
-        match self.plan(rt, below, request) {
+        match self.plan(rt, request) {
             Ok(mut plan) => {
                 (plan.from(), plan.to(), plan.left()) == wanted
                     && self.are_sent(rt, &mut plan, datagrams)
             }
             Err(_) => false,
-        }
-    }
-
-    fn expect_lengths(&mut self, rt: &impl Abort) {
-        for len in 0..=40usize {
-            let found = self.answer(rt, &LONGER[..len]).err();
-            let refused = Some(AnswerError::RequestLength { len });
-            holds_at(rt, (found == refused) == (len != 20), "length", len);
         }
     }
 
@@ -158,16 +130,10 @@ impl Service {
             Step::Answer(request, wanted) => self.answer(rt, request) == Ok(wanted),
             Step::Refused(request, wanted) => {
                 self.answer(rt, request) == Err(wanted)
-                    && self.plan(rt, None, request).err() == Some(wanted)
+                    && self.plan(rt, request).err() == Some(wanted)
             }
             Step::Plan(request, from, to, burst, datagrams) => {
-                self.is_planned(rt, (None, request), (from, to, burst), datagrams)
-            }
-            Step::PlanBelow(below, request, from, to, burst, datagrams) => {
-                self.is_planned(rt, (Some(below), request), (from, to, burst), datagrams)
-            }
-            Step::Ahead(below, request, next) => {
-                self.plan(rt, Some(below), request).err() == Some(AnswerError::Ahead { next })
+                self.is_planned(rt, request, (from, to, burst), datagrams)
             }
             Step::Answered(count) => self.server.answered() == count,
         }
@@ -190,36 +156,16 @@ const REFUSALS: &[Step] = &[
     ),
     Step::Refused(b"SESSION001\0\0\0\0\0\0\0\0\0\0", AnswerError::SequenceZero),
     Step::Refused(
-        b"SESSION001\0\0\0\0\0\0\0\0\0\x01",
-        AnswerError::SequenceZero,
-    ),
-    Step::Refused(
         b"SESSION001\0\0\0\0\0\0\0\x06\0\x01",
         AnswerError::Ahead { next: 6 },
-    ),
-    Step::Refused(
-        b"SESSION001\0\0\0\0\0\0\0\x07\0\x01",
-        AnswerError::Ahead { next: 6 },
-    ),
-    Step::Refused(
-        b"SESSION001\0\0\0\0\0\0\0\x06\0\0",
-        AnswerError::EmptyRequest,
-    ),
-    Step::Refused(
-        b"SESSION002\0\0\0\0\0\0\0\x01\0\x01",
-        AnswerError::WrongSession,
     ),
     Step::Refused(
         b"SESSION002\0\0\0\0\0\0\0\0\0\x01",
         AnswerError::WrongSession,
     ),
     Step::Refused(
-        b"SESSION002\0\0\0\0\0\0\0\x01\0\0",
-        AnswerError::WrongSession,
-    ),
-    Step::Refused(
-        b"SESSION002\0\0\0\0\0\0\0\x06\0\x01",
-        AnswerError::WrongSession,
+        b"SESSION001\0\0\0\0\0\0\0\x01\0\x01\0",
+        AnswerError::RequestLength { len: 21 },
     ),
     Step::Answered(0),
 ];
@@ -272,23 +218,6 @@ const AS_ASKED: &[Step] = &[Step::Plan(
     ],
 )];
 
-/// Messages from 4 on are not sent yet. The last refusals are for messages that are not sent yet.
-const BELOW: &[Step] = &[
-    Step::PlanBelow(
-        4,
-        FROM_ONE,
-        1,
-        4,
-        3,
-        &[(Some(ONE_AND_TWO), 3, 2), (Some(THREE), 4, 1), (None, 4, 1)],
-    ),
-    Step::PlanBelow(6, FROM_FIVE, 5, 6, 3, &[]),
-    Step::Ahead(5, FROM_FIVE, 5),
-    Step::Ahead(2, FROM_TWO, 2),
-    Step::Ahead(1, FROM_ONE, 1),
-    Step::Ahead(0, FROM_ONE, 1),
-];
-
 /// The burst of a server, and its steps.
 const EXAMPLES: &[(&str, u16, &[Step])] = &[
     ("server-longest-front", 1, LONGEST_FRONT),
@@ -297,7 +226,6 @@ const EXAMPLES: &[(&str, u16, &[Step])] = &[
     ("a burst of one", 1, BURST_OF_ONE),
     ("a burst of two", 2, BURST_OF_TWO),
     ("as asked", 64, AS_ASKED),
-    ("below a number", 3, BELOW),
 ];
 
 fn expect_example(
@@ -316,17 +244,6 @@ fn no_allocation_of_a_server(rt: HostRuntime) -> Result<(), Fail> {
     for (name, burst, steps) in EXAMPLES {
         expect_example(&rt, name, *burst, steps)?;
     }
-    Ok(())
-}
-
-// A request for message 5, followed by 20 bytes.
-const LONGER: [u8; 40] = *b"SESSION001\0\0\0\0\0\0\0\x05\0\x01SESSION001\0\0\0\0\0\0\0\x05\0\x01";
-
-/// Of the prefixes of a request and 20 more bytes only the one of 20 bytes is a request.
-#[test]
-fn no_allocation_of_requests_of_other_lengths(rt: HostRuntime) -> Result<(), Fail> {
-    let mut service = Service::new(rt.alloc(), 1)?;
-    service.expect_lengths(&rt);
     Ok(())
 }
 
