@@ -1,7 +1,12 @@
 -- The places where a line is split into words.
 use Rattle.std.proofs.Common.{◌≡◌, ℕ, zero, suc, ◌+◌, ◌<◌, true, false, eqb, List, [], ◌∷◌, length, take, drop, refl, sym, ap, ◌∙◌, inl, inr, arith, add-one}
-use Rattle.std.proofs.lemmas.Bool.{cond-true, cond-false, cases_Bool}
-use Rattle.memchr.specs.Find.{NoneBefore, Nowhere, Passes, is_byte}
+use Rattle.std.proofs.Common.{◌≤◌, Option, None, Some}
+use Rattle.std.proofs.lemmas.Bool.{cond-true, cond-false, cases_Bool, false≢true}
+use Rattle.std.proofs.lemmas.Grind.{common_steps}
+use Rattle.std.proofs.lemmas.List.Quantifiers.{position-Some}
+use Rattle.std.proofs.lemmas.List.Sums.{fails_before_first}
+use Rattle.std.specs.List.{position, position_or_len}
+use Rattle.memchr.specs.Find.{IsFirstByte, NoneBefore, Nowhere, Passes, is_byte}
 use Rattle.mold_devices.specs.Lines.{onto_first}
 use Rattle.mold_sim.specs.Script.{words_of}
 
@@ -11,6 +16,26 @@ IsSpace = Passes (is_byte 32)
 
 no_space : (byte : ℕ) → (eqb byte 32 ≡ true → ⊥) → eqb byte 32 ≡ false
 no_space byte none = elim (cases_Bool (eqb byte 32)) [ inl is ↦ absurd (none is) | inr is ↦ is ]
+
+first_at : (line : List ℕ) (found : Option ℕ) → position (λ byte. eqb byte 32) line ≡ found →
+    IsFirstByte (is_byte 32) line found
+first_at line None is =
+    let all : length line ≤ position_or_len (λ byte. eqb byte 32) line = grind (arith, common_steps) in
+    λ k low high space.
+    false≢true (sym (fails_before_first (λ byte. eqb byte 32) line k 0 (omega arith)) ∙ space)
+first_at line (Some at) is =
+    let found = position-Some (λ byte. eqb byte 32) line at 0 is in (
+      record {
+        low = omega arith;
+        high = found.0;
+        before = λ k low high space. false≢true (sym (found.2 k high) ∙ space);
+      },
+      found.1,
+    )
+
+-- The position of the first space is that of the first byte that is one.
+pub first_position : (line : List ℕ) → IsFirstByte (is_byte 32) line (position (λ byte. eqb byte 32) line)
+first_position line = first_at line (position (λ byte. eqb byte 32) line) refl
 
 -- A line without a space is one word.
 pub one_word : (line : List ℕ) → Nowhere (IsSpace line) 0 (length line) → words_of line ≡ line ∷ []
