@@ -77,6 +77,8 @@ impl Subscriber {
 
     /// Gives the receiver bytes that came in this way. It appends the messages that are delivered to the book.
     /// Returns an error if an allocation fails.
+    // For the optimizer: a call would return the counts through memory, and their copy would wait until they reach it.
+    #[inline(always)]
     pub(crate) fn give(&mut self, way: Way, bytes: &[u8]) -> Result<Report, AllocError>
         requires { Follows self.old.book self.old.arbitration.view.next }
         ensures told { IfOk result (λ report. report ≡ told (receive self.old.arbitration.view bytes.now)) }
