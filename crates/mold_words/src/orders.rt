@@ -218,6 +218,7 @@ fn feed_order(alloc: Global, options: &ArgMatches<'_>) -> Result<Order, NoOrder>
     let bind = address_or_none(options, "bind")?;
     let burst = burst_in(options)?;
     let times = feed_times_in(options)?;
+    let blocks = flag_in(options, "blocks");
     let beats = number_in(options, "beats", 1, 0, 1000)?;
     let ends = number_in(options, "ends", 1, 0, 1000)?;
     let journal = string_in(alloc, options, "journal")?;
@@ -230,7 +231,7 @@ fn feed_order(alloc: Global, options: &ArgMatches<'_>) -> Result<Order, NoOrder>
         bind,
         burst,
         times,
-        blocks: flag_in(options, "blocks"),
+        blocks,
         beats: beats as u32,
         ends: ends as u32,
         open: flag_in(options, "open"),
