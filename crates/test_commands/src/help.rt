@@ -12,6 +12,7 @@ Commands:
   sim      Run a script of events from standard input and print what each event does
   check    Report whether captured datagrams are one whole session
   publish  Publish messages from standard input on two lines
+  feed     Publish messages from standard input as they come, and serve requests
   serve    Serve requests for messages of a journal file
   listen   Receive a session on two lines, request what is missing, and print the messages
   receive  Receive a session on one or two lines, repair its gaps, and print the messages
@@ -47,8 +48,8 @@ Options:
       --session <NAME>  The session's name, 1 to 10 characters from space to ~
       --limit <BYTES>   The maximum size of a packet in bytes, 64 to 65507 [default: 1400]
       --journal <FILE>  The file to save a journal in instead of printing packets
-      --blocks          Read message blocks (BinaryFILE). A block is the length of a message in two
-                        bytes, most significant first, and the message
+      --blocks          Read message blocks (BinaryFILE). A block is the length of a message
+                        in two bytes, most significant first, and the message
       --end-at-empty    End the input of --blocks before its first empty block, which must exist
   -h, --help            Print help
 
