@@ -8,6 +8,8 @@ _mold_options() {
     pack) printf '%s ' --session --limit --journal --blocks --end-at-empty ;;
     sim) printf '%s ' --session --limit --server-limit --window --receivers --burst ;;
     publish) printf '%s ' --session --limit --a --b --journal --beats --ends --blocks --end-at-empty ;;
+    feed) printf '%s ' --session --limit --a --b --interface-a --interface-b --ttl --journal --append --bind --burst \
+        --rate --idle --beats --ends --open --linger --blocks ;;
     serve) printf '%s ' --journal --follow --limit --burst --bind --turns --live ;;
     listen) printf '%s ' --session --next --window --a --b --server --burst --turns --live --report --blocks \
         --end-at-empty ;;
@@ -22,7 +24,7 @@ _mold_options() {
     printf '%s' --help
 }
 
-_mold_commands='show pack sim check publish serve listen receive loop upgrade dump help'
+_mold_commands='show pack sim check publish feed serve listen receive loop upgrade dump help'
 
 # Completes a file name with -f, or the name of a folder with -d.
 _mold_files() {
@@ -57,7 +59,7 @@ _mold() {
         _mold_words '127.0.0.1: 0.0.0.0:' "$word"
         ;;
     show:--request | upgrade:--close | *:--live | *:--follow | *:--report | *:--learn | *:--from-now | \
-        *:--no-sync)
+        *:--no-sync | feed:--append | feed:--open)
         _mold_words "$(_mold_options "$command")" "$word"
         ;;
     *:--help) ;;

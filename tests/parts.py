@@ -95,6 +95,7 @@ LANES = (
                      "library/*", "tests/checks.sh"),
         # Longer conditions of the network are not part of the gate.
         over_program("tests/repair"),
+        over_program("tests/feed"),
         over_program("tests/follow", "tests/durable", "tests/libraries.py", "tests/model.py",
                      f"crates/{DRIVER}/src/*"),
     ),

@@ -7,6 +7,7 @@ use mold_commands::{
     DumpOptions, check_folder, dump_file, run_command, run_pack_journal, run_upgrade,
 };
 use mold_devices::{CommandFault, FromRead, IntoWrite};
+use mold_feed_command::run_feed;
 use mold_loop::run_loop;
 use mold_sockets::{
     open_replaced, run_follow_dump, run_listen, run_publish, run_receive, run_record, run_serve,
@@ -143,6 +144,7 @@ fn run(rt: &HostRuntime, order: &Order) -> Result<u8, ProgramFault> {
         Order::Check { folder } => Ok(run_check(rt, folder.as_str())?),
         Order::CheckLines => Ok(run_streamed(rt, order)?),
         Order::Publish(order) => run_publish(rt, order),
+        Order::Feed(order) => run_feed(rt, order),
         Order::Serve(order) => run_serve(rt, order),
         Order::Listen(order) => run_listen(rt, order),
         Order::Receive(order) => run_receive(rt, order),

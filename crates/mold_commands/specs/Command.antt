@@ -7,7 +7,7 @@ use Rattle.mold_sim.specs.Sim.{SimState, sim_beginning, sim_status, sim_text}
 use Rattle.mold_words.specs.declared.sim_order.SimOrder.{SimOrder}
 use Rattle.mold_words.specs.declared.types.Order.{Order}
 use Rattle.mold_words.specs.declared.types.Order.TheVariants.{Show, Pack, PackJournal, Sim, Check, CheckLines}
-use Rattle.mold_words.specs.declared.types.Order.TheVariants.{Publish, Serve, Listen, Receive, Record, Loop}
+use Rattle.mold_words.specs.declared.types.Order.TheVariants.{Publish, Feed, Serve, Listen, Receive, Record, Loop}
 use Rattle.mold_words.specs.declared.types.Order.TheVariants.{Upgrade, Dump}
 
 -- The state of the simulation at the start of the order's script.
@@ -26,6 +26,7 @@ IsStreamed (Sim order) = ⊤
 IsStreamed (Check folder) = ⊥
 IsStreamed CheckLines = ⊤
 IsStreamed (Publish order) = ⊥
+IsStreamed (Feed order) = ⊥
 IsStreamed (Serve order) = ⊥
 IsStreamed (Listen order) = ⊥
 IsStreamed (Receive order) = ⊥
@@ -43,6 +44,7 @@ text (Sim order) input = sim_text (sim_start order) input
 text (Check folder) input = []
 text CheckLines input = check_text input
 text (Publish order) input = []
+text (Feed order) input = []
 text (Serve order) input = []
 text (Listen order) input = []
 text (Receive order) input = []
@@ -61,6 +63,7 @@ status (Sim order) input = sim_status (sim_start order) input
 status (Check folder) input = 0
 status CheckLines input = check_status input
 status (Publish order) input = 0
+status (Feed order) input = 0
 status (Serve order) input = 0
 status (Listen order) input = 0
 status (Receive order) input = 0

@@ -49,6 +49,7 @@ pub fn run_command<S: Source, K: Sink>(
         Order::PackJournal(_)
         | Order::Check { folder: _ }
         | Order::Publish(_)
+        | Order::Feed(_)
         | Order::Serve(_)
         | Order::Listen(_)
         | Order::Receive(_)

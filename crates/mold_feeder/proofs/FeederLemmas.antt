@@ -55,6 +55,29 @@ durable_cases publisher (suc count) some =
 pub after_durable : {S : Type 0} (publisher : DurablePublisher S) → (after_committed publisher).durable ≡ publisher.durable
 after_durable publisher = durable_cases publisher (length publisher.durable.waiting) refl
 
+journal_cases : {S : Type 0} (publisher : DurablePublisher S) (count : ℕ) → length publisher.durable.waiting ≡ count →
+    (after_committed publisher).publisher.journal ≡ publisher.publisher.journal
+journal_cases publisher zero none = rw (eq-eqb (length publisher.durable.waiting) 0 none) refl
+journal_cases publisher (suc count) some =
+    rw (ne_eqb (length publisher.durable.waiting) 0 (λ none. absurd (omega (arith, none, some)))) refl
+
+-- The journal is the same after the next data packet.
+pub after_journal : {S : Type 0} (publisher : DurablePublisher S) →
+    (after_committed publisher).publisher.journal ≡ publisher.publisher.journal
+after_journal publisher = journal_cases publisher (length publisher.durable.waiting) refl
+
+onward_cases : {S : Type 0} (publisher : DurablePublisher S) (count : ℕ) → length publisher.durable.waiting ≡ count →
+    publisher.publisher.sent ≤ (after_committed publisher).publisher.sent
+onward_cases publisher zero none =
+    rw (eq-eqb (length publisher.durable.waiting) 0 none) (omega arith)
+onward_cases publisher (suc count) some =
+    rw (ne_eqb (length publisher.durable.waiting) 0 (λ none. absurd (omega (arith, none, some)))) (omega arith)
+
+-- The next data packet adds to the messages that were sent.
+pub after_onward : {S : Type 0} (publisher : DurablePublisher S) →
+    publisher.publisher.sent ≤ (after_committed publisher).publisher.sent
+after_onward publisher = onward_cases publisher (length publisher.durable.waiting) refl
+
 module _ {S : Type 0} (shows may_leave : S → List ℕ → Type 0) (publisher : DurablePublisher S) (life : Life)
     (is : Publishes shows may_leave publisher life) where
   -- If no message waits, the messages of the next data packet are committed.
@@ -130,6 +153,9 @@ module _ {S L P : Type 0} (shows may_leave : S → List ℕ → Type 0) (modeled
         given = given;
         clock = clock;
         storage = durable;
+        journal = ap (λ (p : DurablePublisher S). p.publisher.journal) same ∙ after_journal old.publisher;
+        onward = subst (λ (p : DurablePublisher S). old.publisher.publisher.sent ≤ p.publisher.sent) (sym same)
+            (after_onward old.publisher);
         told = λ life is. record {
           now = (truth life is, tt);
           left = (
@@ -162,6 +188,7 @@ module _ {S L P : Type 0} (shows may_leave : S → List ℕ → Type 0) (modeled
     mid = mid;
     group = takes;
     ports = ports;
+    sent = sent;
     now = now;
     publishes = sent.publishes now is;
     none = none;
@@ -221,6 +248,9 @@ module _ {S L P : Type 0} (shows may_leave : S → List ℕ → Type 0) (modeled
         given = given;
         clock = clock;
         storage = ap (λ (p : DurablePublisher S). p.durable) same;
+        journal = ap (λ (p : DurablePublisher S). p.publisher.journal) same;
+        onward = subst (λ (p : DurablePublisher S). old.publisher.publisher.sent ≤ p.publisher.sent) (sym same)
+            (omega arith);
         told = λ life is.
             subst (λ (p : DurablePublisher S). AreTold may_leave p life (replicate times bytes)) (sym same) (record {
               now = all_copies (IsTrueNow life) times bytes (truth life is);

@@ -1,8 +1,8 @@
 -- The messages of an input that join those that wait, one by one.
-use Rattle.std.proofs.Common.{◌≡◌, inl, ℕ, ◌+◌, ◌≤◌, List, [], ◌∷◌, ◌++◌, Option, Ok, Err}
+use Rattle.std.proofs.Common.{◌≡◌, Bool, false, inl, inr, ℕ, ◌+◌, ◌≤◌, List, [], ◌∷◌, ◌++◌, Option, Ok, Err}
 use Rattle.std.proofs.Common.{refl, sym, ap, subst, ◌∙◌, append_assoc, append-nil, length-append, arith}
-use Rattle.mold_durable.specs.Life.{Life, after as after_moment}
-use Rattle.mold_durable.specs.Life.Moment.{Commit}
+use Rattle.mold_durable.specs.Life.{IsFileAround, IsFileOf, Life, Lives, after as after_moment}
+use Rattle.mold_durable.specs.Life.Moment.{Close, Commit}
 use Rattle.mold_durable.specs.Storage.{LeavesOnly}
 use Rattle.mold_durable_publisher.specs.DurablePublisher.{Publishes}
 use Rattle.mold_durable_publisher.specs.Told.{IsLaterFile, IsTold, IsTrueNow}
@@ -17,7 +17,10 @@ use Rattle.mold_publish.specs.declared.refusal_reason.RefusalReason.TheVariants.
 use Rattle.mold_publish.proofs.PublishingLemmas.{published_end, published_fault, published_more, published_nothing, published_refused}
 use Rattle.mold_session.specs.Journal.{JournalState}
 use Rattle.mold_session.specs.Publisher.{PublisherState}
-use Rattle.mold_feeder.specs.Gathering.{Gathers, JoinsWaiting, TakesGroup, filled_for, with_waiting}
+use Rattle.mold_session.specs.Records.{SpellsJournal3}
+use Rattle.mold_wire.specs.declared.session.Session.{Session}
+use Rattle.mold_feeder.specs.Feeder.{IsFileAtEnd}
+use Rattle.mold_feeder.specs.Gathering.{Gathers, IsFileUpTo, JoinsWaiting, TakesGroup, filled_for, with_waiting}
 use Rattle.mold_feeder.specs.declared.gathered.Gathered.{Gathered}
 use Rattle.mold_feeder.specs.declared.gathered.Gathered.TheVariants.{Full, End, Refused}
 
@@ -114,6 +117,80 @@ module _ {S : Type 0} (shows may_leave : S → List ℕ → Type 0) (kind : Inpu
   gathered_full most all old now known left le so_far =
       stopped most all old now known left left Full le so_far so_far.input
 
+module _ {S : Type 0} (moment : S → ℕ) (left_since : S → ℕ → List ℕ → Type 0) where
+  -- What a crash leaves meets less, too.
+  pub leaves_weaker : (old new : S) (P Q : List ℕ → Type 0) → ((bytes : List ℕ) → P bytes → Q bytes) →
+      LeavesOnly moment left_since old new P → LeavesOnly moment left_since old new Q
+  leaves_weaker old new P Q follows leaves = record {
+    later = leaves.later;
+    each = λ bytes left. follows bytes (leaves.each bytes left);
+    before = λ earlier bytes le left. elim (leaves.before earlier bytes le left) [
+      | inl before ↦ inl before
+      | inr is ↦ inr (follows bytes is)
+    ];
+  }
+
+  -- The storage was not used.
+  pub leaves_still : (may_leave : S → List ℕ → Type 0) → ((storage : S) (bytes : List ℕ) →
+      left_since storage (moment storage) bytes → may_leave storage bytes) → (storage : S) (P : List ℕ → Type 0) →
+      ((bytes : List ℕ) → may_leave storage bytes → P bytes) → LeavesOnly moment left_since storage storage P
+  leaves_still may_leave only_now storage P is = record {
+    later = omega arith;
+    each = λ bytes left. is bytes (only_now storage bytes left);
+    before = λ earlier bytes le left. inl left;
+  }
+
+  -- A crash during the first part or during the second.
+  pub leaves_both : (old mid new : S) (P Q R : List ℕ → Type 0) → ((bytes : List ℕ) → P bytes → R bytes) →
+      ((bytes : List ℕ) → Q bytes → R bytes) → LeavesOnly moment left_since old mid P →
+      LeavesOnly moment left_since mid new Q → LeavesOnly moment left_since old new R
+  leaves_both old mid new P Q R one other first second = record {
+    later = omega (arith, first.later, second.later);
+    each = λ bytes left. elim (second.before (moment old) bytes first.later left) [
+      | inl before ↦ one bytes (first.each bytes before)
+      | inr is ↦ other bytes is
+    ];
+    before = λ earlier bytes le left.
+        elim (second.before earlier bytes (omega (arith, le, first.later)) left) [
+          | inl before ↦ elim (first.before earlier bytes le before) [
+            | inl still ↦ inl still
+            | inr is ↦ inr (one bytes is)
+          ]
+          | inr is ↦ inr (other bytes is)
+        ];
+  }
+
+-- The files around the closing are those at the end.
+pub around_at_end : (stays_open : Bool) (life : Life) (bytes : List ℕ) → stays_open ≡ false →
+    IsFileAround life Close bytes → IsFileAtEnd stays_open life bytes
+around_at_end stays_open life bytes is (inl before) = inl before
+around_at_end stays_open life bytes is (inr after) = inr (is, after)
+
+-- The same files, if the journal is the same.
+pub up_to_same : {S : Type 0} (life : Life) (one other : DurablePublisher S) (bytes : List ℕ) →
+    other.publisher.journal ≡ one.publisher.journal → IsFileUpTo life one bytes → IsFileUpTo life other bytes
+up_to_same life one other bytes same (inl file) = inl file
+up_to_same life one other bytes same (inr file) =
+    inr (subst (λ (j : JournalState). SpellsJournal3 life.session j.messages life.closed bytes) (sym same) file)
+
+-- What a crash leaves now is a file of the committed messages.
+pub file_now : {S : Type 0} (shows may_leave : S → List ℕ → Type 0) (publisher : DurablePublisher S) (life : Life) →
+    Lives shows may_leave publisher.durable life → (bytes : List ℕ) → may_leave publisher.durable.storage bytes →
+    IsFileOf life bytes
+file_now shows may_leave publisher life lives bytes left =
+    subst (λ (session : Session). SpellsJournal3 session life.committed life.closed bytes) (sym lives.session)
+    (subst (λ (closed : Bool). SpellsJournal3 publisher.durable.session life.committed closed bytes) (sym lives.closed)
+    (lives.settled.kept.left bytes left))
+
+-- The files around a commit are those of the committed messages, and of all that the publisher has.
+around_up_to : {S : Type 0} {shows may_leave : S → List ℕ → Type 0} (life : Life) (mid now : DurablePublisher S)
+    (messages : List (List ℕ)) (bytes : List ℕ) → Publishes shows may_leave mid (with_waiting life messages) →
+    now.publisher ≡ mid.publisher → IsFileAround (with_waiting life messages) Commit bytes → IsFileUpTo life now bytes
+around_up_to life mid now messages bytes is kept (inl before) = inl before
+around_up_to life mid now messages bytes is kept (inr after) =
+    inr (subst (λ (ms : List (List ℕ)). SpellsJournal3 life.session ms life.closed bytes)
+    (sym (ap (λ (p : PublisherState). p.journal.messages) kept ∙ is.held)) after)
+
 module _ {S : Type 0} (shows may_leave : S → List ℕ → Type 0) (moment : S → ℕ) (left_since : S → ℕ → List ℕ → Type 0) where
   -- The storage was not used, so a crash leaves what it might have left before.
   pub told_unused : (only_now : (storage : S) (bytes : List ℕ) → left_since storage (moment storage) bytes →
@@ -129,6 +206,32 @@ module _ {S : Type 0} (shows may_leave : S → List ℕ → Type 0) (moment : S 
         before = λ earlier bytes le left. inl left;
       })
 
+  -- The storage was not used, so a crash leaves the committed messages.
+  pub crash_unused : (only_now : (storage : S) (bytes : List ℕ) → left_since storage (moment storage) bytes →
+      may_leave storage bytes) → (publisher now : DurablePublisher S) (life : Life) →
+      Publishes shows may_leave publisher life → publisher.durable.broken ≡ false →
+      now.durable.storage ≡ publisher.durable.storage →
+      LeavesOnly moment left_since publisher.durable.storage now.durable.storage (IsFileUpTo life now)
+  crash_unused only_now publisher now life is intact same =
+      subst (λ (s : S). LeavesOnly moment left_since publisher.durable.storage s (IsFileUpTo life now)) (sym same) (record {
+        later = omega arith;
+        each = λ bytes left.
+            inl (file_now shows may_leave publisher life (is.lives intact) bytes (only_now publisher.durable.storage bytes left));
+        before = λ earlier bytes le left. inl left;
+      })
+
+  -- A commit leaves the committed messages, or those that waited too.
+  pub crash_commit : (life : Life) (old : S) (mid now : DurablePublisher S) (messages : List (List ℕ)) →
+      Publishes shows may_leave mid (with_waiting life messages) → mid.durable.storage ≡ old →
+      now.publisher ≡ mid.publisher →
+      LeavesOnly moment left_since mid.durable.storage now.durable.storage
+      (IsFileAround (with_waiting life messages) Commit) →
+      LeavesOnly moment left_since old now.durable.storage (IsFileUpTo life now)
+  crash_commit life old mid now messages is same kept leaves =
+      subst (λ (s : S). LeavesOnly moment left_since s now.durable.storage (IsFileUpTo life now)) same
+      (leaves_weaker moment left_since mid.durable.storage now.durable.storage (IsFileAround (with_waiting life messages) Commit)
+      (IsFileUpTo life now) (λ bytes. around_up_to life mid now messages bytes is kept) leaves)
+
   -- A group was committed.
   pub group_taken : (life : Life) (most : ℕ) (old mid new : DurablePublisher S) (known left : Option InputEntries)
       (gathered : Gathered) (so_far : Gathers shows may_leave life most old mid known left gathered) →
@@ -137,6 +240,7 @@ module _ {S : Type 0} (shows may_leave : S → List ℕ → Type 0) (moment : S 
   group_taken life most old mid new known left gathered so_far is same = record {
     messages = so_far.messages;
     few = so_far.few;
+    possible = so_far.publishes.possible;
     added = ap (λ (p : PublisherState). p.journal.messages) same ∙ so_far.added;
     sent = ap (λ (p : PublisherState). p.sent) same ∙ so_far.sent;
     publishes = is;

@@ -1,11 +1,14 @@
 -- The lines that a publisher over ports prints.
-use Rattle.std.specs.Prelude.{ℕ, List, [], ◌∷◌, codes, decimal}
+use Rattle.std.specs.Prelude.{ℕ, Bool, List, [], ◌∷◌, codes, decimal, if◌then◌else◌}
 use Rattle.mold_input.specs.declared.input_kind.InputKind.{InputKind}
 use Rattle.mold_publish.specs.Publishing.{entry_word, refused_text}
 use Rattle.mold_text.specs.Line.{line_of}
 use Rattle.mold_text.specs.Text.{refused_line}
 use Rattle.mold_feeder.specs.declared.compared.Compared.{Compared}
-use Rattle.mold_feeder.specs.declared.compared.Compared.TheVariants.{Same, Differs, Refused, End}
+use Rattle.mold_feeder.specs.declared.compared.Compared.TheVariants.{Same, Differs, End}
+use Rattle.mold_feeder.specs.declared.compared.Compared.TheVariants as compared
+use Rattle.mold_feeder.specs.declared.feed_stop.FeedStop.{FeedStop}
+use Rattle.mold_feeder.specs.declared.feed_stop.FeedStop.TheVariants.{Ended, Other, Refused}
 
 -- The first line of a session that is resumed: the number of messages that its journal has.
 abbrev pub resumed_line : ℕ → List ℕ
@@ -26,5 +29,21 @@ named_line kind number name = refused_line (entry_word kind ∷ decimal number �
 abbrev pub compared_text : InputKind → ℕ → Compared → List ℕ
 compared_text kind number Same = []
 compared_text kind number Differs = named_line kind number (codes "Differs")
-compared_text kind number (Refused why) = refused_text number (record { kind = kind; why = why })
+compared_text kind number (compared.Refused why) = refused_text number (record { kind = kind; why = why })
 compared_text kind number End = named_line kind number (codes "Missing")
+
+-- The line that a publisher prints last, if it stopped so. `last` is the last line of a session whose input ended.
+abbrev pub stop_text : InputKind → FeedStop → List ℕ → List ℕ
+stop_text kind (Other number compared) last = compared_text kind number compared
+stop_text kind (Refused number refusal) last = refused_text number refusal
+stop_text kind Ended last = last
+
+-- The status of a publisher that stopped so.
+abbrev pub status_at : FeedStop → ℕ
+status_at (Other number compared) = 2
+status_at (Refused number refusal) = 2
+status_at Ended = 0
+
+-- The first line of a publisher whose journal has this many messages. It is printed only if the journal existed.
+abbrev pub first_text : Bool → ℕ → List ℕ
+first_text resumed messages = if resumed then resumed_line messages else []

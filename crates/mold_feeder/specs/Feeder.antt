@@ -1,9 +1,9 @@
 -- What a publisher over ports sends, and of which files it is true.
-use Rattle.std.specs.Prelude.{◌≡◌, ℕ, Bool, true, ◌&&◌, is_some, nat_le, if◌then◌else◌, List, [], ◌++◌}
+use Rattle.std.specs.Prelude.{◌≡◌, ◌≤◌, ◌⊎◌, ℕ, Bool, true, false, ◌&&◌, is_some, nat_le, if◌then◌else◌, List, [], ◌++◌}
 use Rattle.std.specs.Prelude.{length, ◌-◌, ◌==◌, Option, None, Some}
 use Rattle.std.specs.Io.KnownBytes.{prepend_known}
 use Rattle.std.specs.List.{AllByRecursion}
-use Rattle.mold_durable.specs.Life.{Life, after as after_moment}
+use Rattle.mold_durable.specs.Life.{IsFileOf, Life, after as after_moment}
 use Rattle.mold_durable.specs.Life.Moment.{Close}
 use Rattle.mold_durable.specs.Storage.{IsWithin}
 use Rattle.mold_durable_publisher.specs.DurablePublisher.{Publishes, next_committed}
@@ -47,6 +47,8 @@ pub record HasSent {S L P : Type 0} (shows may_leave : S → List ℕ → Type 0
   pub given : modeled ≡ true → (state new.ports).given ≡ (state old.ports).given
   pub clock : (state new.ports).now ≡ (state old.ports).now
   pub storage : new.publisher.durable ≡ old.publisher.durable
+  pub journal : new.publisher.publisher.journal ≡ old.publisher.publisher.journal
+  pub onward : old.publisher.publisher.sent ≤ new.publisher.publisher.sent
   pub told : (life : Life) → Publishes shows may_leave old.publisher life →
       AreTold may_leave new.publisher life datagrams
   pub publishes : (life : Life) → Publishes shows may_leave old.publisher life →
@@ -96,6 +98,7 @@ pub record HasTurned {S L P : Type 0} (shows may_leave : S → List ℕ → Type
   pub mid : Feeder S L
   pub group : TakesSome shows may_leave life old mid known left taken
   pub ports : mid.ports ≡ old.ports
+  pub sent : HasSent shows may_leave modeled state lines (sends_at (state mid.ports).now mid) mid new
   -- the life of the journal since then
   pub now : Life
   pub publishes : Publishes shows may_leave new.publisher now
@@ -111,6 +114,12 @@ ended end publisher = if end.stays_open then publisher else closed publisher
 -- The life of the journal at the end of the input.
 abbrev pub ended_life : FeedEnd → Life → Life
 ended_life end life = if end.stays_open then life else after_moment life Close
+
+-- The bytes are a file of the committed messages of this life. If the session does not stay open, they may be the closed
+-- file.
+abbrev pub IsFileAtEnd : Bool → Life → List ℕ → Type 0
+IsFileAtEnd stays_open life bytes =
+    IsFileOf life bytes ⊎ ((stays_open ≡ false) × IsFileOf (after_moment life Close) bytes)
 
 -- What a publisher sends at the end of its input: heartbeats if its session is open, and then end packets if its
 -- session is closed.

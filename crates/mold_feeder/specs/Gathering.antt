@@ -1,7 +1,8 @@
 -- The messages of an input that join those that wait to be committed.
-use Rattle.std.specs.Prelude.{◌≡◌, ℕ, ◌≤◌, List, ◌++◌, ◌∷◌, [], length, Option, None, Some, Result, Ok, Err}
-use Rattle.mold_durable.specs.Life.{Life}
+use Rattle.std.specs.Prelude.{◌≡◌, ◌⊎◌, ℕ, ◌≤◌, List, ◌++◌, ◌∷◌, [], length, Option, None, Some, Result, Ok, Err}
+use Rattle.mold_durable.specs.Life.{IsFileOf, Life}
 use Rattle.mold_durable_publisher.specs.DurablePublisher.{Publishes}
+use Rattle.mold_durable_publisher.specs.Told.{IsLife}
 use Rattle.mold_durable_publisher.specs.declared.durable_publisher.DurablePublisher.{DurablePublisher}
 use Rattle.mold_input.specs.Entries.{InputEntries}
 use Rattle.mold_publish.specs.Publishing.{InputPublished}
@@ -9,6 +10,7 @@ use Rattle.mold_publish.specs.declared.filling.Filled.{Filled}
 use Rattle.mold_publish.specs.declared.filling.Filled.TheVariants as filled
 use Rattle.mold_publish.specs.declared.message_refusal.MessageRefusal.{MessageRefusal}
 use Rattle.mold_session.specs.Journal.{appended}
+use Rattle.mold_session.specs.Records.{SpellsJournal3}
 use Rattle.mold_feeder.specs.declared.gathered.Gathered.{Gathered}
 use Rattle.mold_feeder.specs.declared.gathered.Gathered.TheVariants.{Full, End, Refused}
 
@@ -55,6 +57,11 @@ pub record Gathers {S : Type 0} (shows may_leave : S → List ℕ → Type 0) (l
 abbrev pub with_committed : Life → List (List ℕ) → Life
 with_committed life messages = record life { committed = life.committed ++ (life.waiting ++ messages); waiting = [] }
 
+-- The bytes are a file of the committed messages of this life, or of all messages that the publisher has.
+abbrev pub IsFileUpTo : {S : Type 0} → Life → DurablePublisher S → List ℕ → Type 0
+IsFileUpTo life publisher bytes =
+    IsFileOf life bytes ⊎ SpellsJournal3 life.session publisher.publisher.journal.messages life.closed bytes
+
 -- At most `most` messages of the input were committed, together with those that waited. The input was taken until it
 -- stopped with `gathered`. Nothing was sent.
 pub record TakesGroup {S : Type 0} (shows may_leave : S → List ℕ → Type 0) (life : Life) (most : ℕ)
@@ -62,6 +69,7 @@ pub record TakesGroup {S : Type 0} (shows may_leave : S → List ℕ → Type 0)
   -- the messages that were taken from the input
   pub messages : List (List ℕ)
   pub few : length messages ≤ most
+  pub possible : IsLife (with_waiting life messages)
   pub added : new.publisher.journal.messages ≡ old.publisher.journal.messages ++ messages
   pub sent : new.publisher.sent ≡ old.publisher.sent
   pub publishes : Publishes shows may_leave new (with_committed life messages)

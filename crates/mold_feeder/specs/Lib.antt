@@ -6,3 +6,6 @@ pub mod FeedText
 pub mod Feeder
 pub mod Requests
 pub mod Gathering
+pub mod Pieces
+pub mod Input
+pub mod Feeding

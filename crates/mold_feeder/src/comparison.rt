@@ -68,6 +68,7 @@ pub fn compare_all<M: MessageReader, K: Source>(
     ensures compared { IfOk result (λ found. ComparesAll journal.now number found.0
         (known_entries M.entries (prepend_known (M.unread messages.old) (K.left source.old)))
         (known_entries M.entries (prepend_known (M.unread messages.new) (K.left source.new))) found.1) }
+    ensures within { IfOk result (λ found. (1 ≤ found.0) × (found.0 ≤ length journal.now.messages + 1)) }
     ensures failures { CountsRead (K.failed source.old) (K.failed source.new) result }
 {
     let mut at = number;

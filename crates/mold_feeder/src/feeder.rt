@@ -1,7 +1,7 @@
 //! A publisher over ports: what it sends, and when.
 
 ghost use Rattle.std.specs.Prelude.{◌≡◌, ◌&&◌, ◌≤◌, [], ℕ, false, IfErr, IfOk, is_some, length, List, nat_le};
-ghost use Rattle.std.specs.Prelude.{if◌then◌else◌, OnOk, true};
+ghost use Rattle.std.specs.Prelude.{if◌then◌else◌, OnErr, OnOk, true};
 ghost use Rattle.mold_durable.specs.Life.{Life, after as after_moment};
 ghost use Rattle.mold_durable.specs.Life.Moment.{Close};
 ghost use Rattle.mold_durable.specs.Storage.{LeavesOnly};
@@ -10,8 +10,11 @@ ghost use Rattle.mold_durable_publisher.specs.Told.{IsTold, IsTrueNow};
 ghost use Rattle.mold_devices.specs.declared.fault.CommandFault.{CommandFault};
 ghost use Rattle.mold_feeder.specs.FeedLines.{datagram_of, repeated};
 ghost use Rattle.mold_session.specs.Publisher.{closed, next_end, next_heartbeat};
-ghost use Rattle.mold_feeder.specs.Feeder.{HasEnded, HasPaced, HasSent, HasTurned, TakesSome, entries_left};
+ghost use Rattle.mold_feeder.specs.Feeder.{HasEnded, HasPaced, HasSent, HasTurned, IsFileAtEnd, TakesSome, ended};
+ghost use Rattle.mold_feeder.specs.Feeder.{entries_left};
 ghost use Rattle.mold_feeder.specs.Feeder.{next_beat, sends_at, takes_input};
+ghost use Rattle.mold_feeder.specs.Gathering.{IsFileUpTo};
+ghost use Rattle.mold_feeder.specs.IdleClock.{due_after};
 ghost use Rattle.mold_feeder.specs.Requests.{RepliesTo, sent_journal};
 ghost use Rattle.mold_ports.specs.Ports.{cut, next_of, received};
 ghost use Rattle.mold_wire.specs.declared.limits.TheConstants.{MAX_LIMIT};
@@ -49,6 +52,27 @@ pub struct Feeder<S, L> {
 }
 
 impl<S: Storage + Drop, L: PortSet + Drop> Feeder<S, L> {
+    /// Returns a publisher that has sent nothing. It sends at most `rate` messages a second, or without a bound if `rate`
+    /// is 0. A heartbeat is due after `idle` milliseconds, or never if `idle` is 0.
+    pub fn new(publisher: DurablePublisher<S>, ports: L, rate: u32, idle: u32) -> Feeder<S, L>
+        ensures { result ≡ record {
+          publisher = publisher;
+          ports = ports;
+          pace = record { rate = rate; opens = 0 };
+          idle = record { idle = idle; due = due_after idle (L.state ports).now };
+          datagrams = 0;
+        } }
+    {
+        let idle = IdleClock::new(idle, ports.now());
+        Feeder {
+            publisher,
+            ports,
+            pace: Pace::new(rate),
+            idle,
+            datagrams: 0,
+        }
+    }
+
     // Sends the next data packet, if a committed message is unsent. Returns whether there was one.
     fn send_next(&mut self, lines: &FeedLines<L::Peer>) -> bool
         ensures sent { HasSent S.shows S.may_leave L.modeled L.state lines.now
@@ -70,8 +94,8 @@ impl<S: Storage + Drop, L: PortSet + Drop> Feeder<S, L> {
         true
     }
 
-    // Sends a heartbeat or, if the session is closed, an end packet.
-    fn send_beat(&mut self, lines: &FeedLines<L::Peer>)
+    /// Sends a heartbeat or, if the session is closed, an end packet.
+    pub fn send_beat(&mut self, lines: &FeedLines<L::Peer>)
         ensures sent { HasSent S.shows S.may_leave L.modeled L.state lines.now
             (datagram_of (next_beat self.old.publisher.publisher)) self.old self.new }
         ensures publisher { self.new.publisher ≡ self.old.publisher }
@@ -136,6 +160,13 @@ impl<S: Storage + Drop, L: PortSet + Drop> Feeder<S, L> {
             IsTrueNow life datagram →
             LeavesOnly S.moment S.left_since self.old.publisher.durable.storage self.new.publisher.durable.storage
             (IsTold datagram) }
+        ensures crash { (life : Life) → Publishes S.shows S.may_leave self.old.publisher life →
+            self.old.publisher.durable.broken ≡ false →
+            LeavesOnly S.moment S.left_since self.old.publisher.durable.storage self.new.publisher.durable.storage
+            (IsFileUpTo life self.new.publisher) }
+        ensures intact { OnOk result (self.new.publisher.durable.broken ≡ self.old.publisher.durable.broken) }
+        ensures longest { self.new.publisher.publisher.journal.max_message
+            ≡ self.old.publisher.publisher.journal.max_message }
         ensures rest { self.new ≡ record self.old { publisher = self.new.publisher } }
     {
         told_law();
@@ -175,6 +206,14 @@ impl<S: Storage + Drop, L: PortSet + Drop> Feeder<S, L> {
             IsTrueNow life datagram →
             LeavesOnly S.moment S.left_since self.old.publisher.durable.storage self.new.publisher.durable.storage
             (IsTold datagram) }
+        ensures crash { (life : Life) → Publishes S.shows S.may_leave self.old.publisher life →
+            self.old.publisher.durable.broken ≡ false →
+            LeavesOnly S.moment S.left_since self.old.publisher.durable.storage self.new.publisher.durable.storage
+            (IsFileUpTo life self.new.publisher) }
+        ensures intact { OnOk result (self.new.publisher.durable.broken ≡ self.old.publisher.durable.broken) }
+        ensures longest { self.new.publisher.publisher.journal.max_message
+            ≡ self.old.publisher.publisher.journal.max_message }
+        ensures silent { OnErr result (self.new.ports ≡ self.old.ports) }
         ensures replied { D.modeled ≡ true →
             RepliesTo (sent_journal self.old.publisher.publisher) requests.old.server
             (cut MAX_LIMIT (next_of (D.port requests.old.port))) (received (D.port requests.old.port))
@@ -212,13 +251,18 @@ impl<S: Storage + Drop, L: PortSet + Drop> Feeder<S, L> {
 
     // Closes the session, if it does not stay open. The fault is `Write`.
     fn close(&mut self, stays_open: bool) -> Result<(), CommandFault>
-        requires { self.old.publisher.publisher.sent ≡ length self.old.publisher.publisher.journal.messages }
+        requires { length self.old.publisher.publisher.journal.messages ≤ self.old.publisher.publisher.sent }
         ensures publishes { (life : Life) → Publishes S.shows S.may_leave self.old.publisher life → OnOk result
             (Publishes S.shows S.may_leave self.new.publisher (if stays_open then life else after_moment life Close)) }
         ensures told { (life : Life) (datagram : List ℕ) → Publishes S.shows S.may_leave self.old.publisher life →
             IsTrueNow life datagram →
             LeavesOnly S.moment S.left_since self.old.publisher.durable.storage self.new.publisher.durable.storage
             (IsTold datagram) }
+        ensures crash { (life : Life) → Publishes S.shows S.may_leave self.old.publisher life →
+            self.old.publisher.durable.broken ≡ false →
+            LeavesOnly S.moment S.left_since self.old.publisher.durable.storage self.new.publisher.durable.storage
+            (IsFileAtEnd stays_open life) }
+        ensures intact { OnOk result (self.new.publisher.durable.broken ≡ self.old.publisher.durable.broken) }
         ensures publisher { OnOk result (self.new.publisher.publisher
             ≡ (if stays_open then self.old.publisher.publisher else closed self.old.publisher.publisher)) }
         ensures rest { self.new ≡ record self.old { publisher = self.new.publisher } }
@@ -239,13 +283,19 @@ impl<S: Storage + Drop, L: PortSet + Drop> Feeder<S, L> {
     ///
     /// The fault is `Write`: the closing is not committed, and no end packet is sent.
     pub fn end(&mut self, lines: &FeedLines<L::Peer>, end: FeedEnd) -> Result<(), CommandFault>
-        requires { self.old.publisher.publisher.sent ≡ length self.old.publisher.publisher.journal.messages }
+        requires { length self.old.publisher.publisher.journal.messages ≤ self.old.publisher.publisher.sent }
         ensures ended { (life : Life) → Publishes S.shows S.may_leave self.old.publisher life → OnOk result
             (HasEnded S.shows S.may_leave L.modeled L.state lines.now end life self.old self.new) }
         ensures told { (life : Life) (datagram : List ℕ) → Publishes S.shows S.may_leave self.old.publisher life →
             IsTrueNow life datagram →
             LeavesOnly S.moment S.left_since self.old.publisher.durable.storage self.new.publisher.durable.storage
             (IsTold datagram) }
+        ensures crash { (life : Life) → Publishes S.shows S.may_leave self.old.publisher life →
+            self.old.publisher.durable.broken ≡ false →
+            LeavesOnly S.moment S.left_since self.old.publisher.durable.storage self.new.publisher.durable.storage
+            (IsFileAtEnd end.stays_open life) }
+        ensures intact { OnOk result (self.new.publisher.durable.broken ≡ self.old.publisher.durable.broken) }
+        ensures publisher { OnOk result (self.new.publisher.publisher ≡ ended end self.old.publisher.publisher) }
         ensures fault { IfErr result (λ fault. fault ≡ CommandFault.Write) }
     {
         told_law();

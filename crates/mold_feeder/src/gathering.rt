@@ -1,12 +1,12 @@
 //! Gathering the messages of an input into a group, which is then committed.
 
-ghost use Rattle.std.specs.Prelude.{◌≡◌, ℕ, IfOk, List, Ok, OnErr};
+ghost use Rattle.std.specs.Prelude.{◌≡◌, ℕ, false, IfOk, List, Ok, OnErr, OnOk};
 ghost use Rattle.std.specs.Io.KnownBytes.{prepend_known};
 ghost use Rattle.mold_durable.specs.Life.{Life};
 ghost use Rattle.mold_durable_publisher.specs.DurablePublisher.{Publishes};
 ghost use Rattle.mold_durable.specs.Storage.{LeavesOnly};
 ghost use Rattle.mold_durable_publisher.specs.Told.{IsTold, IsTrueNow};
-ghost use Rattle.mold_feeder.specs.Gathering.{Gathers, JoinsOrRefuses, TakesGroup};
+ghost use Rattle.mold_feeder.specs.Gathering.{Gathers, IsFileUpTo, JoinsOrRefuses, TakesGroup};
 ghost use Rattle.mold_input.specs.Entries.{known_input};
 ghost use Rattle.mold_publish.specs.Publishing.{entry_outcome};
 
@@ -31,6 +31,8 @@ fn join_waiting<S: Storage + Drop>(
         (entry_outcome kind publisher.old.publisher.journal (Ok message.now))) }
     ensures same { OnErr result (publisher.new ≡ publisher.old) }
     ensures storage { publisher.new.durable.storage ≡ publisher.old.durable.storage }
+    ensures intact { publisher.new.durable.broken ≡ publisher.old.durable.broken }
+    ensures longest { publisher.new.publisher.journal.max_message ≡ publisher.old.publisher.journal.max_message }
 {
     match publisher.append(message) {
         Ok(_) => Ok(None),
@@ -56,6 +58,8 @@ pub fn gather<M: MessageReader, K: Source, S: Storage + Drop>(
         (known_input M.input_kind M.entries (prepend_known (M.unread messages.old) (K.left source.old)))
         (known_input M.input_kind M.entries (prepend_known (M.unread messages.new) (K.left source.new)))) }
     ensures storage { publisher.new.durable.storage ≡ publisher.old.durable.storage }
+    ensures intact { publisher.new.durable.broken ≡ publisher.old.durable.broken }
+    ensures longest { publisher.new.publisher.journal.max_message ≡ publisher.old.publisher.journal.max_message }
 {
     let kind = M::kind();
     for _message in 0..most {
@@ -94,6 +98,12 @@ pub fn take_group<M: MessageReader, K: Source, S: Storage + Drop>(
         IsTrueNow life datagram →
         LeavesOnly S.moment S.left_since publisher.old.durable.storage publisher.new.durable.storage
         (IsTold datagram) }
+    ensures crash { (life : Life) → Publishes S.shows S.may_leave publisher.old life →
+        publisher.old.durable.broken ≡ false →
+        LeavesOnly S.moment S.left_since publisher.old.durable.storage publisher.new.durable.storage
+        (IsFileUpTo life publisher.new) }
+    ensures intact { OnOk result (publisher.new.durable.broken ≡ publisher.old.durable.broken) }
+    ensures longest { publisher.new.publisher.journal.max_message ≡ publisher.old.publisher.journal.max_message }
 {
     told_law();
     let gathered = gather(publisher, most, messages, source)?;

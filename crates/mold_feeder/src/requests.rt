@@ -26,6 +26,17 @@ pub struct Requests<D> {
 }
 
 impl<D: Datagrams + Drop> Requests<D> {
+    /// Returns the requests of this port, which the server answers.
+    pub fn new(port: D, server: Server) -> Requests<D>
+        ensures { result ≡ record { port = port; server = server; answered = 0 } }
+    {
+        Requests {
+            port,
+            server,
+            answered: 0,
+        }
+    }
+
     // Offers the next datagram of a plan to the requester. Returns whether there was one.
     fn offer_next(&mut self, journal: &Journal, plan: &mut Plan, to: D::Peer) -> bool
         requires longest { journal.now.max_message ≤ self.old.server.max_message }

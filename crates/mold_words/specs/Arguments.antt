@@ -4,13 +4,15 @@ use Rattle.clap.specs.Words.{Text}
 use Rattle.mold_input.specs.declared.message_format.MessageFormat.{MessageFormat}
 use Rattle.mold_words.specs.Addresses.{HostPort, address_view}
 use Rattle.mold_words.specs.LinePorts.{Port, line_port_view}
+use Rattle.mold_words.specs.declared.feed_times.FeedTimes.{FeedTimes}
 use Rattle.mold_words.specs.declared.line_options.LineOptions.{LineOptions}
 use Rattle.mold_words.specs.declared.receive_order.ReceiveOrder.{ReceiveOrder}
 use Rattle.mold_words.specs.declared.request_options.RequestOptions.{RequestOptions}
+use Rattle.mold_words.specs.declared.sent_lines.SentLines.{SentLines}
 use Rattle.mold_words.specs.declared.types.Order.{Order}
 use Rattle.mold_words.specs.declared.types.Order.TheVariants.{Show, Pack, PackJournal, Sim, Check, CheckLines}
 use Rattle.mold_words.specs.declared.types.Order.TheVariants.{Publish, Serve, Listen, Receive, Record, Loop}
-use Rattle.mold_words.specs.declared.types.Order.TheVariants.{Upgrade, Dump}
+use Rattle.mold_words.specs.declared.types.Order.TheVariants.{Feed, Upgrade, Dump}
 
 -- The model of a `sim` order.
 pub record SimArguments : Type 0 where
@@ -43,6 +45,51 @@ pub record PublishArguments : Type 0 where
   pub ends : ℕ
   -- How the input encodes the messages.
   pub input : MessageFormat
+
+-- The model of the options of `feed` about lines.
+pub record SentArguments : Type 0 where
+  -- The address that line A is sent to.
+  pub a : HostPort
+  -- The address that line B is sent to, if there is a second line.
+  pub b : Option HostPort
+  -- The IPv4 addresses that the lines are sent from.
+  pub interface_a : List ℕ
+  pub interface_b : List ℕ
+  -- The TTL of a datagram to a multicast group.
+  pub ttl : ℕ
+
+-- The model of the options of `feed` about times.
+pub record TimeArguments : Type 0 where
+  -- The time without a datagram after which a heartbeat is sent, in milliseconds. With 0 none is.
+  pub idle : ℕ
+  -- The maximum number of messages in a second. With 0 there is none.
+  pub rate : ℕ
+  -- How long requests are responded to after the input has ended, in milliseconds.
+  pub linger : ℕ
+
+-- The model of a `feed` order.
+pub record FeedArguments : Type 0 where
+  pub session : List ℕ
+  -- The maximum length of a datagram, in bytes.
+  pub limit : ℕ
+  pub lines : SentArguments
+  -- The name of the journal file.
+  pub journal : Text
+  -- Whether the input has only the messages that follow those of the journal.
+  pub append : Bool
+  -- The address that receives requests, if there is one.
+  pub bind : Option HostPort
+  -- The maximum number of responses to a request.
+  pub burst : ℕ
+  pub times : TimeArguments
+  -- Whether the input is message blocks.
+  pub blocks : Bool
+  -- The number of heartbeats after the messages.
+  pub beats : ℕ
+  -- The number of end packets after the heartbeats.
+  pub ends : ℕ
+  -- Whether the session stays open.
+  pub stays_open : Bool
 
 -- The model of a `serve` order.
 pub record ServeArguments : Type 0 where
@@ -186,6 +233,7 @@ pub data Arguments : Type 0 where
   check_wanted : Text → Arguments
   check_lines_wanted : Arguments
   publish_wanted : PublishArguments → Arguments
+  feed_wanted : FeedArguments → Arguments
   serve_wanted : ServeArguments → Arguments
   listen_wanted : ListenArguments → Arguments
   receive_wanted : ReceiveArguments → Arguments
@@ -241,6 +289,20 @@ receive_view order = record {
   blocks = order.blocks;
 }
 
+-- The model of the options of `feed` about lines, as the program reads them.
+abbrev pub sent_lines_view : SentLines → SentArguments
+sent_lines_view lines = record {
+  a = address_view lines.a;
+  b = option_map address_view lines.b;
+  interface_a = lines.interface_a;
+  interface_b = lines.interface_b;
+  ttl = lines.ttl;
+}
+
+-- The model of the options of `feed` about times, as the program reads them.
+abbrev pub feed_times_view : FeedTimes → TimeArguments
+feed_times_view times = record { idle = times.idle; rate = times.rate; linger = times.linger }
+
 -- The model of the program's `Order`: its command and the values of its options.
 abbrev pub view : Order → Arguments
 view (Show request) = show_wanted request
@@ -266,6 +328,20 @@ view (Publish order) = publish_wanted (record {
   beats = order.beats;
   ends = order.ends;
   input = order.input;
+})
+view (Feed order) = feed_wanted (record {
+  session = order.session;
+  limit = order.limit;
+  lines = sent_lines_view order.lines;
+  journal = string_bytes order.journal;
+  append = order.append;
+  bind = option_map address_view order.bind;
+  burst = order.burst;
+  times = feed_times_view order.times;
+  blocks = order.blocks;
+  beats = order.beats;
+  ends = order.ends;
+  stays_open = order.open;
 })
 view (Serve order) = serve_wanted (record {
   journal = string_bytes order.journal;

@@ -10,14 +10,16 @@ use Rattle.mold_input.specs.declared.message_format.MessageFormat.TheVariants.{L
 use Rattle.mold_words.specs.Addresses.{HostPort, address_of, host_of}
 use Rattle.mold_words.specs.LinePorts.{Port, line_port_of}
 use Rattle.mold_words.specs.Values.{session_of, number_of}
-use Rattle.mold_words.specs.Arguments.{Arguments, LineArguments, ReceiveArguments, RequestArguments, check_lines_wanted}
-use Rattle.mold_words.specs.Arguments.{check_wanted, dump_wanted, listen_wanted, loop_wanted, pack_journal_wanted}
-use Rattle.mold_words.specs.Arguments.{pack_wanted, publish_wanted, receive_wanted, record_wanted, serve_wanted}
-use Rattle.mold_words.specs.Arguments.{show_wanted, sim_wanted, upgrade_wanted}
+use Rattle.mold_words.specs.Arguments.{Arguments, LineArguments, ReceiveArguments, RequestArguments, SentArguments}
+use Rattle.mold_words.specs.Arguments.{TimeArguments, check_lines_wanted, check_wanted, dump_wanted, feed_wanted}
+use Rattle.mold_words.specs.Arguments.{listen_wanted, loop_wanted, pack_journal_wanted, pack_wanted, publish_wanted}
+use Rattle.mold_words.specs.Arguments.{receive_wanted, record_wanted, serve_wanted, show_wanted, sim_wanted}
+use Rattle.mold_words.specs.Arguments.{upgrade_wanted}
 use Rattle.mold_words.specs.Words.{mold_app}
 use Rattle.mold_words.specs.declared.options.TheConstants.{MAX_TURNS}
 use Rattle.mold_wire.specs.declared.limits.TheConstants.{MAX_BURST, MAX_WIDE_WINDOW, MAX_WINDOW}
 use Rattle.mold_words.specs.declared.options.TheConstants.{DEFAULT_LIMIT, DEFAULT_TURNS, DEFAULT_WINDOW}
+use Rattle.mold_words.specs.declared.feed_options.TheConstants.{DEFAULT_LINGER}
 use Rattle.mold_words.specs.declared.receive_options.TheConstants.{MAX_SERVERS}
 use Rattle.mold_wire.specs.declared.limits.TheConstants.{MAX_LIMIT, MAX_NUMBER, MIN_LIMIT}
 
@@ -134,6 +136,7 @@ unfoldable pub has_no_address : Text → List Row → Bool
 has_no_address name rows =
     if bytes_eq name (codes "receive") then receives_no_address rows
     else list_any (is_no_address rows) (codes "a" ∷ codes "b" ∷ codes "server" ∷ codes "bind" ∷ [])
+    || list_any (is_no_host rows) (codes "interface-a" ∷ codes "interface-b" ∷ [])
 
 -- What `show` asks for with these options.
 unfoldable pub show_of : List Row → Arguments
@@ -210,6 +213,85 @@ publish_of rows =
     (first_of (codes "journal") rows))
     (address_in (codes "b") rows))
     (address_in (codes "a") rows))
+    (limit_in (codes "limit") rows))
+    (session_in (codes "session") rows)
+
+-- The address of a text, if it is one or there is no text.
+abbrev pub address_or_none : Option Text → Option (Option HostPort)
+address_or_none None = Some None
+address_or_none (Some text) = option_map (λ address. Some address) (address_of text)
+
+-- The four numbers of an IPv4 address if the text is one, and 0.0.0.0 if there is no text.
+abbrev pub host_or_any : Option Text → Option (List ℕ)
+host_or_any None = Some (0 ∷ 0 ∷ 0 ∷ 0 ∷ [])
+host_or_any (Some text) = host_of text
+
+-- The lines that `feed` sends a session on, if they are valid. An interface of line B requires line B.
+unfoldable pub sent_lines_in : List Row → Option SentArguments
+sent_lines_in rows =
+    option_and_then
+    (λ a. option_and_then
+    (λ b. option_and_then
+    (λ interface_a. option_and_then
+    (λ interface_b. option_and_then
+    (λ ttl. if not (is_some b) && is_some (first_of (codes "interface-b") rows) then None
+    else Some (record { a = a; b = b; interface_a = interface_a; interface_b = interface_b; ttl = ttl }))
+    (number_in (codes "ttl") 1 0 255 rows))
+    (host_or_any (first_of (codes "interface-b") rows)))
+    (host_or_any (first_of (codes "interface-a") rows)))
+    (address_or_none (first_of (codes "b") rows)))
+    (address_in (codes "a") rows)
+
+-- How long `feed` responds to requests after the input has ended, if `--linger` is not given. Without `--bind` it
+-- receives none.
+abbrev pub usual_linger : Option Text → ℕ
+usual_linger None = 0
+usual_linger (Some address) = DEFAULT_LINGER
+
+-- The times of `feed`, if they are valid.
+unfoldable pub feed_times_in : List Row → Option TimeArguments
+feed_times_in rows =
+    option_and_then
+    (λ idle. option_and_then
+    (λ rate. option_and_then
+    (λ linger. Some (record { idle = idle; rate = rate; linger = linger }))
+    (number_in (codes "linger") (usual_linger (first_of (codes "bind") rows)) 0 86400000 rows))
+    (number_in (codes "rate") 0 0 10000000 rows))
+    (number_in (codes "idle") 1000 0 60000 rows)
+
+-- What `feed` asks for with these options, if their values are valid.
+unfoldable pub feed_of : List Row → Option Arguments
+feed_of rows =
+    option_and_then
+    (λ session. option_and_then
+    (λ limit. option_and_then
+    (λ lines. option_and_then
+    (λ journal. option_and_then
+    (λ bind. option_and_then
+    (λ burst. option_and_then
+    (λ times. option_and_then
+    (λ beats. option_and_then
+    (λ ends. Some (feed_wanted (record {
+      session = session;
+      limit = limit;
+      lines = lines;
+      journal = journal;
+      append = flag_in (codes "append") rows;
+      bind = bind;
+      burst = burst;
+      times = times;
+      blocks = flag_in (codes "blocks") rows;
+      beats = beats;
+      ends = ends;
+      stays_open = flag_in (codes "open") rows;
+    })))
+    (number_in (codes "ends") 1 0 1000 rows))
+    (number_in (codes "beats") 1 0 1000 rows))
+    (feed_times_in rows))
+    (burst_in rows))
+    (address_or_none (first_of (codes "bind") rows)))
+    (first_of (codes "journal") rows))
+    (sent_lines_in rows))
     (limit_in (codes "limit") rows))
     (session_in (codes "session") rows)
 
@@ -480,6 +562,7 @@ order_at name rows =
     else if bytes_eq name (codes "sim") then sim_of rows
     else if bytes_eq name (codes "check") then check_of rows
     else if bytes_eq name (codes "publish") then publish_of rows
+    else if bytes_eq name (codes "feed") then feed_of rows
     else if bytes_eq name (codes "serve") then serve_of rows
     else if bytes_eq name (codes "listen") then listen_of rows
     else if bytes_eq name (codes "receive") then receive_of rows

@@ -28,6 +28,19 @@ first_commands =
           ∷ (codes "journal", Required) ∷ (codes "beats", Optional) ∷ (codes "ends", Optional)
           ∷ (codes "blocks", Flag) ∷ (codes "end-at-empty", Flag) ∷ [],
     )
+    ∷ []
+
+-- The commands that follow the first ones, each with its options.
+abbrev pub middle_commands : List (Text × List (Text × Kind))
+middle_commands = (
+  codes "feed",
+  (codes "session", Required) ∷ (codes "limit", Optional) ∷ (codes "a", Required) ∷ (codes "b", Optional)
+      ∷ (codes "interface-a", Optional) ∷ (codes "interface-b", Optional) ∷ (codes "ttl", Optional)
+      ∷ (codes "journal", Required) ∷ (codes "append", Flag) ∷ (codes "bind", Optional)
+      ∷ (codes "burst", Optional) ∷ (codes "rate", Optional) ∷ (codes "idle", Optional)
+      ∷ (codes "beats", Optional) ∷ (codes "ends", Optional) ∷ (codes "open", Flag)
+      ∷ (codes "linger", Optional) ∷ (codes "blocks", Flag) ∷ [],
+)
     ∷ (
       codes "serve",
       (codes "journal", Required) ∷ (codes "follow", Flag) ∷ (codes "limit", Optional) ∷ (codes "burst", Optional)
@@ -42,7 +55,7 @@ first_commands =
     )
     ∷ []
 
--- The commands that follow the first ones, each with its options.
+-- The last commands, each with its options.
 abbrev pub last_commands : List (Text × List (Text × Kind))
 last_commands = (
   codes "receive",
@@ -71,7 +84,7 @@ last_commands = (
 
 -- The commands, each with its options.
 abbrev pub commands : List (Text × List (Text × Kind))
-commands = first_commands ++ last_commands
+commands = first_commands ++ (middle_commands ++ last_commands)
 
 -- Whether the text is the name of a command.
 abbrev pub is_command : Text → Bool

@@ -116,5 +116,7 @@ pub(crate) fn check_addresses(name: &str, options: &ArgMatches<'_>) -> Result<()
     check_address(options, "a")?;
     check_address(options, "b")?;
     check_address(options, "server")?;
-    check_address(options, "bind")
+    check_address(options, "bind")?;
+    check_host(options, "interface-a")?;
+    check_host(options, "interface-b")
 }

@@ -2,11 +2,13 @@
 ghost use Rattle.std.specs.Prelude.{◌≡◌, IfOk, false, fold, map};
 ghost use Rattle.clap.specs.Words.{app_of, rule_of};
 ghost use Rattle.clap.specs.declared.builder.Command.TheViews.{out-Command as fields_of};
-ghost use Rattle.mold_words.specs.Words.{bare_app, command_app, first_commands, last_commands, mold_app, rule_for};
-ghost use Rattle.mold_words.specs.Words.{with_command, with_option};
+ghost use Rattle.mold_words.specs.Words.{bare_app, command_app, first_commands, last_commands, middle_commands};
+ghost use Rattle.mold_words.specs.Words.{mold_app, rule_for, with_command, with_option};
 ghost use Rattle.mold_words.specs.Table.{command_of, option_of};
 
-use crate::table::{CommandRow, FIRST_COMMANDS, Kind, LAST_COMMANDS, OptionRow, value_name};
+use crate::table::{
+    CommandRow, FIRST_COMMANDS, Kind, LAST_COMMANDS, MIDDLE_COMMANDS, OptionRow, value_name,
+};
 use clap::{Arg, ArgAction, Command};
 use std::alloc::{AllocError, Global};
 
@@ -121,6 +123,13 @@ fn with_first_commands<'a>(alloc: Global) -> Result<Command<'a>, AllocError>
     with_commands(alloc, program, &FIRST_COMMANDS)
 }
 
+// Adds the commands that follow the first ones to the program.
+fn with_middle_commands<'a>(alloc: Global, program: Command<'a>) -> Result<Command<'a>, AllocError>
+    ensures { IfOk result (λ c. app_of c ≡ fold with_command (app_of program.entry) middle_commands) }
+{
+    with_commands(alloc, program, &MIDDLE_COMMANDS)
+}
+
 // Adds the last commands to the program.
 fn with_last_commands<'a>(alloc: Global, program: Command<'a>) -> Result<Command<'a>, AllocError>
     ensures { IfOk result (λ c. app_of c ≡ fold with_command (app_of program.entry) last_commands) }
@@ -132,6 +141,7 @@ fn with_last_commands<'a>(alloc: Global, program: Command<'a>) -> Result<Command
 pub(crate) fn mold_command<'a>(alloc: Global) -> Result<Command<'a>, AllocError>
     ensures { IfOk result (λ c. app_of c ≡ mold_app) }
 {
-    let program = with_first_commands(alloc)?;
-    with_last_commands(alloc, program)
+    let first = with_first_commands(alloc)?;
+    let middle = with_middle_commands(alloc, first)?;
+    with_last_commands(alloc, middle)
 }

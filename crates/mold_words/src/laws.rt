@@ -4,7 +4,8 @@ ghost use Rattle.clap.specs.Words.{Text, fault_of, subcommand_of};
 ghost use Rattle.clap.specs.declared.error.kind.ErrorKind.TheVariants.{DisplayHelp, DisplayVersion, UnknownArgument};
 ghost use Rattle.mold_input.specs.declared.message_format.MessageFormat.TheVariants.{Lines, Blocks, BlocksToEmpty};
 ghost use Rattle.mold_words.specs.Orders.{AreTaken, Say, order_of};
-ghost use Rattle.mold_words.specs.Arguments.{check_lines_wanted, check_wanted, dump_wanted, listen_wanted, loop_wanted};
+ghost use Rattle.mold_words.specs.Arguments.{check_lines_wanted, check_wanted, dump_wanted, feed_wanted};
+ghost use Rattle.mold_words.specs.Arguments.{listen_wanted, loop_wanted};
 ghost use Rattle.mold_words.specs.Arguments.{pack_journal_wanted, pack_wanted, publish_wanted, receive_wanted};
 ghost use Rattle.mold_words.specs.Arguments.{record_wanted, serve_wanted, show_wanted, sim_wanted, upgrade_wanted};
 ghost use Rattle.mold_words.specs.LinePorts.{bound_to, opened_as};
@@ -138,6 +139,90 @@ pub fn publish_taken_law()
     ensures zero { order_of
         (codes "publish" ∷ codes "--session" ∷ codes "MKT" ∷ codes "--a" ∷ codes "127.0.0.01:9000"
         ∷ codes "--b" ∷ codes "127.0.0.1:9001" ∷ codes "--journal" ∷ codes "J" ∷ []) ≡ None }
+{}
+
+/// `feed --session MKT --a .. --journal J` is accepted, and asks to keep the session `MKT` in `J` and to send it to this
+/// address, in datagrams of up to 1,400 bytes from 0.0.0.0. A heartbeat is sent after a second, one heartbeat and one end
+/// packet follow the messages, and no request is received. With `--bind`, requests are responded to for ten more seconds
+/// after the input has ended, unless `--linger` sets another time. Each option replaces its default. `--interface-b`
+/// without `--b` is refused.
+pub fn feed_taken_law()
+    ensures usual { Say
+        (codes "feed" ∷ codes "--session" ∷ codes "MKT" ∷ codes "--a" ∷ codes "239.192.1.1:26477"
+        ∷ codes "--journal" ∷ codes "J" ∷ [])
+        (feed_wanted (record {
+          session = codes "MKT       ";
+          limit = 1400;
+          lines = record {
+            a = (239 ∷ 192 ∷ 1 ∷ 1 ∷ [], 26477);
+            b = None;
+            interface_a = 0 ∷ 0 ∷ 0 ∷ 0 ∷ [];
+            interface_b = 0 ∷ 0 ∷ 0 ∷ 0 ∷ [];
+            ttl = 1;
+          };
+          journal = codes "J";
+          append = false;
+          bind = None;
+          burst = 1;
+          times = record { idle = 1000; rate = 0; linger = 0 };
+          blocks = false;
+          beats = 1;
+          ends = 1;
+          stays_open = false;
+        })) }
+    ensures served { Say
+        (codes "feed" ∷ codes "--bind" ∷ codes "127.0.0.1:9003" ∷ codes "--session" ∷ codes "MKT" ∷ codes "--a"
+        ∷ codes "127.0.0.1:9001" ∷ codes "--journal" ∷ codes "J" ∷ codes "--open" ∷ [])
+        (feed_wanted (record {
+          session = codes "MKT       ";
+          limit = 1400;
+          lines = record {
+            a = (127 ∷ 0 ∷ 0 ∷ 1 ∷ [], 9001);
+            b = None;
+            interface_a = 0 ∷ 0 ∷ 0 ∷ 0 ∷ [];
+            interface_b = 0 ∷ 0 ∷ 0 ∷ 0 ∷ [];
+            ttl = 1;
+          };
+          journal = codes "J";
+          append = false;
+          bind = Some (127 ∷ 0 ∷ 0 ∷ 1 ∷ [], 9003);
+          burst = 1;
+          times = record { idle = 1000; rate = 0; linger = 10000 };
+          blocks = false;
+          beats = 1;
+          ends = 1;
+          stays_open = true;
+        })) }
+    ensures given { Say
+        (codes "feed" ∷ codes "--session" ∷ codes "MKT" ∷ codes "--limit" ∷ codes "64" ∷ codes "--a"
+        ∷ codes "239.192.1.1:26477" ∷ codes "--b" ∷ codes "239.192.1.2:26477" ∷ codes "--interface-a"
+        ∷ codes "10.0.0.7" ∷ codes "--interface-b" ∷ codes "10.0.1.7" ∷ codes "--ttl" ∷ codes "255" ∷ codes "--journal"
+        ∷ codes "J" ∷ codes "--append" ∷ codes "--bind" ∷ codes "0.0.0.0:26400" ∷ codes "--burst" ∷ codes "64"
+        ∷ codes "--rate" ∷ codes "10000000" ∷ codes "--idle" ∷ codes "60000" ∷ codes "--beats" ∷ codes "2"
+        ∷ codes "--ends" ∷ codes "3" ∷ codes "--linger" ∷ codes "86400000" ∷ codes "--blocks" ∷ [])
+        (feed_wanted (record {
+          session = codes "MKT       ";
+          limit = 64;
+          lines = record {
+            a = (239 ∷ 192 ∷ 1 ∷ 1 ∷ [], 26477);
+            b = Some (239 ∷ 192 ∷ 1 ∷ 2 ∷ [], 26477);
+            interface_a = 10 ∷ 0 ∷ 0 ∷ 7 ∷ [];
+            interface_b = 10 ∷ 0 ∷ 1 ∷ 7 ∷ [];
+            ttl = 255;
+          };
+          journal = codes "J";
+          append = true;
+          bind = Some (0 ∷ 0 ∷ 0 ∷ 0 ∷ [], 26400);
+          burst = 64;
+          times = record { idle = 60000; rate = 10000000; linger = 86400000 };
+          blocks = true;
+          beats = 2;
+          ends = 3;
+          stays_open = false;
+        })) }
+    ensures no_line { order_of
+        (codes "feed" ∷ codes "--session" ∷ codes "MKT" ∷ codes "--a" ∷ codes "127.0.0.1:9001" ∷ codes "--journal"
+        ∷ codes "J" ∷ codes "--interface-b" ∷ codes "10.0.1.7" ∷ []) ≡ None }
 {}
 
 /// `serve --journal J --bind ..` is accepted, and asks to respond from the journal in `J` and to make 1,000 receives. A

@@ -49,6 +49,8 @@ pub(crate) enum NoOrder {
     },
     /// `--source-b` is given without `--b`.
     SourceWithoutLine,
+    /// `--interface-b` is given without `--b`.
+    InterfaceWithoutLine,
     /// More servers are given than `MAX_SERVERS`.
     TooManyServers,
     /// The ceiling is below the timeout.
@@ -143,6 +145,7 @@ impl NoOrder {
             NoOrder::Command
             | NoOrder::NoSession
             | NoOrder::SourceWithoutLine
+            | NoOrder::InterfaceWithoutLine
             | NoOrder::TooManyServers
             | NoOrder::Ceiling
             | NoOrder::ServerLimit
@@ -160,6 +163,7 @@ impl NoOrder {
             NoOrder::Command => "error: no command of the program\n",
             NoOrder::NoSession => "error: '--session' or '--learn' is required\n",
             NoOrder::SourceWithoutLine => "error: '--source-b' requires '--b'\n",
+            NoOrder::InterfaceWithoutLine => "error: '--interface-b' requires '--b'\n",
             NoOrder::TooManyServers => "error: '--server' is given more than 8 times\n",
             NoOrder::Ceiling => "error: '--ceiling' is below '--timeout'\n",
             NoOrder::ServerLimit => "error: '--server-limit' is below '--limit'\n",

@@ -3,13 +3,15 @@
 ghost use Rattle.std.specs.Prelude.{◌≡◌, ◌⊎◌, MatchResult, None, Some, false, not, true};
 ghost use Rattle.clap.specs.Words.{found_of, rows_of, subcommand_rows_of};
 ghost use Rattle.mold_words.specs.NoOrders.{LacksOrder, is_address};
-ghost use Rattle.mold_words.specs.Orders.{check_of, dump_of, excludes_journal, kept_in, lacks_address, listen_of};
-ghost use Rattle.mold_words.specs.Orders.{loop_of, order_at, order_in, pack_of, publish_of, receive_in, receive_of};
-ghost use Rattle.mold_words.specs.Orders.{serve_of, show_of, sim_of, upgrade_of};
+ghost use Rattle.mold_words.specs.Orders.{check_of, dump_of, excludes_journal, feed_of, kept_in, lacks_address};
+ghost use Rattle.mold_words.specs.Orders.{listen_of, loop_of, order_at, order_in, pack_of, publish_of, receive_in};
+ghost use Rattle.mold_words.specs.Orders.{receive_of, serve_of, show_of, sim_of, upgrade_of};
 ghost use Rattle.mold_words.specs.Arguments.{receive_view, view};
 
 use crate::address_checks::check_addresses;
 use crate::dump_order::DumpOrder;
+use crate::feed_options::{address_or_none, feed_times_in, sent_lines_in};
+use crate::feed_order::FeedOrder;
 use crate::listen_order::ListenOrder;
 use crate::loop_order::LoopOrder;
 use crate::no_order::NoOrder;
@@ -63,6 +65,7 @@ fn order_at(alloc: Global, name: &str, options: &ArgMatches<'_>) -> Result<Order
         "sim" => sim_order(options),
         "check" => check_order(alloc, options),
         "publish" => publish_order(alloc, options),
+        "feed" => feed_order(alloc, options),
         "serve" => serve_order(alloc, options),
         "listen" => listen_order(options),
         "receive" => receive_order(alloc, options),
@@ -200,6 +203,38 @@ fn publish_order(alloc: Global, options: &ArgMatches<'_>) -> Result<Order, NoOrd
         beats: beats as u32,
         ends: ends as u32,
         input,
+    }))
+}
+
+#[tactic(auto, unfolding(crate::specs::Orders::feed_of))]
+fn feed_order(alloc: Global, options: &ArgMatches<'_>) -> Result<Order, NoOrder>
+    ensures { MatchResult result
+        (λ order. feed_of (rows_of (found_of options.now)) ≡ Some (view order))
+        (LacksOrder (feed_of (rows_of (found_of options.now)))) }
+{
+    let session = session_in(options, "session")?;
+    let limit = limit_in(options, "limit")?;
+    let lines = sent_lines_in(options)?;
+    let bind = address_or_none(options, "bind")?;
+    let burst = burst_in(options)?;
+    let times = feed_times_in(options)?;
+    let blocks = flag_in(options, "blocks");
+    let beats = number_in(options, "beats", 1, 0, 1000)?;
+    let ends = number_in(options, "ends", 1, 0, 1000)?;
+    let journal = string_in(alloc, options, "journal")?;
+    Ok(Order::Feed(FeedOrder {
+        session,
+        limit,
+        lines,
+        journal,
+        append: flag_in(options, "append"),
+        bind,
+        burst,
+        times,
+        blocks,
+        beats: beats as u32,
+        ends: ends as u32,
+        open: flag_in(options, "open"),
     }))
 }
 

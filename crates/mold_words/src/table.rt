@@ -44,15 +44,16 @@ pub(crate) fn value_name(option: &str) -> &'static str {
     match option {
         "session" => "NAME",
         "limit" | "server-limit" => "BYTES",
-        "window" => "MESSAGES",
+        "window" | "rate" => "MESSAGES",
         "burst" => "PACKETS",
         "a" | "b" | "server" | "bind" => "ADDRESS",
         "journal" | "to" => "FILE",
         "folder" => "FOLDER",
         "next" | "from" => "NUMBER",
-        "source-a" | "source-b" => "IP",
+        "source-a" | "source-b" | "interface-a" | "interface-b" => "IP",
         "patience" => "US",
-        "timeout" | "ceiling" => "MS",
+        "timeout" | "ceiling" | "idle" | "linger" => "MS",
+        "ttl" => "HOPS",
         "quiet" | "stats" => "SECONDS",
         _ => "COUNT",
     }
@@ -117,8 +118,8 @@ const REPORT: OptionRow = OptionRow {
 const BLOCKS: OptionRow = OptionRow {
     name: "blocks",
     kind: Kind::Flag,
-    help: "Read message blocks (BinaryFILE). A block is the length of a message in two\n\
-        bytes, most significant first, and the message",
+    help: "Read message blocks (BinaryFILE). A block is the length of a message\n\
+        in two bytes, most significant first, and the message",
 };
 
 // Prints message blocks in place of lines.
@@ -160,10 +161,10 @@ const END_AT_EMPTY_BOTH: OptionRow = OptionRow {
         output with an empty block if the session is finished",
 };
 
-// For the prover, the commands are in two lists: the value of one list of all has too many bytes.
+// For the prover, the commands are in three lists: the value of one list of all has too many bytes.
 
 /// The first commands, in the order in which help lists them.
-pub static FIRST_COMMANDS: [CommandRow; 7] = [
+pub static FIRST_COMMANDS: [CommandRow; 5] = [
     CommandRow {
         name: "show",
         about: "Print packets given as lines of hexadecimal digits on standard input",
@@ -255,6 +256,97 @@ pub static FIRST_COMMANDS: [CommandRow; 7] = [
         example: "Example:\n  mold publish --session SESSION001 --a 127.0.0.1:9001 --b 127.0.0.1:9002 \\\
             \n    --journal day.journal < messages",
     },
+];
+
+/// The commands that follow the first ones in help.
+pub static MIDDLE_COMMANDS: [CommandRow; 3] = [
+    CommandRow {
+        name: "feed",
+        about: "Publish messages from standard input as they come, and serve requests",
+        options: &[
+            SESSION,
+            LIMIT,
+            OptionRow {
+                name: "a",
+                kind: Kind::Required,
+                help: "The address that line A is sent to, such as 239.192.1.1:26477",
+            },
+            OptionRow {
+                name: "b",
+                kind: Kind::Optional,
+                help: "The same for line B, if there is one",
+            },
+            OptionRow {
+                name: "interface-a",
+                kind: Kind::Optional,
+                help: "The IPv4 address of this machine that line A is sent from\n\
+                    [default: 0.0.0.0, the system chooses one]",
+            },
+            OptionRow {
+                name: "interface-b",
+                kind: Kind::Optional,
+                help: "The same for line B",
+            },
+            OptionRow {
+                name: "ttl",
+                kind: Kind::Optional,
+                help: "The TTL of datagrams to multicast groups, 0 to 255 [default: 1]",
+            },
+            OptionRow {
+                name: "journal",
+                kind: Kind::Required,
+                help: "The file to keep the session in. If it exists, the session is continued",
+            },
+            OptionRow {
+                name: "append",
+                kind: Kind::Flag,
+                help: "Read only new messages. Without --append the input begins with the\n\
+                    messages that an existing file has",
+            },
+            OptionRow {
+                name: "bind",
+                kind: Kind::Optional,
+                help: "The address to receive requests on, such as 127.0.0.1:9000",
+            },
+            BURST,
+            OptionRow {
+                name: "rate",
+                kind: Kind::Optional,
+                help: "The maximum number of messages in a second, 0 to 10000000 [default: 0]\n\
+                    0 sets no maximum",
+            },
+            OptionRow {
+                name: "idle",
+                kind: Kind::Optional,
+                help: "The time without a datagram after which a heartbeat is sent, in\n\
+                    milliseconds, 0 to 60000 [default: 1000]. 0 sends none",
+            },
+            OptionRow {
+                name: "beats",
+                kind: Kind::Optional,
+                help: "The number of heartbeats after the messages, 0 to 1000 [default: 1]",
+            },
+            OptionRow {
+                name: "ends",
+                kind: Kind::Optional,
+                help: "The number of end packets after the heartbeats, 0 to 1000 [default: 1]",
+            },
+            OptionRow {
+                name: "open",
+                kind: Kind::Flag,
+                help: "Leave the session open at the end of the input, and send no end packets",
+            },
+            OptionRow {
+                name: "linger",
+                kind: Kind::Optional,
+                help: "How long requests are served after the end of the input, in\n\
+                    milliseconds, 0 to 86400000 [default: 10000 with --bind, otherwise 0]",
+            },
+            BLOCKS,
+        ],
+        example: "Example:\n  mold feed --session SESSION001 --a 127.0.0.1:9001 --b 127.0.0.1:9002 \\\
+            \n    --journal day.journal --bind 127.0.0.1:9003 < messages",
+    },
     CommandRow {
         name: "serve",
         about: "Serve requests for messages of a journal file",
@@ -326,7 +418,7 @@ pub static FIRST_COMMANDS: [CommandRow; 7] = [
     },
 ];
 
-/// The commands that follow the first ones in help.
+/// The commands that help lists last.
 pub static LAST_COMMANDS: [CommandRow; 4] = [
     CommandRow {
         name: "receive",

@@ -1,6 +1,7 @@
 //! The order: the parsed command line.
 
 use crate::dump_order::DumpOrder;
+use crate::feed_order::FeedOrder;
 use crate::listen_order::ListenOrder;
 use crate::loop_order::LoopOrder;
 use crate::pack_journal_order::PackJournalOrder;
@@ -35,6 +36,9 @@ pub enum Order {
     CheckLines,
     /// Sends a session, whose messages are read from standard input, on two lines. Saves its journal.
     Publish(PublishOrder),
+    /// Keeps a session, whose messages are read from standard input, in a durable journal, sends it on one or two lines,
+    /// and responds to requests.
+    Feed(FeedOrder),
     /// Responds to requests from a journal file.
     Serve(ServeOrder),
     /// Prints the messages of a session that is received on two lines, and requests the missing ones.

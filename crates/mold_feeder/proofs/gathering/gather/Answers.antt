@@ -10,6 +10,8 @@ loop-message-init g c = record {
       gathered_nothing g.S.Storage.shows g.S.Storage.may_leave g.M.MessageReader.input_kind life c.args.publisher.now _
       is;
   storage = refl;
+  intact = refl;
+  longest = refl;
 }
 
 pub returns-in-Fault-clause-gathered : goal.returns-in-Fault-clause-gathered
@@ -47,4 +49,6 @@ loop-message-preserved g c = record {
       (rw (c.in_default.is, c.kind-kind.ensures, c.message.ensures) at
       (c.in_ok-refusal.ensures.joined (with_waiting life so_far.messages) so_far.publishes));
   storage = c.join_waiting.ensures.storage ∙ c.loop-message.invariant.storage;
+  intact = c.join_waiting.ensures.intact ∙ c.loop-message.invariant.intact;
+  longest = c.join_waiting.ensures.longest ∙ c.loop-message.invariant.longest;
 }

@@ -18,4 +18,6 @@ invariant-loop-message g l = record {
       (known_entries g.M.MessageReader.entries
       (prepend_known (g.M.InputReader.unread l.messages) (g.K.Source.left l.source)));
   storage : l.publisher.durable.storage ≡ l.fn.publisher.durable.storage;
+  intact : l.publisher.durable.broken ≡ l.fn.publisher.durable.broken;
+  longest : l.publisher.publisher.journal.max_message ≡ l.fn.publisher.publisher.journal.max_message;
 }

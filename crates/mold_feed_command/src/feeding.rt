@@ -1,0 +1,143 @@
+//! The command `feed`: it opens the journal file and the ports, and runs the loop.
+
+use crate::feed_sockets::FeedSockets;
+use crate::options::feed_options;
+use crate::refusing::{fault_of, refuse, refuse_start};
+use crate::request_port::RequestPort;
+use mold_devices::{CommandFault, FromRead, IntoWrite};
+use mold_durable::{FileStorage, create_file, open_file, sync_folder};
+use mold_durable_publisher::DurablePublisher;
+use mold_feeder::{Feed, Feeder, PieceInput, PieceReader, Requests, feed_loop};
+use mold_input::{HexLines, MessageBlocks};
+use mold_session::{Journal, Server};
+use mold_wire::Session;
+use mold_wiring::{ProgramFault, flushed, longest_message, socket_address};
+use mold_words::FeedOrder;
+use std::fs::File;
+use std::io::Write;
+use std::net::Ipv4Addr;
+
+// The ports of the command.
+#[derive(Drop)]
+struct Ports {
+    lines: FeedSockets,
+    requests: RequestPort,
+}
+
+// Opens the ports of the order.
+fn open_ports(rt: &HostRuntime, order: &FeedOrder) -> Result<Ports, ProgramFault> {
+    let bind = match order.bind {
+        Some(address) => Some(socket_address(address)),
+        None => None,
+    };
+    let Ok(requests) = RequestPort::bind(rt, bind) else {
+        return Err(ProgramFault::Socket);
+    };
+    let lines = order.lines;
+    let a = Ipv4Addr::from_octets(lines.interface_a);
+    let b = match lines.b {
+        Some(_) => Some(Ipv4Addr::from_octets(lines.interface_b)),
+        None => None,
+    };
+    match FeedSockets::bind(rt, a, b, lines.ttl, requests.descriptor()) {
+        Ok(lines) => Ok(Ports { lines, requests }),
+        Err(_) => Err(ProgramFault::Socket),
+    }
+}
+
+// Publishes the messages of standard input, which the reader `M` reads.
+fn feed_on<M: PieceReader>(
+    rt: &HostRuntime,
+    order: &FeedOrder,
+    publisher: DurablePublisher<FileStorage>,
+    ports: Ports,
+    resumed: bool,
+) -> Result<u8, CommandFault> {
+    let alloc = rt.alloc();
+    let longest = publisher.journal().max_message();
+    // The numbers of an order are in range, so an error means out of memory.
+    let Ok(server) = Server::new(alloc, order.limit, longest, order.burst) else {
+        return Err(CommandFault::Memory);
+    };
+    let Ports { lines, requests } = ports;
+    let mut feed = Feed {
+        feeder: Feeder::new(publisher, lines, order.times.rate, order.times.idle),
+        requests: Requests::new(requests, server),
+        input: PieceInput::<M, _>::new(alloc, FromRead::new(rt.stdin()))?,
+    };
+    let mut sink = IntoWrite::new(rt.stdout());
+    let outcome = feed_loop(alloc, &mut feed, &feed_options(order, resumed), &mut sink);
+    flushed(outcome, sink.into_inner().flush())
+}
+
+// Publishes the messages of standard input, in the order's form. The name of the journal's file is durable before the
+// first message is.
+fn feed(
+    rt: &HostRuntime,
+    order: &FeedOrder,
+    publisher: DurablePublisher<FileStorage>,
+    ports: Ports,
+    resumed: bool,
+) -> Result<u8, ProgramFault> {
+    if let Err(error) = sync_folder(rt, order.journal.as_str()) {
+        return Err(fault_of(error));
+    }
+    if order.blocks {
+        Ok(feed_on::<MessageBlocks>(rt, order, publisher, ports, resumed)?)
+    } else {
+        Ok(feed_on::<HexLines>(rt, order, publisher, ports, resumed)?)
+    }
+}
+
+// Continues the session of the file in this storage, if it is the order's.
+fn resume(rt: &HostRuntime, order: &FeedOrder, storage: FileStorage) -> Result<u8, ProgramFault> {
+    let alloc = rt.alloc();
+    let mut sink = IntoWrite::new(rt.stdout());
+    let Ok(file) = File::open(rt, order.journal.as_str()) else {
+        return Err(ProgramFault::Command(CommandFault::Read));
+    };
+    let mut source = FromRead::new(file);
+    let publisher = match DurablePublisher::open(alloc, order.limit, &mut source, storage) {
+        Ok(publisher) => publisher,
+        Err(error) => return Ok(refuse_start(alloc, error, &mut sink)?),
+    };
+    let journal = publisher.journal();
+    if journal.session() != Session(order.session) {
+        return Ok(refuse(alloc, b"WrongSession", &mut sink)?);
+    }
+    if journal.is_closed() && order.append {
+        return Ok(refuse(alloc, b"Closed", &mut sink)?);
+    }
+    let ports = open_ports(rt, order)?;
+    feed(rt, order, publisher, ports, true)
+}
+
+// Begins the session in a new file.
+fn begin(rt: &HostRuntime, order: &FeedOrder) -> Result<u8, ProgramFault> {
+    let alloc = rt.alloc();
+    let ports = open_ports(rt, order)?;
+    let session = Session(order.session);
+    let longest = longest_message(order.limit);
+    let path = order.journal.as_str();
+    let created = create_file(rt, path, session, longest).map_err(|error| fault_of(error))?;
+    // Another process has created the file since it was looked for.
+    let Some(durable) = created else {
+        return Err(ProgramFault::Locked);
+    };
+    let journal = Journal::new(alloc, session, longest);
+    // The journals agree, and the limit of an order is in range, so an error means out of memory.
+    match DurablePublisher::resume(alloc, journal, durable, order.limit) {
+        Ok(publisher) => feed(rt, order, publisher, ports, false),
+        Err(_) => Err(ProgramFault::Command(CommandFault::Memory)),
+    }
+}
+
+/// Keeps a session, whose messages are read from standard input, in a journal file, sends it on one or two lines, and
+/// responds to requests. A file that exists is continued, unless it is not a journal of the session. Refusals are printed
+/// on standard output.
+pub fn run_feed(rt: &HostRuntime, order: &FeedOrder) -> Result<u8, ProgramFault> {
+    match open_file(rt, order.journal.as_str()).map_err(|error| fault_of(error))? {
+        Some(storage) => resume(rt, order, storage),
+        None => begin(rt, order),
+    }
+}

@@ -1,0 +1,58 @@
+//! Why an existing journal file is not continued.
+
+use mold_devices::{CommandFault, Sink, send};
+use mold_durable::JournalFileError;
+use mold_durable_publisher::StartError;
+use mold_follow::{device_fault, load_error};
+use mold_session::FileError;
+use mold_text::{Word, push_refused};
+use mold_wiring::{ProgramFault, print_file_refusal};
+use std::alloc::Global;
+
+/// The status of a command that refuses its journal file.
+const REFUSED: u8 = 2;
+
+/// Returns the fault of the program for an error of a journal's file.
+pub(crate) fn fault_of(error: JournalFileError) -> ProgramFault {
+    match error {
+        JournalFileError::Locked => ProgramFault::Locked,
+        JournalFileError::Write => ProgramFault::Command(CommandFault::Write),
+        JournalFileError::Memory => ProgramFault::Command(CommandFault::Memory),
+    }
+}
+
+// Prints why the file is refused, and returns the status, unless a device or an allocation failed.
+fn refuse_file<K: Sink>(alloc: Global, error: FileError, sink: &mut K) -> Result<u8, CommandFault> {
+    match device_fault(error) {
+        Some(fault) => Err(fault),
+        None => print_file_refusal(alloc, error, sink),
+    }
+}
+
+/// Prints why the file is not published, and returns the status, unless a device or an allocation failed.
+pub(crate) fn refuse_start<K: Sink>(
+    alloc: Global,
+    error: StartError,
+    sink: &mut K,
+) -> Result<u8, CommandFault> {
+    match error {
+        StartError::Open(error) => refuse_file(alloc, load_error(error), sink),
+        StartError::Load(error) => refuse_file(alloc, error, sink),
+        // The file was replaced between the two reads of it.
+        StartError::Differs => Err(CommandFault::Read),
+        // The limit of an order is in range.
+        StartError::Limit | StartError::Memory => Err(CommandFault::Memory),
+    }
+}
+
+/// Prints the refusal of this name, and returns the status.
+pub(crate) fn refuse<K: Sink>(
+    alloc: Global,
+    name: &[u8],
+    sink: &mut K,
+) -> Result<u8, CommandFault> {
+    let mut text = Vec::new(alloc);
+    push_refused(&mut text, &[Word::Text(name)])?;
+    send(sink, &mut text)?;
+    Ok(REFUSED)
+}

@@ -1,0 +1,633 @@
+-- What a publisher over ports has done so far.
+use Rattle.std.proofs.Common.{arith, ◌≡◌, ◌∙◌, inl, inr, ℕ, ◌≤◌, Bool, cond, not, true, false, List, [], ◌∷◌, ◌++◌, length, take}
+use Rattle.std.proofs.Common.{Option, None, Some, Result, Ok, Err, ap, refl, sym, subst, append_assoc, append-nil}
+use Rattle.std.proofs.Common.{length-append, ◌-◌}
+use Rattle.std.proofs.lemmas.List.{take-append-le}
+use Rattle.std.specs.Prelude.{IfOk, OnOk}
+use Rattle.std.specs.Io.KnownBytes.{Appends}
+use Rattle.std.proofs.KnownBytes.{Appends-trans}
+use Rattle.std.specs.List.{AllByRecursion}
+use Rattle.mold_durable.specs.DurableJournal.{DurableState}
+use Rattle.mold_durable.specs.Life.{IsFileOf, Life, Moment, after as after_moment}
+use Rattle.mold_durable.specs.Life.Moment.{Close, Commit}
+use Rattle.mold_durable.specs.Storage.{LeavesOnly}
+use Rattle.mold_durable_publisher.specs.DurablePublisher.{Publishes}
+use Rattle.mold_durable_publisher.specs.Told.{IsLife, IsTrueNow}
+use Rattle.mold_durable_publisher.specs.declared.durable_publisher.DurablePublisher.{DurablePublisher}
+use Rattle.mold_port_set.specs.PortSet.{PortSetState}
+use Rattle.mold_ports.specs.Ports.{Datagram, Failure, Port, Quiet, Receipt, cut, next_of, received}
+use Rattle.mold_session.specs.Answer.{answer}
+use Rattle.mold_session.specs.Journal.{JournalState}
+use Rattle.mold_session.specs.Records.{SpellsJournal3}
+use Rattle.mold_session.specs.Server.{ServerState, checked_request, judged, request_refusal, unless}
+use Rattle.mold_session.specs.declared.error.AnswerError.{AnswerError}
+use Rattle.mold_wire.specs.Request.{request_reading}
+use Rattle.mold_wire.specs.declared.error.RequestError.{RequestError}
+use Rattle.mold_wire.specs.declared.error.RequestError.TheVariants as fault
+use Rattle.mold_wire.specs.declared.limits.TheConstants.{MAX_LIMIT}
+use Rattle.mold_wire.specs.declared.packet.Packet.{Packet}
+use Rattle.mold_wire.specs.declared.request.Request.{Request}
+use Rattle.mold_feeder.specs.FeedLines.{SendsOn}
+use Rattle.mold_input.specs.Entries.{InputEntries}
+use Rattle.mold_session.specs.Publisher.{PublisherState, closed}
+use Rattle.mold_feeder.specs.Feeder.{HasEnded, HasSent, HasTurned, IsFileAtEnd, sends_at, sends_at_end}
+use Rattle.mold_feeder.specs.Feeding.{FeedState, HasBroken, HasFed, HasReplied, IsAtRest, IsFileLeft, IsGroupFile, Replies}
+use Rattle.mold_feeder.specs.Feeding.{all_of, first_messages, grown, shut}
+use Rattle.mold_feeder.specs.Gathering.{IsFileUpTo, with_committed, with_waiting}
+use Rattle.mold_feeder.specs.Requests.{Offers, RepliesTo, responses, responses_to, sent_journal}
+use Rattle.mold_feeder.specs.declared.feed_end.FeedEnd.{FeedEnd}
+use Rattle.mold_feeder.specs.declared.feed_lines.FeedLines.{FeedLines}
+use Rattle.mold_feeder.specs.declared.feeder.Feeder.{Feeder}
+use Rattle.mold_feeder.specs.declared.gathered.Gathered.{Gathered}
+use Rattle.mold_feeder.proofs.GatheringLemmas.{file_now, leaves_both, leaves_weaker}
+use Rattle.mold_feeder.proofs.LineLemmas.{sends_more}
+
+-- ---- groups
+
+all_more : (first second : List (List (List ℕ))) → all_of (first ++ second) ≡ all_of first ++ all_of second
+all_more [] second = refl
+all_more (group ∷ groups) second =
+    ap (λ (ms : List (List ℕ)). group ++ ms) (all_more groups second) ∙ sym (append_assoc group (all_of groups) (all_of second))
+
+pub grown_none : (life : Life) → life.waiting ≡ [] → grown life [] ≡ life
+grown_none life none =
+    ap (λ (ms : List (List ℕ)). record life { committed = ms; waiting = [] }) (append-nil life.committed)
+    ∙ ap (λ (ms : List (List ℕ)). record life { waiting = ms }) (sym none)
+
+both_groups : (life : Life) (first second : List (List (List ℕ))) →
+    (life.committed ++ all_of first) ++ all_of second ≡ life.committed ++ all_of (first ++ second)
+both_groups life first second =
+    append_assoc life.committed (all_of first) (all_of second)
+    ∙ ap (λ (ms : List (List ℕ)). life.committed ++ ms) (sym (all_more first second))
+
+pub grown_more : (life : Life) (first second : List (List (List ℕ))) →
+    grown (grown life first) second ≡ grown life (first ++ second)
+grown_more life first second =
+    ap (λ (ms : List (List ℕ)). record life { committed = ms; waiting = [] }) (both_groups life first second)
+
+left_first : (closes : Bool) (life : Life) (first second : List (List (List ℕ))) (bytes : List ℕ) →
+    IsFileLeft false life first bytes → IsFileLeft closes life (first ++ second) bytes
+left_first closes life first second bytes (inl file) =
+    inl (record {
+      front = file.front;
+      rest = file.rest ++ second;
+      parts = ap (λ (gs : List (List (List ℕ))). gs ++ second) file.parts ∙ append_assoc file.front file.rest second;
+      file = file.file;
+    })
+left_first closes life first second bytes (inr file) = let e = file.0 in absurd (cc)
+
+left_second : (closes : Bool) (life : Life) (first second : List (List (List ℕ))) (bytes : List ℕ) →
+    IsFileLeft closes (grown life first) second bytes → IsFileLeft closes life (first ++ second) bytes
+left_second closes life first second bytes (inl file) =
+    inl (record {
+      front = first ++ file.front;
+      rest = file.rest;
+      parts = ap (λ (gs : List (List (List ℕ))). first ++ gs) file.parts ∙ sym (append_assoc first file.front file.rest);
+      file = subst (λ (ms : List (List ℕ)). SpellsJournal3 life.session ms life.closed bytes)
+          (both_groups life first file.front) file.file;
+    })
+left_second closes life first second bytes (inr file) =
+    inr (
+      file.0,
+      subst (λ (ms : List (List ℕ)). SpellsJournal3 life.session ms true bytes) (both_groups life first second) file.1,
+    )
+
+-- ---- what is replied
+
+refusal_same : (one other : JournalState) (request : Request) → one.session ≡ other.session →
+    one.messages ≡ other.messages → request_refusal one request ≡ request_refusal other request
+refusal_same one other request session messages = rw (session, messages) refl
+
+judged_same : (one other : JournalState) (reading : Result Request RequestError) → one.session ≡ other.session →
+    one.messages ≡ other.messages → judged one reading ≡ judged other reading
+judged_same one other (Err (fault.RequestLength len)) session messages = refl
+judged_same one other (Ok request) session messages =
+    ap (λ (r : Option AnswerError). unless r request) (refusal_same one other request session messages)
+
+answers_same : (one other : JournalState) (server mine : ServerState) (checked : Result Request AnswerError) →
+    one.session ≡ other.session → one.messages ≡ other.messages → server.limit ≡ mine.limit → server.burst ≡ mine.burst →
+    responses_to one server checked ≡ responses_to other mine checked
+answers_same one other server mine (Err why) session messages limit burst = refl
+answers_same one other server mine (Ok request) session messages limit burst =
+    rw (session, messages, limit, burst) refl
+
+responses_same : (one other : JournalState) (server mine : ServerState) (request : List ℕ) →
+    one.session ≡ other.session → one.messages ≡ other.messages → server.limit ≡ mine.limit → server.burst ≡ mine.burst →
+    responses one server request ≡ responses other mine request
+responses_same one other server mine request session messages limit burst =
+    ap (responses_to one server) (judged_same one other (request_reading request) session messages)
+    ∙ answers_same one other server mine (checked_request other request) session messages limit burst
+
+-- The replies depend only on the session, on these messages, and on the server's limits.
+pub replies_alike : {P : Type 0} (one other : JournalState) (server mine : ServerState) (receipt : Receipt P)
+    (old new : Port P) → one.session ≡ other.session → one.messages ≡ other.messages → server.limit ≡ mine.limit →
+    server.burst ≡ mine.burst → RepliesTo one server receipt old new → RepliesTo other mine receipt old new
+replies_alike one other server mine (Datagram from request) old new session messages limit burst replies =
+    subst (λ (packets : List Packet). Offers from packets old new)
+    (responses_same one other server mine request session messages limit burst) replies
+replies_alike one other server mine Quiet old new session messages limit burst replies = replies
+replies_alike one other server mine Failure old new session messages limit burst replies = replies
+
+-- The first messages stay the same.
+abbrev pub KeepsFirst : ℕ → JournalState → JournalState → Type 0
+KeepsFirst sent one other = (count : ℕ) → count ≤ sent → take count one.messages ≡ take count other.messages
+
+replies_later : {P : Type 0} (one other : JournalState) (server mine : ServerState) (sent : ℕ) (counts : List ℕ)
+    (old new : Port P) → one.session ≡ other.session → KeepsFirst sent one other → server.limit ≡ mine.limit →
+    server.burst ≡ mine.burst → AllByRecursion (λ count. count ≤ sent) counts → Replies one server counts old new →
+    Replies other mine counts old new
+replies_later one other server mine sent [] old new session first limit burst few replies = replies
+replies_later one other server mine sent (count ∷ counts) old new session first limit burst few replies = (
+  replies.0,
+  replies_alike (first_messages count one) (first_messages count other) server mine (cut MAX_LIMIT (next_of old))
+      (received old) replies.0 session (first count few.0) limit burst replies.1,
+  replies_later one other server mine sent counts replies.0 new session first limit burst few.1 replies.2,
+)
+
+replies_more : {P : Type 0} (journal : JournalState) (server : ServerState) (first second : List ℕ)
+    (old mid new : Port P) → Replies journal server first old mid → Replies journal server second mid new →
+    Replies journal server (first ++ second) old new
+replies_more journal server [] second old mid new one other =
+    subst (λ (p : Port _). Replies journal server second p new) one other
+replies_more journal server (count ∷ counts) second old mid new one other =
+    (one.0, one.1, replies_more journal server counts second one.0 mid new one.2 other)
+
+all_less : (less more : ℕ) (counts : List ℕ) → less ≤ more → AllByRecursion (λ count. count ≤ less) counts →
+    AllByRecursion (λ count. count ≤ more) counts
+all_less less more [] le few = tt
+all_less less more (count ∷ counts) le few = (omega (arith, le, few.0), all_less less more counts le few.1)
+
+all_both : (P : ℕ → Type 0) (xs ys : List ℕ) → AllByRecursion P xs → AllByRecursion P ys → AllByRecursion P (xs ++ ys)
+all_both P [] ys first second = second
+all_both P (x ∷ xs) ys first second = (first.0, all_both P xs ys first.1 second)
+
+replied_more : {P : Type 0} (answers : Bool) (one other : JournalState) (less more : ℕ) (server mine : ServerState)
+    (old mid new : Port P) → one.session ≡ other.session → KeepsFirst less one other → mine.limit ≡ server.limit →
+    mine.burst ≡ server.burst → less ≤ more → HasReplied answers one less server old mid →
+    HasReplied answers other more mine mid new → HasReplied answers other more server old new
+replied_more answers one other less more server mine old mid new session first limit burst le before after = record {
+  counts = before.counts ++ after.counts;
+  few = all_both (λ count. count ≤ more) before.counts after.counts (all_less less more before.counts le before.few)
+      after.few;
+  replies = λ modeled.
+      replies_more other server before.counts after.counts old mid new
+      (replies_later one other server server less before.counts old mid session first refl refl before.few
+      (before.replies modeled))
+      (replies_later other other mine server more after.counts mid new refl (λ count le. refl) limit burst after.few
+      (after.replies modeled));
+}
+
+-- ---- the life of a journal that is closed or not
+
+shut_committed : (closes : Bool) (life : Life) → (shut closes life).committed ≡ life.committed
+shut_committed false life = refl
+shut_committed true life = refl
+
+shut_waiting : (closes : Bool) (life : Life) → (shut closes life).waiting ≡ life.waiting
+shut_waiting false life = refl
+shut_waiting true life = refl
+
+shut_session : (closes : Bool) (life : Life) → (shut closes life).session ≡ life.session
+shut_session false life = refl
+shut_session true life = refl
+
+-- A publisher at rest has exactly the committed messages.
+pub messages_now : {S : Type 0} {shows may_leave : S → List ℕ → Type 0} (closes : Bool) (life : Life)
+    (publisher : DurablePublisher S) → IsAtRest shows may_leave publisher (shut closes life) →
+    publisher.publisher.journal.messages ≡ life.committed
+messages_now closes life publisher is =
+    is.publishes.held
+    ∙ ap (λ (ms : List (List ℕ)). (shut closes life).committed ++ ms) is.none
+    ∙ append-nil (shut closes life).committed
+    ∙ shut_committed closes life
+
+pub session_now : {S : Type 0} {shows may_leave : S → List ℕ → Type 0} (closes : Bool) (life : Life)
+    (publisher : DurablePublisher S) → IsAtRest shows may_leave publisher (shut closes life) →
+    publisher.publisher.journal.session ≡ life.session
+session_now closes life publisher is = is.publishes.named ∙ shut_session closes life
+
+-- ---- all that a publisher has done
+
+true_all : (P Q : List ℕ → Type 0) (xs ys : List (List ℕ)) → ((x : List ℕ) → P x → Q x) → AllByRecursion P xs →
+    AllByRecursion Q ys → AllByRecursion Q (xs ++ ys)
+true_all P Q [] ys follows first second = second
+true_all P Q (x ∷ xs) ys follows first second = (follows x first.0, true_all P Q xs ys follows first.1 second)
+
+shut_grown : (closes : Bool) (life : Life) (first second : List (List (List ℕ))) →
+    shut closes (grown (grown life first) second) ≡ shut closes (grown life (first ++ second))
+shut_grown closes life first second = ap (shut closes) (grown_more life first second)
+
+module _ {S P Q : Type 0} (shows may_leave : S → List ℕ → Type 0) (moment : S → ℕ)
+    (left_since : S → ℕ → List ℕ → Type 0) (modeled answers : Bool) (lines : FeedLines P) where
+  -- The messages that were committed stay the first ones.
+  keeps_first : (life : Life) (first second : List (List (List ℕ))) (closes : Bool) (mid new : FeedState S P Q) →
+      IsAtRest shows may_leave mid.publisher (shut false (grown life first)) →
+      IsAtRest shows may_leave new.publisher (shut closes (grown (grown life first) second)) →
+      KeepsFirst mid.publisher.publisher.sent mid.publisher.publisher.journal new.publisher.publisher.journal
+  keeps_first life first second closes mid new before after = λ count le.
+      let committed = life.committed ++ all_of first in
+      ap (take count) (messages_now false (grown life first) mid.publisher before)
+      ∙ sym (take-append-le count committed (all_of second) (omega (arith, le, before.publishes.sent)))
+      ∙ sym (ap (take count) (messages_now closes (grown (grown life first) second) new.publisher after))
+
+  -- The publisher went on.
+  pub fed_then : (life : Life) (first second : List (List (List ℕ))) (closes : Bool) (old mid new : FeedState S P Q) →
+      HasFed shows may_leave moment left_since modeled answers lines life first false old mid →
+      HasFed shows may_leave moment left_since modeled answers lines (grown life first) second closes mid new →
+      HasFed shows may_leave moment left_since modeled answers lines life (first ++ second) closes old new
+  fed_then life first second closes old mid new one other = record {
+    rests = subst (IsAtRest shows may_leave new.publisher) (shut_grown closes life first second) other.rests;
+    leaves = leaves_both moment left_since old.publisher.durable.storage mid.publisher.durable.storage
+        new.publisher.durable.storage (IsFileLeft false life first) (IsFileLeft closes (grown life first) second)
+        (IsFileLeft closes life (first ++ second)) (left_first closes life first second)
+        (left_second closes life first second) one.leaves other.leaves;
+    datagrams = one.datagrams ++ other.datagrams;
+    sends = λ is.
+        sends_more lines one.datagrams other.datagrams old.ports.sent mid.ports.sent new.ports.sent (one.sends is)
+        (other.sends is);
+    so = subst (λ (l : Life). AllByRecursion (IsTrueNow l) (one.datagrams ++ other.datagrams))
+        (shut_grown closes life first second)
+        (true_all (IsTrueNow (grown life first)) (IsTrueNow (shut closes (grown (grown life first) second))) one.datagrams
+        other.datagrams other.later one.so other.so);
+    later = λ datagram is.
+        subst (λ (l : Life). IsTrueNow l datagram) (shut_grown closes life first second)
+        (other.later datagram (one.later datagram is));
+    replied = replied_more answers mid.publisher.publisher.journal new.publisher.publisher.journal
+        mid.publisher.publisher.sent new.publisher.publisher.sent old.server mid.server old.requests mid.requests
+        new.requests
+        (session_now false (grown life first) mid.publisher one.rests
+        ∙ sym (session_now closes (grown (grown life first) second) new.publisher other.rests)) (keeps_first life first second closes mid new one.rests other.rests)
+        (ap (λ (s : ServerState). s.limit) one.limits) (ap (λ (s : ServerState). s.burst) one.limits) other.onward
+        one.replied other.replied;
+    limits = other.limits ∙ ap (λ (s : ServerState). record s { answered = new.server.answered }) one.limits;
+    onward = omega (arith, one.onward, other.onward);
+  }
+
+module _ {S P Q : Type 0} (shows may_leave : S → List ℕ → Type 0) (moment : S → ℕ)
+    (left_since : S → ℕ → List ℕ → Type 0) (modeled answers : Bool) (lines : FeedLines P)
+    (only_now : (storage : S) (bytes : List ℕ) → left_since storage (moment storage) bytes → may_leave storage bytes) where
+  -- The storage was not used.
+  pub fed_still : (life : Life) (old new : FeedState S P Q) (datagrams : List (List ℕ)) →
+      IsAtRest shows may_leave old.publisher life → new.publisher.durable ≡ old.publisher.durable →
+      Publishes shows may_leave new.publisher life →
+      (modeled ≡ true → SendsOn lines datagrams old.ports.sent new.ports.sent) →
+      AllByRecursion (IsTrueNow life) datagrams →
+      HasReplied answers new.publisher.publisher.journal new.publisher.publisher.sent old.server old.requests
+      new.requests → new.server ≡ record old.server { answered = new.server.answered } →
+      old.publisher.publisher.sent ≤ new.publisher.publisher.sent →
+      HasFed shows may_leave moment left_since modeled answers lines life [] false old new
+  fed_still life old new datagrams is durable publishes sends so replied limits onward = record {
+    rests = subst (IsAtRest shows may_leave new.publisher) (sym (grown_none life is.none)) (record {
+      publishes = publishes;
+      none = is.none;
+      intact = ap (λ (d : DurableState S). d.broken) durable ∙ is.intact;
+    });
+    leaves = subst (λ (d : DurableState S). LeavesOnly moment left_since old.publisher.durable.storage d.storage
+        (IsFileLeft false life [])) (sym durable) (record {
+          later = omega arith;
+          each = λ bytes left. inl (record {
+            front = [];
+            rest = [];
+            parts = refl;
+            file = subst (λ (ms : List (List ℕ)). SpellsJournal3 life.session ms life.closed bytes)
+                (sym (append-nil life.committed))
+                (file_now shows may_leave old.publisher life (is.publishes.lives is.intact) bytes
+                (only_now old.publisher.durable.storage bytes left));
+          });
+          before = λ earlier bytes le left. inl left;
+        });
+    datagrams = datagrams;
+    sends = sends;
+    so = subst (λ (l : Life). AllByRecursion (IsTrueNow l) datagrams) (sym (grown_none life is.none)) so;
+    later = λ datagram true. subst (λ (l : Life). IsTrueNow l datagram) (sym (grown_none life is.none)) true;
+    replied = replied;
+    limits = limits;
+    onward = onward;
+  }
+
+  -- Nothing has happened.
+  pub fed_yet : (life : Life) (old : FeedState S P Q) → IsAtRest shows may_leave old.publisher life →
+      HasFed shows may_leave moment left_since modeled answers lines life [] false old old
+  fed_yet life old is =
+      fed_still life old old [] is refl is.publishes (λ _. refl) tt (record { counts = []; few = tt; replies = λ _. refl })
+      refl (omega arith)
+
+  -- The publisher waited.
+  pub fed_waited : (life : Life) (old new : FeedState S P Q) → IsAtRest shows may_leave old.publisher life →
+      new.publisher ≡ old.publisher → (modeled ≡ true → new.ports.sent ≡ old.ports.sent) →
+      new.requests ≡ old.requests → new.server ≡ old.server →
+      HasFed shows may_leave moment left_since modeled answers lines life [] false old new
+  fed_waited life old new is same sends requests server =
+      fed_still life old new [] is (ap (λ (p : DurablePublisher S). p.durable) same)
+      (subst (λ (p : DurablePublisher S). Publishes shows may_leave p life) (sym same) is.publishes) sends tt
+      (record { counts = []; few = tt; replies = λ _. requests })
+      (server ∙ ap (λ (s : ServerState). record old.server { answered = s.answered }) (sym server))
+      (subst (λ (p : DurablePublisher S). old.publisher.publisher.sent ≤ p.publisher.sent) (sym same) (omega arith))
+
+  -- The publisher replied to a request, and sent datagrams on its lines.
+  pub fed_served : {L : Type 0} (state : L → PortSetState P) (life : Life) (old new : Feeder S L)
+      (datagrams : List (List ℕ)) (asked replied : Port Q) (server mine : ServerState) →
+      IsAtRest shows may_leave old.publisher life → HasSent shows may_leave modeled state lines datagrams old new →
+      (answers ≡ true →
+      RepliesTo (sent_journal old.publisher.publisher) server (cut MAX_LIMIT (next_of asked)) (received asked) replied) →
+      mine ≡ record server { answered = mine.answered } →
+      HasFed shows may_leave moment left_since modeled answers lines life [] false
+      (record { publisher = old.publisher; ports = state old.ports; requests = asked; server = server })
+      (record { publisher = new.publisher; ports = state new.ports; requests = replied; server = mine })
+  fed_served state life old new datagrams asked replied server mine is sent replies limits =
+      fed_still life (record { publisher = old.publisher; ports = state old.ports; requests = asked; server = server })
+      (record { publisher = new.publisher; ports = state new.ports; requests = replied; server = mine }) datagrams is
+      sent.storage (sent.publishes life is.publishes) sent.sends (sent.told life is.publishes).now (record {
+        counts = old.publisher.publisher.sent ∷ [];
+        few = (sent.onward, tt);
+        replies = λ modeled. (
+          replied,
+          replies_alike (sent_journal old.publisher.publisher)
+              (first_messages old.publisher.publisher.sent new.publisher.publisher.journal) server server
+              (cut MAX_LIMIT (next_of asked)) (received asked) replied
+              (ap (λ (j : JournalState). j.session) (sym sent.journal))
+              (ap (λ (j : JournalState). take old.publisher.publisher.sent j.messages) (sym sent.journal)) refl refl
+              (replies modeled),
+          refl,
+        );
+      }) limits sent.onward
+
+  -- The publisher sent datagrams on its lines.
+  pub fed_beaten : {L : Type 0} (state : L → PortSetState P) (life : Life) (old new : Feeder S L)
+      (datagrams : List (List ℕ)) (asked : Port Q) (server : ServerState) → IsAtRest shows may_leave old.publisher life →
+      HasSent shows may_leave modeled state lines datagrams old new →
+      HasFed shows may_leave moment left_since modeled answers lines life [] false
+      (record { publisher = old.publisher; ports = state old.ports; requests = asked; server = server })
+      (record { publisher = new.publisher; ports = state new.ports; requests = asked; server = server })
+  fed_beaten state life old new datagrams asked server is sent =
+      fed_still life (record { publisher = old.publisher; ports = state old.ports; requests = asked; server = server })
+      (record { publisher = new.publisher; ports = state new.ports; requests = asked; server = server }) datagrams is
+      sent.storage (sent.publishes life is.publishes) sent.sends (sent.told life is.publishes).now
+      (record { counts = []; few = tt; replies = λ _. refl }) refl sent.onward
+
+-- ---- a turn
+
+grown_group : (life : Life) (messages : List (List ℕ)) → life.waiting ≡ [] →
+    with_committed life messages ≡ grown life (messages ∷ [])
+grown_group life messages none =
+    ap (λ (ms : List (List ℕ)). record life { committed = life.committed ++ (ms ++ messages); waiting = [] }) none
+    ∙ ap (λ (ms : List (List ℕ)). record life { committed = life.committed ++ ms; waiting = [] }) (sym (append-nil messages))
+
+up_to_left : {S : Type 0} (life : Life) (messages : List (List ℕ)) (publisher : DurablePublisher S) (bytes : List ℕ) →
+    publisher.publisher.journal.messages ≡ life.committed ++ messages → IsFileUpTo life publisher bytes →
+    IsFileLeft false life (messages ∷ []) bytes
+up_to_left life messages publisher bytes held (inl file) =
+    inl (record {
+      front = [];
+      rest = messages ∷ [];
+      parts = refl;
+      file = subst (λ (ms : List (List ℕ)). SpellsJournal3 life.session ms life.closed bytes)
+          (sym (append-nil life.committed)) file;
+    })
+up_to_left life messages publisher bytes held (inr file) =
+    inl (record {
+      front = messages ∷ [];
+      rest = [];
+      parts = refl;
+      file = subst (λ (ms : List (List ℕ)). SpellsJournal3 life.session ms life.closed bytes)
+          (held ∙ ap (λ (ms : List (List ℕ)). life.committed ++ ms) (sym (append-nil messages))) file;
+    })
+
+module _ {S P Q : Type 0} (shows may_leave : S → List ℕ → Type 0) (moment : S → ℕ)
+    (left_since : S → ℕ → List ℕ → Type 0) (modeled answers : Bool) (lines : FeedLines P)
+    (only_now : (storage : S) (bytes : List ℕ) → left_since storage (moment storage) bytes → may_leave storage bytes)
+    (stays : (life : Life) (event : Moment) (datagram : List ℕ) → IsLife life → IsTrueNow life datagram →
+    IsTrueNow (after_moment life event) datagram) where
+  -- A turn took a group or nothing.
+  pub fed_turned : {L : Type 0} (state : L → PortSetState P) (life : Life) (old new : Feeder S L)
+      (known left : Option InputEntries) (taken : Option Gathered) (asked replied : Port Q) (server mine : ServerState) →
+      IsAtRest shows may_leave old.publisher life →
+      HasTurned shows may_leave modeled state lines life old new known left taken →
+      LeavesOnly moment left_since old.publisher.durable.storage new.publisher.durable.storage
+      (IsFileUpTo life new.publisher) → new.publisher.durable.broken ≡ old.publisher.durable.broken →
+      (answers ≡ true →
+      RepliesTo (sent_journal old.publisher.publisher) server (cut MAX_LIMIT (next_of asked)) (received asked) replied) →
+      mine ≡ record server { answered = mine.answered } →
+      (groups : List (List (List ℕ)))
+      × HasFed shows may_leave moment left_since modeled answers lines life groups false
+      (record { publisher = old.publisher; ports = state old.ports; requests = asked; server = server })
+      (record { publisher = new.publisher; ports = state new.ports; requests = replied; server = mine })
+  fed_turned {L} state life old new known left None asked replied server mine is turned crash intact replies limits = (
+    [],
+    fed_served shows may_leave moment left_since modeled answers lines only_now state life old new
+        (sends_at (state turned.mid.ports).now turned.mid) asked replied server mine is
+        (subst (λ (f : Feeder S L). HasSent shows may_leave modeled state lines
+        (sends_at (state turned.mid.ports).now turned.mid) f new) turned.group.0 turned.sent) replies limits,
+  )
+  fed_turned {L} state life old new known left (Some gathered) asked replied server mine is turned crash intact replies
+      limits =
+      let group = turned.group in
+      let messages = turned.group.messages in
+      let now = with_committed life messages in
+      let datagrams = sends_at (state turned.mid.ports).now turned.mid in
+      let added : new.publisher.publisher.journal.messages ≡ old.publisher.publisher.journal.messages ++ messages =
+      ap (λ (j : JournalState). j.messages) turned.sent.journal ∙ group.added in
+      let held : old.publisher.publisher.journal.messages ≡ life.committed = messages_now false life old.publisher is in
+      let onward : old.publisher.publisher.sent ≤ new.publisher.publisher.sent =
+      omega (arith, group.sent, turned.sent.onward) in
+      let sent = old.publisher.publisher.sent in (
+        messages ∷ [],
+        record {
+          rests = subst (IsAtRest shows may_leave new.publisher) (grown_group life messages is.none) (record {
+            publishes = turned.sent.publishes now group.publishes;
+            none = refl;
+            intact = intact ∙ is.intact;
+          });
+          leaves = leaves_weaker moment left_since old.publisher.durable.storage new.publisher.durable.storage
+              (IsFileUpTo life new.publisher) (IsFileLeft false life (messages ∷ []))
+              (λ bytes file.
+              up_to_left life messages new.publisher bytes
+              (added ∙ ap (λ (ms : List (List ℕ)). ms ++ messages) held) file) crash;
+          datagrams = datagrams;
+          sends = λ is_modeled.
+              subst (λ (p : L). SendsOn lines datagrams (state p).sent (state new.ports).sent) turned.ports
+              (turned.sent.sends is_modeled);
+          so = subst (λ (l : Life). AllByRecursion (IsTrueNow l) datagrams) (grown_group life messages is.none)
+              (turned.sent.told now group.publishes).now;
+          later = λ datagram true.
+              subst (λ (l : Life). IsTrueNow l datagram) (grown_group life messages is.none)
+              (stays (with_waiting life messages) Commit datagram group.possible true);
+          replied = record {
+            counts = sent ∷ [];
+            few = (onward, tt);
+            replies = λ is_modeled. (
+              replied,
+              replies_alike (sent_journal old.publisher.publisher)
+                  (first_messages sent new.publisher.publisher.journal) server server (cut MAX_LIMIT (next_of asked))
+                  (received asked) replied
+                  (is.publishes.named
+                  ∙ sym (ap (λ (j : JournalState). j.session) turned.sent.journal ∙ group.publishes.named))
+                  (sym (take-append-le sent old.publisher.publisher.journal.messages messages
+                  (omega (arith, is.publishes.sent, ap (λ (ms : List (List ℕ)). length ms) held)))
+                  ∙ sym (ap (take sent) added)) refl refl (replies is_modeled),
+              refl,
+            );
+          };
+          limits = limits;
+          onward = onward;
+        },
+      )
+
+-- ---- the end
+
+shut_ended : (stays : Bool) (life : Life) → life.waiting ≡ [] →
+    cond stays life (after_moment life Close) ≡ shut (not stays) (grown life [])
+shut_ended true life none = sym (grown_none life none)
+shut_ended false life none =
+    ap (λ (ms : List (List ℕ)). record life { committed = life.committed ++ ms; closed = true; waiting = [] }) none
+
+ended_waiting : (stays : Bool) (life : Life) → life.waiting ≡ [] → (cond stays life (after_moment life Close)).waiting ≡ []
+ended_waiting true life none = none
+ended_waiting false life none = refl
+
+at_end_left : (stays : Bool) (life : Life) (bytes : List ℕ) → life.waiting ≡ [] → IsFileAtEnd stays life bytes →
+    IsFileLeft (not stays) life [] bytes
+at_end_left stays life bytes none (inl file) =
+    inl (record {
+      front = [];
+      rest = [];
+      parts = refl;
+      file = subst (λ (ms : List (List ℕ)). SpellsJournal3 life.session ms life.closed bytes)
+          (sym (append-nil life.committed)) file;
+    })
+at_end_left stays life bytes none (inr file) =
+    inr (
+      ap not file.0,
+      subst (λ (ms : List (List ℕ)). SpellsJournal3 life.session (life.committed ++ ms) true bytes) none file.1,
+    )
+
+ended_onward : (end : FeedEnd) (stays : Bool) (publisher : PublisherState) →
+    publisher.sent ≤ (cond stays publisher (closed publisher)).sent
+ended_onward end true publisher = omega arith
+ended_onward end false publisher = omega arith
+
+none_before : (front rest : List (List (List ℕ))) → [] ≡ front ++ rest → front ≡ []
+none_before [] rest is = refl
+none_before (group ∷ groups) rest is = absurd (cc)
+
+-- Every file after the session was closed or not is one with all groups.
+left_after : (closes : Bool) (life : Life) (groups : List (List (List ℕ))) (bytes : List ℕ) →
+    IsFileLeft false (shut closes (grown life groups)) [] bytes → IsFileLeft closes life groups bytes
+left_after closes life groups bytes (inr file) = let e = file.0 in absurd (cc)
+left_after false life groups bytes (inl file) =
+    inl (record {
+      front = groups;
+      rest = [];
+      parts = sym (append-nil groups);
+      file = subst (λ (ms : List (List ℕ)). SpellsJournal3 life.session ms life.closed bytes)
+          (ap (λ (gs : List (List (List ℕ))). (life.committed ++ all_of groups) ++ all_of gs)
+          (none_before file.front file.rest file.parts) ∙ append-nil (life.committed ++ all_of groups)) file.file;
+    })
+left_after true life groups bytes (inl file) =
+    inr (
+      refl,
+      subst (λ (ms : List (List ℕ)). SpellsJournal3 life.session ms true bytes)
+          (ap (λ (gs : List (List (List ℕ))). (life.committed ++ all_of groups) ++ all_of gs)
+          (none_before file.front file.rest file.parts) ∙ append-nil (life.committed ++ all_of groups)) file.file,
+    )
+
+module _ (stays : (life : Life) (event : Moment) (datagram : List ℕ) → IsLife life → IsTrueNow life datagram →
+    IsTrueNow (after_moment life event) datagram) where
+  true_at_end : (stays_open : Bool) (life : Life) (datagram : List ℕ) → IsLife life → IsTrueNow life datagram →
+      IsTrueNow (cond stays_open life (after_moment life Close)) datagram
+  true_at_end true life datagram possible so = so
+  true_at_end false life datagram possible so = stays life Close datagram possible so
+
+module _ {S P Q : Type 0} (shows may_leave : S → List ℕ → Type 0) (moment : S → ℕ)
+    (left_since : S → ℕ → List ℕ → Type 0) (modeled answers : Bool) (lines : FeedLines P)
+    (stays : (life : Life) (event : Moment) (datagram : List ℕ) → IsLife life → IsTrueNow life datagram →
+    IsTrueNow (after_moment life event) datagram) where
+  -- The session was ended.
+  pub fed_ended : {L : Type 0} (state : L → PortSetState P) (end : FeedEnd) (life : Life) (old new : Feeder S L)
+      (asked : Port Q) (server : ServerState) → IsAtRest shows may_leave old.publisher life →
+      HasEnded shows may_leave modeled state lines end life old new →
+      LeavesOnly moment left_since old.publisher.durable.storage new.publisher.durable.storage
+      (IsFileAtEnd end.stays_open life) → new.publisher.durable.broken ≡ old.publisher.durable.broken →
+      HasFed shows may_leave moment left_since modeled answers lines life [] (not end.stays_open)
+      (record { publisher = old.publisher; ports = state old.ports; requests = asked; server = server })
+      (record { publisher = new.publisher; ports = state new.ports; requests = asked; server = server })
+  fed_ended state end life old new asked server is ended crash intact =
+      let same = shut_ended end.stays_open life is.none in
+      let onward : old.publisher.publisher.sent ≤ new.publisher.publisher.sent =
+      subst (λ (p : PublisherState). old.publisher.publisher.sent ≤ p.sent) (sym ended.publisher)
+      (ended_onward end end.stays_open old.publisher.publisher) in
+      record {
+        rests = subst (IsAtRest shows may_leave new.publisher) same (record {
+          publishes = ended.publishes;
+          none = ended_waiting end.stays_open life is.none;
+          intact = intact ∙ is.intact;
+        });
+        leaves = leaves_weaker moment left_since old.publisher.durable.storage new.publisher.durable.storage
+            (IsFileAtEnd end.stays_open life) (IsFileLeft (not end.stays_open) life [])
+            (λ bytes. at_end_left end.stays_open life bytes is.none) crash;
+        datagrams = sends_at_end end old.publisher.publisher;
+        sends = ended.sends;
+        so = subst (λ (l : Life). AllByRecursion (IsTrueNow l) (sends_at_end end old.publisher.publisher)) same
+            ended.told.now;
+        later = λ datagram true.
+            subst (λ (l : Life). IsTrueNow l datagram) same
+            (true_at_end stays end.stays_open life datagram is.publishes.possible true);
+        replied = record { counts = []; few = tt; replies = λ _. refl };
+        limits = refl;
+        onward = onward;
+      }
+
+  -- The publisher went on, and committed nothing more.
+  pub fed_after : (life : Life) (groups : List (List (List ℕ))) (closes : Bool) (old mid new : FeedState S P Q) →
+      HasFed shows may_leave moment left_since modeled answers lines life groups closes old mid →
+      HasFed shows may_leave moment left_since modeled answers lines (shut closes (grown life groups)) [] false mid new →
+      HasFed shows may_leave moment left_since modeled answers lines life groups closes old new
+  fed_after life groups closes old mid new one other =
+      let last = shut closes (grown life groups) in
+      let same : grown last [] ≡ last = grown_none last one.rests.none in
+      let rests : IsAtRest shows may_leave new.publisher last =
+      subst (IsAtRest shows may_leave new.publisher) same other.rests in
+      record {
+        rests = rests;
+        leaves = leaves_both moment left_since old.publisher.durable.storage mid.publisher.durable.storage
+            new.publisher.durable.storage (IsFileLeft closes life groups) (IsFileLeft false last [])
+            (IsFileLeft closes life groups) (λ bytes file. file) (left_after closes life groups) one.leaves other.leaves;
+        datagrams = one.datagrams ++ other.datagrams;
+        sends = λ is.
+            sends_more lines one.datagrams other.datagrams old.ports.sent mid.ports.sent new.ports.sent (one.sends is)
+            (other.sends is);
+        so = true_all (IsTrueNow last) (IsTrueNow last) one.datagrams other.datagrams (λ datagram is. is) one.so
+            (subst (λ (l : Life). AllByRecursion (IsTrueNow l) other.datagrams) same other.so);
+        later = one.later;
+        replied = replied_more answers mid.publisher.publisher.journal new.publisher.publisher.journal
+            mid.publisher.publisher.sent new.publisher.publisher.sent old.server mid.server old.requests mid.requests
+            new.requests
+            (session_now closes (grown life groups) mid.publisher one.rests
+            ∙ sym (session_now closes (grown life groups) new.publisher rests))
+            (λ count le.
+            ap (take count)
+            (messages_now closes (grown life groups) mid.publisher one.rests
+            ∙ sym (messages_now closes (grown life groups) new.publisher rests)))
+            (ap (λ (s : ServerState). s.limit) one.limits) (ap (λ (s : ServerState). s.burst) one.limits) other.onward
+            one.replied other.replied;
+        limits = other.limits ∙ ap (λ (s : ServerState). record s { answered = new.server.answered }) one.limits;
+        onward = omega (arith, one.onward, other.onward);
+      }
+
+-- ---- results
+
+pub turned_ok : {T E : Type 0} (result : Result T E) (P : T → Type 0) (A Q : Type 0) → ((x : T) → P x → A → Q) →
+    IfOk result P → OnOk result A → OnOk result Q
+turned_ok (Ok x) P A Q follows is also = follows x is also
+turned_ok (Err why) P A Q follows is also = tt
+
+pub ok_always : {T E : Type 0} (result : Result T E) (Q : Type 0) → Q → OnOk result Q
+ok_always (Ok x) Q is = is
+ok_always (Err why) Q is = tt
+
+-- The first text was written, and then the last one, which was made in an empty text.
+pub said_all : (old mid new : Option (List ℕ)) (first last before after : List ℕ) → Appends old mid first →
+    before ≡ [] → after ≡ before ++ last → Appends mid new after → Appends old new (first ++ last)
+said_all old mid new first last before after one empty grows other =
+    Appends-trans old mid new first last one
+    (subst (Appends mid new) (grows ∙ ap (λ (t : List ℕ). t ++ last) empty) other)

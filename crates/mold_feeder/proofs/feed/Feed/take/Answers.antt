@@ -1,0 +1,13 @@
+use Rattle.mold_feeder.proofs.FeedingLemmas.{fed_turned, turned_ok}
+use Rattle.mold_feeder.proofs.feed.Feed.take.Goals as goal
+
+pub returns-clause-fed : goal.returns-clause-fed
+returns-clause-fed g c = λ life is.
+    turned_ok c.turn.result _ _ _
+    (λ taken turned intact.
+    fed_turned g.S.Storage.shows g.S.Storage.may_leave g.S.Storage.moment g.S.Storage.left_since g.L.PortSet.modeled
+    g.D.Datagrams.modeled c.args.lines.now g.met.S.Storage.only_now c.told_law.ensures.moment g.L.PortSet.state life
+    c.args.self.now.feeder c.turn.new.self _ _ taken (g.D.Datagrams.port c.args.self.now.requests.port)
+    (g.D.Datagrams.port c.turn.new.requests.port) c.args.self.now.requests.server c.turn.new.requests.server is turned
+    (c.turn.ensures.crash life is.publishes is.intact) intact c.turn.ensures.replied c.turn.ensures.limits)
+    (c.turn.ensures.turned life is.publishes is.none) c.turn.ensures.intact

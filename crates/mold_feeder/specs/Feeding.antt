@@ -1,0 +1,158 @@
+-- What a publisher over ports commits, sends and answers, and of which files it is true.
+use Rattle.std.specs.Prelude.{◌≡◌, ◌⊎◌, ℕ, ◌≤◌, Bool, true, false, List, [], ◌∷◌, ◌++◌, length, take, not, Option}
+use Rattle.std.specs.Io.KnownBytes.{Appends}
+use Rattle.std.specs.List.{AllByRecursion}
+use Rattle.mold_durable.specs.Life.{Life}
+use Rattle.mold_durable.specs.Storage.{LeavesOnly}
+use Rattle.mold_durable_publisher.specs.DurablePublisher.{Publishes}
+use Rattle.mold_durable_publisher.specs.Told.{IsTrueNow}
+use Rattle.mold_durable_publisher.specs.declared.durable_publisher.DurablePublisher.{DurablePublisher}
+use Rattle.mold_input.specs.declared.input_kind.InputKind.{InputKind}
+use Rattle.mold_port_set.specs.PortSet.{PortSetState}
+use Rattle.mold_ports.specs.Ports.{Port, cut, next_of, received}
+use Rattle.mold_session.specs.Journal.{JournalState}
+use Rattle.mold_session.specs.Records.{SpellsJournal3}
+use Rattle.mold_session.specs.Server.{ServerState}
+use Rattle.mold_wire.specs.declared.limits.TheConstants.{MAX_LIMIT}
+use Rattle.mold_feeder.specs.FeedLines.{SendsOn}
+use Rattle.mold_feeder.specs.FeedText.{first_text, status_at, stop_text}
+use Rattle.mold_feeder.specs.Gathering.{IsFileUpTo}
+use Rattle.mold_feeder.specs.Requests.{RepliesTo}
+use Rattle.mold_feeder.specs.declared.feed.Feed.{Feed}
+use Rattle.mold_feeder.specs.declared.feed_end.FeedEnd.{FeedEnd}
+use Rattle.mold_feeder.specs.declared.feed_lines.FeedLines.{FeedLines}
+use Rattle.mold_feeder.specs.declared.feed_options.FeedOptions.{FeedOptions}
+use Rattle.mold_feeder.specs.declared.feed_stop.FeedStop.{FeedStop}
+use Rattle.mold_feeder.specs.declared.feed_stop.FeedStop.TheVariants.{Ended, Other, Refused}
+
+-- A publisher over ports: its publisher, its ports, its port of requests, and its server.
+pub record FeedState (S P Q : Type 0) : Type 0 where
+  pub publisher : DurablePublisher S
+  pub ports : PortSetState P
+  pub requests : Port Q
+  pub server : ServerState
+
+-- The state of the publisher `feed`. The functions give what contracts know of its ports.
+abbrev pub state_of : {S L D M K P Q : Type 0} → (L → PortSetState P) → (D → Port Q) → Feed S L D M K → FeedState S P Q
+state_of state port feed = record {
+  publisher = feed.feeder.publisher;
+  ports = state feed.feeder.ports;
+  requests = port feed.requests.port;
+  server = feed.requests.server;
+}
+
+-- The session has this life, no message waits to be committed, and no write has failed.
+pub record IsAtRest {S : Type 0} (shows may_leave : S → List ℕ → Type 0) (publisher : DurablePublisher S) (life : Life) :
+    Type 0 where
+  pub publishes : Publishes shows may_leave publisher life
+  pub none : life.waiting ≡ []
+  pub intact : publisher.durable.broken ≡ false
+
+-- The messages of these groups, in order.
+abbrev pub all_of : List (List (List ℕ)) → List (List ℕ)
+all_of [] = []
+all_of (group ∷ groups) = group ++ all_of groups
+
+-- The life of a journal after these groups of messages were committed.
+abbrev pub grown : Life → List (List (List ℕ)) → Life
+grown life groups = record life { committed = life.committed ++ all_of groups; waiting = [] }
+
+-- The life after the session was closed, if the Boolean is `true`.
+abbrev pub shut : Bool → Life → Life
+shut false life = life
+shut true life = record life { closed = true }
+
+-- The bytes are a file of the committed messages of this life, and of the first of these groups.
+pub record IsGroupFile (life : Life) (groups : List (List (List ℕ))) (bytes : List ℕ) : Type 0 where
+  -- the groups that the file has
+  pub front : List (List (List ℕ))
+  -- the groups that it does not have
+  pub rest : List (List (List ℕ))
+  pub parts : groups ≡ front ++ rest
+  pub file : SpellsJournal3 life.session (life.committed ++ all_of front) life.closed bytes
+
+-- The bytes are such a file. If the session was closed, they may instead be the closed file with all groups.
+abbrev pub IsFileLeft : Bool → Life → List (List (List ℕ)) → List ℕ → Type 0
+IsFileLeft closes life groups bytes =
+    IsGroupFile life groups bytes
+    ⊎ ((closes ≡ true) × SpellsJournal3 life.session (life.committed ++ all_of groups) true bytes)
+
+-- The journal with its first `count` messages.
+abbrev pub first_messages : ℕ → JournalState → JournalState
+first_messages count journal = record journal { messages = take count journal.messages }
+
+-- The receives of the port of requests, in order. Each was replied to from the first messages of the journal, as many
+-- as the list states.
+abbrev pub Replies : {P : Type 0} → JournalState → ServerState → List ℕ → Port P → Port P → Type 0
+Replies journal server [] old new = new ≡ old
+Replies {P} journal server (count ∷ counts) old new =
+    (mid : Port P) × RepliesTo (first_messages count journal) server (cut MAX_LIMIT (next_of old)) (received old) mid
+    × Replies journal server counts mid new
+
+-- Each receive was replied to from messages that had been sent on the lines.
+pub record HasReplied {P : Type 0} (answers : Bool) (journal : JournalState) (sent : ℕ) (server : ServerState)
+    (old new : Port P) : Type 0 where
+  -- how many messages had been sent on the lines at each receive
+  pub counts : List ℕ
+  pub few : AllByRecursion (λ count. count ≤ sent) counts
+  pub replies : answers ≡ true → Replies journal server counts old new
+
+-- The publisher committed these groups of messages, in order. If `closes` is true, it then closed the session. What it
+-- sent on the lines is true of the committed messages.
+pub record HasFed {S P Q : Type 0} (shows may_leave : S → List ℕ → Type 0) (moment : S → ℕ)
+    (left_since : S → ℕ → List ℕ → Type 0) (modeled answers : Bool) (lines : FeedLines P) (life : Life)
+    (groups : List (List (List ℕ))) (closes : Bool) (old new : FeedState S P Q) : Type 0 where
+  pub rests : IsAtRest shows may_leave new.publisher (shut closes (grown life groups))
+  -- A crash at any moment leaves the committed messages, and all messages of a group or none.
+  pub leaves : LeavesOnly moment left_since old.publisher.durable.storage new.publisher.durable.storage
+      (IsFileLeft closes life groups)
+  -- what was sent on the lines
+  pub datagrams : List (List ℕ)
+  pub sends : modeled ≡ true → SendsOn lines datagrams old.ports.sent new.ports.sent
+  pub so : AllByRecursion (IsTrueNow (shut closes (grown life groups))) datagrams
+  -- What was true stays true.
+  pub later : (datagram : List ℕ) → IsTrueNow life datagram → IsTrueNow (shut closes (grown life groups)) datagram
+  pub replied : HasReplied answers new.publisher.publisher.journal new.publisher.publisher.sent old.server old.requests
+      new.requests
+  pub limits : new.server ≡ record old.server { answered = new.server.answered }
+  pub onward : old.publisher.publisher.sent ≤ new.publisher.publisher.sent
+
+-- Whether the session was closed, if the publisher stopped so.
+abbrev pub closes_at : FeedEnd → FeedStop → Bool
+closes_at end Ended = not end.stays_open
+closes_at end (Refused number refusal) = false
+closes_at end (Other number compared) = false
+
+-- The bytes are a file of the committed messages of this life, or of all messages that the publisher has. If the
+-- session was to be closed, they may be the closed file.
+abbrev pub IsFileNear : {S : Type 0} → Bool → Life → DurablePublisher S → List ℕ → Type 0
+IsFileNear closes life publisher bytes =
+    IsFileUpTo life publisher bytes
+    ⊎ ((closes ≡ true) × SpellsJournal3 life.session life.committed true bytes)
+
+-- The publisher stopped with a fault. Until the state `mid` it went on without one. Then it may have written a group of
+-- messages, or the end of the session, and it sent nothing more.
+pub record HasBroken {S P Q : Type 0} (shows may_leave : S → List ℕ → Type 0) (moment : S → ℕ)
+    (left_since : S → ℕ → List ℕ → Type 0) (modeled answers : Bool) (lines : FeedLines P) (life : Life) (closes : Bool)
+    (old new : FeedState S P Q) : Type 0 where
+  pub mid : FeedState S P Q
+  pub groups : List (List (List ℕ))
+  pub fed : HasFed shows may_leave moment left_since modeled answers lines life groups false old mid
+  pub leaves : LeavesOnly moment left_since mid.publisher.durable.storage new.publisher.durable.storage
+      (IsFileNear closes (grown life groups) new.publisher)
+  pub silent : modeled ≡ true → new.ports.sent ≡ mid.ports.sent
+
+-- The loop has ended with this status. `last` is the last line of a session whose input ended. The text was written: the
+-- number of messages that the journal had, if it existed, and why the loop stopped.
+pub record HasFinished {S P Q : Type 0} (shows may_leave : S → List ℕ → Type 0) (moment : S → ℕ)
+    (left_since : S → ℕ → List ℕ → Type 0) (modeled answers : Bool) (kind : InputKind) (options : FeedOptions P)
+    (last : List ℕ) (life : Life) (old new : FeedState S P Q) (held_old held_new : Option (List ℕ)) (status : ℕ) :
+    Type 0 where
+  -- why the loop stopped
+  pub stop : FeedStop
+  pub groups : List (List (List ℕ))
+  pub fed : HasFed shows may_leave moment left_since modeled answers options.lines life groups
+      (closes_at options.end stop) old new
+  pub ends : status ≡ status_at stop
+  pub said : Appends held_old held_new
+      (first_text options.resumed (length old.publisher.publisher.journal.messages) ++ stop_text kind stop last)

@@ -1,0 +1,78 @@
+//! The bytes of an input that have come, as a source.
+
+ghost use Rattle.std.specs.Prelude.{◌≡◌, ◌≤◌, ◌<◌, min, drop, length, Some, Ok, [], IfOk};
+ghost use Rattle.std.specs.Io.{ReadsAtMost};
+ghost use Rattle.std.specs.Io.KnownBytes.{ReadConsumes};
+ghost use Rattle.mold_devices.specs.Devices.{Counts};
+
+use mold_devices::{DeviceFault, Source};
+use std::alloc::Global;
+use std::marker::Model;
+
+/// The whole entries of an input that have come, as a source that ends after them.
+#[derive(Drop)]
+pub struct Arrived {
+    bytes: Vec<u8>,
+    // The number of these bytes that are read.
+    read: usize,
+}
+
+impl Model for Arrived {
+    ghost use Rattle.std.specs.Prelude.{◌≤◌, ℕ, List, drop, vec_len};
+
+    ghost Value = { List ℕ };
+
+    ghost view = { λ a. drop a.read a.bytes.items };
+
+    ghost invariant = { λ a. a.read ≤ vec_len a.bytes };
+}
+
+impl Arrived {
+    /// Returns a source without bytes.
+    pub(crate) fn new(alloc: Global) -> Arrived
+        ensures { result ≡ [] }
+    {
+        Arrived {
+            bytes: Vec::new(alloc),
+            read: 0,
+        }
+    }
+
+    /// Returns a source of these bytes.
+    pub(crate) fn of(bytes: Vec<u8>) -> Arrived
+        ensures { result ≡ bytes.items }
+    {
+        Arrived { bytes, read: 0 }
+    }
+}
+
+impl Source for Arrived {
+    ghost left = { λ s. Some s };
+
+    ghost bound = { λ s. length s };
+
+    ghost failed = { λ _. 0 };
+
+    fn read(&mut self, buffer: &mut [u8]) -> Result<usize, DeviceFault>
+        // The contract of every source.
+        ensures count { ReadsAtMost result buffer.new }
+        ensures bytes { ReadConsumes (Some self.old) (Some self.new) result buffer.new }
+        ensures bound { IfOk result (λ n. 0 < n → length self.new < length self.old) }
+        ensures kept { length self.new ≤ length self.old }
+        ensures failures { Counts 0 0 result }
+
+        // What this source does in addition.
+        ensures moved { result ≡ Ok (min (length self.old) (length buffer.old)) }
+        ensures left { self.new ≡ drop (length buffer.old) self.old }
+    {
+        let count = (self.bytes.len() - self.read).min(buffer.len());
+        let end = self.read + count;
+        buffer[..count].copy_from_slice(&self.bytes[self.read..end]);
+        self.read = end;
+        Ok(count)
+    }
+
+    fn failures(&self) -> u64 {
+        0
+    }
+}

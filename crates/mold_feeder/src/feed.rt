@@ -1,0 +1,465 @@
+//! A publisher over ports with its requests and its input: what it does in a turn.
+
+ghost use Rattle.std.specs.Prelude.{◌≡◌, ◌≤◌, ◌+◌, ◌++◌, [], ℕ, false, true, IfOk, length, List, not, OnOk};
+ghost use Rattle.std.specs.Io.Iter.{u64_saturate};
+ghost use Rattle.std.specs.Io.KnownBytes.{Appends, IsAtEnd};
+ghost use Rattle.mold_durable.specs.Life.{Life};
+ghost use Rattle.mold_feeder.specs.FeedText.{fed_line, first_text, stop_text};
+ghost use Rattle.mold_feeder.specs.Feeding.{HasFed, IsAtRest, closes_at, state_of};
+ghost use Rattle.mold_feeder.specs.Input.{IsInput, KeepsRest, entries_of_rest};
+ghost use Rattle.mold_wire.specs.declared.limits.TheConstants.{MAX_LIMIT};
+
+use crate::compared::Compared;
+use crate::comparison::compare_all;
+use crate::feed_lines::FeedLines;
+use crate::feed_options::FeedOptions;
+use crate::feed_ports::FeedPorts;
+use crate::feed_stop::FeedStop;
+use crate::feed_text::{push_compared, push_fed, push_resumed};
+use crate::feeder::Feeder;
+use crate::gathered::Gathered;
+use crate::idle_clock::MILLISECOND;
+use crate::piece_input::PieceInput;
+use crate::piece_reader::PieceReader;
+use crate::requests::Requests;
+use mold_devices::{CommandFault, Sink, Source, send};
+use mold_durable::Storage;
+use mold_durable_publisher::laws::told_law;
+use mold_ports::Datagrams;
+use mold_publish::push_message_refused;
+use std::alloc::AllocError;
+
+/// A publisher over ports, the requests that it answers, and its input.
+#[derive(Drop)]
+pub struct Feed<S, L, D, M, K> {
+    /// The publisher.
+    pub feeder: Feeder<S, L>,
+    /// The requests.
+    pub requests: Requests<D>,
+    /// The input.
+    pub input: PieceInput<M, K>,
+}
+
+impl<
+    S: Storage + Drop,
+    L: FeedPorts + Drop,
+    D: Datagrams + Drop,
+    M: PieceReader,
+    K: Source + Drop,
+> Feed<S, L, D, M, K> {
+    // Returns the time at which something has to be sent, if no request and no more input comes.
+    fn due(&self) -> u64 {
+        if self.feeder.publisher.unsent() > 0 {
+            return self.feeder.pace.opens().min(self.feeder.idle.due());
+        }
+        self.feeder.idle.due()
+    }
+
+    // Waits until something has to be sent, a request has come, or the input has bytes. If all messages were sent and
+    // no entry has come, it then reads a piece of the input. It does not wait if an entry can be taken.
+    fn pause(&mut self) -> Result<(), CommandFault>
+        requires input { IsInput M.unread K.left self.old.input }
+        ensures input { OnOk result (IsInput M.unread K.left self.new.input) }
+        ensures rest { OnOk result (KeepsRest (entries_of_rest M.unread K.left M.entries self.old.input)
+            (entries_of_rest M.unread K.left M.entries self.new.input)) }
+        ensures feeder { self.new.feeder ≡ record self.old.feeder { ports = self.new.feeder.ports } }
+        ensures sent { L.modeled ≡ true →
+            (L.state self.new.feeder.ports).sent ≡ (L.state self.old.feeder.ports).sent }
+        ensures requests { self.new.requests ≡ self.old.requests }
+    {
+        let idle = self.feeder.publisher.unsent() == 0;
+        let until = if idle && self.input.is_ready() {
+            0
+        } else {
+            self.due()
+        };
+        let lacks = idle && self.input.lacks();
+        // If the wait fails, a read waits in its place.
+        let came = match self.feeder.ports.wait_for_input(until, lacks) {
+            Ok(came) => came,
+            Err(_) => true,
+        };
+        if lacks && came {
+            self.input.pull()?;
+        }
+        Ok(())
+    }
+
+    // Answers a request, if one has come, and sends what has to be sent now.
+    fn serve(&mut self, lines: &FeedLines<L::Peer>, buffer: &mut [u8])
+        requires longest { self.old.feeder.publisher.publisher.journal.max_message
+            ≤ self.old.requests.server.max_message }
+        requires buffer { length buffer.old ≡ MAX_LIMIT }
+        ensures fed { (life : Life) → IsAtRest S.shows S.may_leave self.old.feeder.publisher life →
+            HasFed S.shows S.may_leave S.moment S.left_since L.modeled D.modeled lines.now life [] false
+            (state_of L.state D.port self.old) (state_of L.state D.port self.new) }
+        ensures journal { self.new.feeder.publisher.publisher.journal ≡ self.old.feeder.publisher.publisher.journal }
+        ensures storage { self.new.feeder.publisher.durable ≡ self.old.feeder.publisher.durable }
+        ensures longest { self.new.feeder.publisher.publisher.journal.max_message
+            ≤ self.new.requests.server.max_message }
+        ensures input { self.new.input ≡ self.old.input }
+        ensures buffer { length buffer.new ≡ MAX_LIMIT }
+    {
+        self.requests.answer_waiting(&self.feeder.publisher, buffer);
+        self.feeder.send_due(lines);
+    }
+
+    // Takes a group of the entries that have come, if all messages were sent. Before and after it, it does what `serve`
+    // does.
+    fn take(
+        &mut self,
+        lines: &FeedLines<L::Peer>,
+        buffer: &mut [u8],
+    ) -> Result<Option<Gathered>, CommandFault>
+        requires longest { self.old.feeder.publisher.publisher.journal.max_message
+            ≤ self.old.requests.server.max_message }
+        requires buffer { length buffer.old ≡ MAX_LIMIT }
+        ensures fed { (life : Life) → IsAtRest S.shows S.may_leave self.old.feeder.publisher life → OnOk result
+            ((groups : List (List (List ℕ)))
+            × HasFed S.shows S.may_leave S.moment S.left_since L.modeled D.modeled lines.now life groups false
+            (state_of L.state D.port self.old) (state_of L.state D.port self.new)) }
+        ensures longest { self.new.feeder.publisher.publisher.journal.max_message
+            ≤ self.new.requests.server.max_message }
+        ensures input { self.new.input ≡ record self.old.input { come = self.new.input.come } }
+        ensures buffer { length buffer.new ≡ MAX_LIMIT }
+    {
+        told_law();
+        self.input.come.ready = true;
+        self.feeder
+            .turn(lines, &mut self.requests, &mut self.input.come, buffer)
+    }
+
+    // Notes that all entries that have come were taken, if `taken` states it.
+    fn note(&mut self, taken: Option<Gathered>) -> Result<(), CommandFault>
+        requires ready { self.old.input.ready ≡ true }
+        requires over { self.old.input.ended ≡ true →
+            (self.old.input.part.items ≡ []) × IsAtEnd (K.left self.old.input.source) }
+        ensures input { OnOk result (IsInput M.unread K.left self.new.input) }
+        ensures feeder { self.new.feeder ≡ self.old.feeder }
+        ensures requests { self.new.requests ≡ self.old.requests }
+    {
+        if let Some(Gathered::End) = taken {
+            self.input.note_taken()?;
+        }
+        Ok(())
+    }
+
+    // Makes a pause and a turn.
+    fn turn(
+        &mut self,
+        lines: &FeedLines<L::Peer>,
+        buffer: &mut [u8],
+    ) -> Result<Option<Gathered>, CommandFault>
+        requires longest { self.old.feeder.publisher.publisher.journal.max_message
+            ≤ self.old.requests.server.max_message }
+        requires input { IsInput M.unread K.left self.old.input }
+        requires buffer { length buffer.old ≡ MAX_LIMIT }
+        ensures fed { (life : Life) → IsAtRest S.shows S.may_leave self.old.feeder.publisher life → OnOk result
+            ((groups : List (List (List ℕ)))
+            × HasFed S.shows S.may_leave S.moment S.left_since L.modeled D.modeled lines.now life groups false
+            (state_of L.state D.port self.old) (state_of L.state D.port self.new)) }
+        ensures longest { OnOk result (self.new.feeder.publisher.publisher.journal.max_message
+            ≤ self.new.requests.server.max_message) }
+        ensures input { OnOk result (IsInput M.unread K.left self.new.input) }
+        ensures buffer { OnOk result (length buffer.new ≡ MAX_LIMIT) }
+    {
+        self.pause()?;
+        if !self.input.is_ready() {
+            self.serve(lines, buffer);
+            return Ok(None);
+        }
+        let taken = self.take(lines, buffer)?;
+        self.note(taken)?;
+        Ok(taken)
+    }
+
+    // Returns why the input was taken no further, or `None` if more may be taken.
+    fn stop_of(&self, taken: Option<Gathered>) -> Option<Gathered> {
+        match taken {
+            Some(Gathered::Refused { refusal }) => Some(Gathered::Refused { refusal }),
+            Some(Gathered::End) if self.input.is_over() => Some(Gathered::End),
+            _ => None,
+        }
+    }
+
+    // Publishes the messages of the input until it ends or an entry is refused.
+    fn publish(
+        &mut self,
+        lines: &FeedLines<L::Peer>,
+        buffer: &mut [u8],
+    ) -> Result<Gathered, CommandFault>
+        requires longest { self.old.feeder.publisher.publisher.journal.max_message
+            ≤ self.old.requests.server.max_message }
+        requires input { IsInput M.unread K.left self.old.input }
+        requires buffer { length buffer.old ≡ MAX_LIMIT }
+        ensures fed { (life : Life) → IsAtRest S.shows S.may_leave self.old.feeder.publisher life → OnOk result
+            ((groups : List (List (List ℕ)))
+            × HasFed S.shows S.may_leave S.moment S.left_since L.modeled D.modeled lines.now life groups false
+            (state_of L.state D.port self.old) (state_of L.state D.port self.new)) }
+        ensures longest { OnOk result (self.new.feeder.publisher.publisher.journal.max_message
+            ≤ self.new.requests.server.max_message) }
+        ensures buffer { OnOk result (length buffer.new ≡ MAX_LIMIT) }
+    {
+        for _ in 0..u64::MAX {
+            let taken = self.turn(lines, buffer)?;
+            if let Some(gathered) = self.stop_of(taken) {
+                return Ok(gathered);
+            }
+        }
+        Err(CommandFault::Read)
+    }
+
+    // Compares the entries that have come with the journal's messages from number `number` on. Returns the number at
+    // which it stopped and how.
+    fn compare_ready(&mut self, number: u64) -> Result<(u64, Compared), CommandFault>
+        requires some { 1 ≤ number }
+        requires within { number ≤ length self.old.feeder.publisher.publisher.journal.messages + 1 }
+        ensures input { self.new.input ≡ record self.old.input { come = self.new.input.come } }
+        ensures feeder { self.new.feeder ≡ self.old.feeder }
+        ensures requests { self.new.requests ≡ self.old.requests }
+        ensures within { IfOk result (λ found. (1 ≤ found.0)
+            × (found.0 ≤ length self.old.feeder.publisher.publisher.journal.messages + 1)) }
+    {
+        let journal = self.feeder.publisher.journal();
+        let come = &mut self.input.come;
+        Ok(compare_all(journal, number, &mut come.messages, &mut come.source)?)
+    }
+
+    // Compares the entries that have come with the journal's messages from number `number` on. Returns the number at
+    // which it stopped and how. `End` means that no entry has come after those that are the same.
+    fn compare_some(&mut self, number: u64) -> Result<(u64, Compared), CommandFault>
+        requires input { IsInput M.unread K.left self.old.input }
+        requires some { 1 ≤ number }
+        requires within { number ≤ length self.old.feeder.publisher.publisher.journal.messages + 1 }
+        ensures input { OnOk result (IsInput M.unread K.left self.new.input) }
+        ensures feeder { self.new.feeder ≡ self.old.feeder }
+        ensures requests { self.new.requests ≡ self.old.requests }
+        ensures within { IfOk result (λ found. (1 ≤ found.0)
+            × (found.0 ≤ length self.old.feeder.publisher.publisher.journal.messages + 1)) }
+    {
+        if !self.input.is_ready() {
+            return Ok((number, Compared::End));
+        }
+        let (at, compared) = self.compare_ready(number)?;
+        let taken = match compared {
+            Compared::End => Some(Gathered::End),
+            _ => None,
+        };
+        self.note(taken)?;
+        Ok((at, compared))
+    }
+
+    // Whether the comparison goes on after entries that have come were compared so.
+    fn compares_on(&self, compared: Compared) -> bool {
+        matches!(compared, Compared::End) && !self.input.is_over()
+    }
+
+    // Compares the input with the journal's messages, while it comes. Returns the number at which it stopped and how.
+    fn compare(
+        &mut self,
+        lines: &FeedLines<L::Peer>,
+        buffer: &mut [u8],
+    ) -> Result<(u64, Compared), CommandFault>
+        requires longest { self.old.feeder.publisher.publisher.journal.max_message
+            ≤ self.old.requests.server.max_message }
+        requires input { IsInput M.unread K.left self.old.input }
+        requires buffer { length buffer.old ≡ MAX_LIMIT }
+        ensures fed { (life : Life) → IsAtRest S.shows S.may_leave self.old.feeder.publisher life → OnOk result
+            (HasFed S.shows S.may_leave S.moment S.left_since L.modeled D.modeled lines.now life [] false
+            (state_of L.state D.port self.old) (state_of L.state D.port self.new)) }
+        ensures longest { OnOk result (self.new.feeder.publisher.publisher.journal.max_message
+            ≤ self.new.requests.server.max_message) }
+        ensures input { OnOk result (IsInput M.unread K.left self.new.input) }
+        ensures buffer { OnOk result (length buffer.new ≡ MAX_LIMIT) }
+    {
+        let mut number = 1;
+        for _ in 0..u64::MAX {
+            self.pause()?;
+            self.serve(lines, buffer);
+            let (at, compared) = self.compare_some(number)?;
+            if !self.compares_on(compared) {
+                return Ok((at, compared));
+            }
+            number = at;
+        }
+        Err(CommandFault::Read)
+    }
+
+    // Waits until something has to be sent, a request has come or, if all messages were sent, it is the time `latest`.
+    fn doze(&mut self, latest: u64)
+        ensures feeder { self.new.feeder ≡ record self.old.feeder { ports = self.new.feeder.ports } }
+        ensures sent { L.modeled ≡ true →
+            (L.state self.new.feeder.ports).sent ≡ (L.state self.old.feeder.ports).sent }
+        ensures requests { self.new.requests ≡ self.old.requests }
+        ensures input { self.new.input ≡ self.old.input }
+    {
+        let due = self.due();
+        let until = if self.feeder.publisher.unsent() > 0 {
+            due
+        } else {
+            due.min(latest)
+        };
+        let _ = self.feeder.ports.wait_for_input(until, false);
+    }
+
+    // Serves until all messages were sent and it is the time `until`.
+    fn serve_until(
+        &mut self,
+        lines: &FeedLines<L::Peer>,
+        until: u64,
+        buffer: &mut [u8],
+    ) -> Result<(), CommandFault>
+        requires longest { self.old.feeder.publisher.publisher.journal.max_message
+            ≤ self.old.requests.server.max_message }
+        requires buffer { length buffer.old ≡ MAX_LIMIT }
+        ensures fed { (life : Life) → IsAtRest S.shows S.may_leave self.old.feeder.publisher life →
+            HasFed S.shows S.may_leave S.moment S.left_since L.modeled D.modeled lines.now life [] false
+            (state_of L.state D.port self.old) (state_of L.state D.port self.new) }
+        ensures journal { self.new.feeder.publisher.publisher.journal ≡ self.old.feeder.publisher.publisher.journal }
+        ensures sent { OnOk result (length self.new.feeder.publisher.publisher.journal.messages
+            ≤ self.new.feeder.publisher.publisher.sent) }
+        ensures longest { self.new.feeder.publisher.publisher.journal.max_message
+            ≤ self.new.requests.server.max_message }
+        ensures input { self.new.input ≡ self.old.input }
+        ensures buffer { length buffer.new ≡ MAX_LIMIT }
+    {
+        for _ in 0..u64::MAX {
+            if self.feeder.publisher.unsent() == 0 && until <= self.feeder.ports.now() {
+                return Ok(());
+            }
+            self.doze(until);
+            self.serve(lines, buffer);
+        }
+        Err(CommandFault::Read)
+    }
+
+    // Ends the session, and serves for the time that the options state. All messages must have been sent.
+    fn end(&mut self, options: &FeedOptions<L::Peer>, buffer: &mut [u8]) -> Result<(), CommandFault>
+        requires longest { self.old.feeder.publisher.publisher.journal.max_message
+            ≤ self.old.requests.server.max_message }
+        requires buffer { length buffer.old ≡ MAX_LIMIT }
+        requires sent { length self.old.feeder.publisher.publisher.journal.messages
+            ≤ self.old.feeder.publisher.publisher.sent }
+        ensures fed { (life : Life) → IsAtRest S.shows S.may_leave self.old.feeder.publisher life → OnOk result
+            (HasFed S.shows S.may_leave S.moment S.left_since L.modeled D.modeled options.now.lines life []
+            (not options.now.end.stays_open) (state_of L.state D.port self.old) (state_of L.state D.port self.new)) }
+    {
+        told_law();
+        self.feeder.end(&options.lines, options.end)?;
+        let now = self.feeder.ports.now();
+        self.feeder.idle.note(now);
+        let until = now + u64::from(options.linger) * MILLISECOND;
+        self.serve_until(&options.lines, until, buffer)
+    }
+
+    // Publishes what the input has after the journal's messages. `begun` is the number of messages that came before the
+    // first entry of the input. Ends the session if the input ends.
+    fn publish_all(
+        &mut self,
+        begun: u64,
+        options: &FeedOptions<L::Peer>,
+        buffer: &mut [u8],
+    ) -> Result<FeedStop, CommandFault>
+        requires longest { self.old.feeder.publisher.publisher.journal.max_message
+            ≤ self.old.requests.server.max_message }
+        requires input { IsInput M.unread K.left self.old.input }
+        requires buffer { length buffer.old ≡ MAX_LIMIT }
+        ensures fed { (life : Life) → IsAtRest S.shows S.may_leave self.old.feeder.publisher life → IfOk result (λ stop.
+            (groups : List (List (List ℕ)))
+            × HasFed S.shows S.may_leave S.moment S.left_since L.modeled D.modeled options.now.lines life groups
+            (closes_at options.now.end stop) (state_of L.state D.port self.old) (state_of L.state D.port self.new)) }
+    {
+        let gathered = self.publish(&options.lines, buffer)?;
+        self.serve_until(&options.lines, 0, buffer)?;
+        if let Gathered::Refused { refusal } = gathered {
+            let number = self.feeder.publisher.journal().next().saturating_sub(begun);
+            return Ok(FeedStop::Refused { number, refusal });
+        }
+        self.end(options, buffer)?;
+        Ok(FeedStop::Ended)
+    }
+
+    /// Compares the input with the journal's messages, unless it continues after them, and publishes the messages after
+    /// those. Ends the session if the input ends. Returns why it ended. `buffer` has `MAX_LIMIT` bytes.
+    pub(crate) fn run(
+        &mut self,
+        options: &FeedOptions<L::Peer>,
+        buffer: &mut [u8],
+    ) -> Result<FeedStop, CommandFault>
+        requires longest { self.old.feeder.publisher.publisher.journal.max_message
+            ≤ self.old.requests.server.max_message }
+        requires input { IsInput M.unread K.left self.old.input }
+        requires buffer { length buffer.old ≡ MAX_LIMIT }
+        ensures fed { (life : Life) → IsAtRest S.shows S.may_leave self.old.feeder.publisher life → IfOk result (λ stop.
+            (groups : List (List (List ℕ)))
+            × HasFed S.shows S.may_leave S.moment S.left_since L.modeled D.modeled options.now.lines life groups
+            (closes_at options.now.end stop) (state_of L.state D.port self.old) (state_of L.state D.port self.new)) }
+    {
+        if options.appends {
+            let begun = self.feeder.publisher.journal().next() - 1;
+            return self.publish_all(begun, options, buffer);
+        }
+        let (number, compared) = self.compare(&options.lines, buffer)?;
+        if !matches!(compared, Compared::Same) {
+            return Ok(FeedStop::Other { number, compared });
+        }
+        self.publish_all(0, options, buffer)
+    }
+
+    // Appends the line that is printed last. If an allocation fails, a part of it may follow the earlier text.
+    pub(crate) fn push_stop(&self, out: &mut Vec<u8>, stop: FeedStop) -> Result<(), AllocError>
+        ensures text { OnOk result (out.new.items ≡ out.old.items ++ stop_text M.input_kind stop
+            (fed_line (length self.now.feeder.publisher.publisher.journal.messages) self.now.feeder.datagrams
+            self.now.requests.answered
+            (u64_saturate ((L.state self.now.feeder.ports).failures + (D.port self.now.requests.port).failures)))) }
+    {
+        match stop {
+            FeedStop::Other { number, compared } => push_compared(out, M::kind(), number, compared),
+            FeedStop::Refused { number, refusal } => push_message_refused(out, number, refusal),
+            FeedStop::Ended => {
+                let messages = self.feeder.publisher.journal().next() - 1;
+                let failed = self
+                    .feeder
+                    .ports
+                    .failures()
+                    .saturating_add(self.requests.port.failures());
+                push_fed(
+                    out,
+                    messages,
+                    self.feeder.datagrams,
+                    self.requests.answered,
+                    failed,
+                )
+            }
+        }
+    }
+
+    // If the journal existed, prints the number of its messages, and sends a heartbeat or an end packet.
+    pub(crate) fn begin<O: Sink>(
+        &mut self,
+        options: &FeedOptions<L::Peer>,
+        text: &mut Vec<u8>,
+        sink: &mut O,
+    ) -> Result<(), CommandFault>
+        requires empty { text.old.items ≡ [] }
+        requires longest { self.old.feeder.publisher.publisher.journal.max_message
+            ≤ self.old.requests.server.max_message }
+        ensures fed { (life : Life) → IsAtRest S.shows S.may_leave self.old.feeder.publisher life → OnOk result
+            (HasFed S.shows S.may_leave S.moment S.left_since L.modeled D.modeled options.now.lines life [] false
+            (state_of L.state D.port self.old) (state_of L.state D.port self.new)) }
+        ensures said { OnOk result (Appends (O.held sink.old) (O.held sink.new)
+            (first_text options.now.resumed (length self.old.feeder.publisher.publisher.journal.messages))) }
+        ensures empty { OnOk result (text.new.items ≡ []) }
+        ensures longest { self.new.feeder.publisher.publisher.journal.max_message
+            ≤ self.new.requests.server.max_message }
+        ensures input { self.new.input ≡ self.old.input }
+    {
+        if !options.resumed {
+            return Ok(());
+        }
+        push_resumed(text, self.feeder.publisher.journal().next() - 1)?;
+        send(sink, text)?;
+        self.feeder.send_beat(&options.lines);
+        Ok(())
+    }
+}

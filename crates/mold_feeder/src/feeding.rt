@@ -1,0 +1,82 @@
+//! The loop of a publisher over ports.
+
+ghost use Rattle.std.specs.Prelude.{◌≡◌, ◌≤◌, ◌+◌, length, IfOk};
+ghost use Rattle.std.specs.Io.Iter.{u64_saturate};
+ghost use Rattle.mold_durable.specs.Life.{Life};
+ghost use Rattle.mold_feeder.specs.FeedText.{fed_line, status_at};
+ghost use Rattle.mold_feeder.specs.Feeding.{HasFinished, IsAtRest, state_of};
+ghost use Rattle.mold_feeder.specs.Input.{IsInput};
+
+use crate::feed::Feed;
+use crate::feed_options::FeedOptions;
+use crate::feed_ports::FeedPorts;
+use crate::feed_stop::FeedStop;
+use crate::piece_reader::PieceReader;
+use mold_devices::{CommandFault, Sink, Source, send};
+use mold_durable::Storage;
+use mold_ports::Datagrams;
+use mold_wire::MAX_LIMIT;
+use std::alloc::Global;
+
+// The status of a publisher whose input is refused.
+const REFUSED: u8 = 2;
+
+// Returns the status of a publisher that stopped so.
+fn status_of(stop: FeedStop) -> u8
+    ensures { result ≡ status_at stop }
+{
+    match stop {
+        FeedStop::Ended => 0,
+        FeedStop::Refused { .. } => REFUSED,
+        FeedStop::Other { .. } => REFUSED,
+    }
+}
+
+/// Publishes the messages of an input, and answers requests meanwhile.
+///
+/// If the journal existed, it first prints `resumed` with the number of its messages, and sends a heartbeat or an end
+/// packet. Unless the input continues after these messages, its first entries have to be them. Requests are answered
+/// while they are compared.
+///
+/// Then it reads the input in pieces of at most 65,536 bytes. The messages that are whole in a piece are committed
+/// together, or in groups if the rate is bounded, and then sent, before the next piece is waited for. At least one
+/// request that waits is answered after each piece. A heartbeat or an end packet is sent when the lines are idle.
+///
+/// At the end of the input the session is ended as the options state, and requests are answered for `linger`
+/// milliseconds. Then it prints the last line, and the status is 0. If an entry is refused, the messages before it are
+/// committed and sent, the refusal is printed, and the status is 2. The journal then stays open.
+///
+/// If a wait fails, it reads the input without waiting for it first, if it lacks entries. The fault is `Read` if a read
+/// of the input failed, or after 18446744073709551615 turns. It is `Write` if the journal or `sink` could not be
+/// written.
+pub fn feed_loop<
+    S: Storage + Drop,
+    L: FeedPorts + Drop,
+    D: Datagrams + Drop,
+    M: PieceReader,
+    K: Source + Drop,
+    O: Sink,
+>(
+    alloc: Global,
+    feed: &mut Feed<S, L, D, M, K>,
+    options: &FeedOptions<L::Peer>,
+    sink: &mut O,
+) -> Result<u8, CommandFault>
+    requires longest { feed.old.feeder.publisher.publisher.journal.max_message
+        ≤ feed.old.requests.server.max_message }
+    requires input { IsInput M.unread K.left feed.old.input }
+    ensures finished { (life : Life) → IsAtRest S.shows S.may_leave feed.old.feeder.publisher life → IfOk result
+        (HasFinished S.shows S.may_leave S.moment S.left_since L.modeled D.modeled M.input_kind options.now
+        (fed_line (length feed.new.feeder.publisher.publisher.journal.messages) feed.new.feeder.datagrams
+        feed.new.requests.answered
+        (u64_saturate ((L.state feed.new.feeder.ports).failures + (D.port feed.new.requests.port).failures)))
+        life (state_of L.state D.port feed.old) (state_of L.state D.port feed.new) (O.held sink.old) (O.held sink.new)) }
+{
+    let mut buffer = vec![in alloc; 0; MAX_LIMIT]?;
+    let mut text = Vec::new(alloc);
+    feed.begin(options, &mut text, sink)?;
+    let stop = feed.run(options, buffer.as_mut_slice())?;
+    feed.push_stop(&mut text, stop)?;
+    send(sink, &mut text)?;
+    Ok(status_of(stop))
+}

@@ -1,0 +1,141 @@
+//! An input that comes in pieces.
+
+ghost use Rattle.std.specs.Prelude.{◌≡◌, ◌&&◌, ◌≤◌, ◌++◌, [], false, true, drop, length, take, not, IfOk, OnOk};
+ghost use Rattle.mold_feeder.specs.Input.{IsInput, KeepsRest, bytes_come, entries_after, entries_of_rest};
+ghost use Rattle.mold_input.specs.Entries.{known_entries};
+
+use crate::arrived::Arrived;
+use crate::feed_input::FeedInput;
+use crate::piece_reader::PieceReader;
+use mold_devices::{Piece, ReadFault, Source};
+use std::alloc::{AllocError, Global};
+use std::mem;
+
+/// The greatest number of bytes of a piece.
+const PIECE: usize = 65536;
+
+/// An input that comes in pieces: what has come of it, and the source of the next piece.
+#[derive(Drop)]
+pub struct PieceInput<M, K> {
+    alloc: Global,
+    /// The whole entries that have come.
+    pub come: FeedInput<M, Arrived>,
+    // The part of the next entry that has come.
+    part: Vec<u8>,
+    // What the pieces are read from.
+    source: K,
+    piece: Box<Piece<PIECE>>,
+    // Whether an entry that has come may remain, or the input has ended.
+    ready: bool,
+    // Whether the source has ended.
+    ended: bool,
+}
+
+// Takes the first `count` bytes of the part, and leaves the others. After an error the bytes are lost.
+fn split_part(part: &mut Vec<u8>, count: usize, alloc: Global) -> Result<Vec<u8>, AllocError>
+    requires { count ≤ length part.old.items }
+    ensures whole { IfOk result (λ whole. whole.items ≡ take count part.old.items) }
+    ensures part { OnOk result (part.new.items ≡ drop count part.old.items) }
+{
+    let mut whole = mem::replace(part, Vec::new(alloc));
+    part.extend_from_slice(&whole[count..])?;
+    whole.truncate(count);
+    Ok(whole)
+}
+
+impl<M: PieceReader, K: Source + Drop> PieceInput<M, K> {
+    /// Returns the input that this source gives. It fails if the allocation of its buffers fails.
+    pub fn new(alloc: Global, source: K) -> Result<PieceInput<M, K>, AllocError>
+        ensures input { IfOk result (IsInput M.unread K.left) }
+        ensures rest { IfOk result (λ input.
+            entries_of_rest M.unread K.left M.entries input ≡ known_entries M.entries (K.left source)) }
+    {
+        M::empty_law();
+        let come = FeedInput {
+            messages: M::new(alloc)?,
+            source: Arrived::new(alloc),
+            ready: false,
+        };
+        Ok(PieceInput {
+            alloc,
+            come,
+            part: Vec::new(alloc),
+            source,
+            piece: Box::new(alloc, Piece::new())?,
+            ready: false,
+            ended: false,
+        })
+    }
+
+    /// Returns whether an entry that has come may remain, or the input has ended.
+    pub(crate) fn is_ready(&self) -> bool
+        ensures { result ≡ self.now.ready }
+    {
+        self.ready
+    }
+
+    /// Returns whether all entries that have come were taken, and the input has not ended.
+    pub(crate) fn lacks(&self) -> bool
+        ensures { result ≡ (not self.now.ready && not self.now.ended) }
+    {
+        !self.ready && !self.ended
+    }
+
+    /// Returns whether all entries that have come were taken, and the input has ended.
+    pub(crate) fn is_over(&self) -> bool
+        ensures { result ≡ (not self.now.ready && self.now.ended) }
+    {
+        !self.ready && self.ended
+    }
+
+    // Adds what the piece has to what has come.
+    fn add_piece(&mut self) -> Result<(), AllocError>
+        requires { self.old.come.source ≡ [] }
+        ensures split { OnOk result (
+            entries_after M.entries (M.entries self.new.come.source) self.new.part.items (K.left self.new.source)
+            ≡ entries_after M.entries [] (self.old.part.items ++ self.old.piece.value) (K.left self.old.source)) }
+        ensures rest { self.new ≡ record self.old { come = self.new.come; part = self.new.part } }
+        ensures messages { self.new.come.messages ≡ self.old.come.messages }
+    {
+        let from = self.part.len();
+        self.part.extend_from_slice(self.piece.rest())?;
+        let count = M::whole(self.part.as_slice(), from);
+        let whole = split_part(&mut self.part, count, self.alloc)?;
+        self.come.source = Arrived::of(whole);
+        Ok(())
+    }
+
+    /// Reads the next piece: at most 65,536 bytes, as many as the source gives. At the end of the input, the part of an
+    /// entry that has come is the last entry.
+    pub(crate) fn pull(&mut self) -> Result<(), ReadFault>
+        requires input { IsInput M.unread K.left self.old }
+        requires lacks { (not self.old.ready && not self.old.ended) ≡ true }
+        ensures input { OnOk result (IsInput M.unread K.left self.new) }
+        ensures rest { OnOk result (KeepsRest (entries_of_rest M.unread K.left M.entries self.old)
+            (entries_of_rest M.unread K.left M.entries self.new)) }
+    {
+        M::empty_law();
+        let count = self.piece.refill(&mut self.source)?;
+        self.ready = true;
+        if count == 0 {
+            self.ended = true;
+            let last = mem::replace(&mut self.part, Vec::new(self.alloc));
+            self.come.source = Arrived::of(last);
+            return Ok(());
+        }
+        self.add_piece()?;
+        Ok(())
+    }
+
+    /// Notes that all entries that have come were taken. It fails if an allocation fails.
+    pub(crate) fn note_taken(&mut self) -> Result<(), AllocError>
+        ensures taken { OnOk result (bytes_come M.unread K.left self.new ≡ []) }
+        ensures ready { OnOk result (self.new.ready ≡ false) }
+        ensures same { self.new ≡ record self.old { come = self.new.come; ready = self.new.ready } }
+    {
+        self.come.messages = M::new(self.alloc)?;
+        self.come.source = Arrived::new(self.alloc);
+        self.ready = false;
+        Ok(())
+    }
+}
