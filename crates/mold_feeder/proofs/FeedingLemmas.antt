@@ -1,14 +1,13 @@
 -- What a publisher over ports has done so far.
 use Rattle.std.proofs.Common.{arith, ◌≡◌, ◌∙◌, inl, inr, ℕ, ◌≤◌, Bool, cond, not, true, false, List, [], ◌∷◌, ◌++◌, length, take}
 use Rattle.std.proofs.Common.{Option, None, Some, Result, Ok, Err, ap, refl, sym, subst, append_assoc, append-nil}
-use Rattle.std.proofs.Common.{length-append, ◌-◌}
 use Rattle.std.proofs.lemmas.List.{take-append-le}
 use Rattle.std.specs.Prelude.{IfOk, OnOk}
 use Rattle.std.specs.Io.KnownBytes.{Appends}
 use Rattle.std.proofs.KnownBytes.{Appends-trans}
 use Rattle.std.specs.List.{AllByRecursion}
 use Rattle.mold_durable.specs.DurableJournal.{DurableState}
-use Rattle.mold_durable.specs.Life.{IsFileOf, Life, Moment, after as after_moment}
+use Rattle.mold_durable.specs.Life.{Life, Moment, after as after_moment}
 use Rattle.mold_durable.specs.Life.Moment.{Close, Commit}
 use Rattle.mold_durable.specs.Storage.{LeavesOnly}
 use Rattle.mold_durable_publisher.specs.DurablePublisher.{Publishes}
@@ -16,7 +15,6 @@ use Rattle.mold_durable_publisher.specs.Told.{IsLife, IsTrueNow}
 use Rattle.mold_durable_publisher.specs.declared.durable_publisher.DurablePublisher.{DurablePublisher}
 use Rattle.mold_port_set.specs.PortSet.{PortSetState}
 use Rattle.mold_ports.specs.Ports.{Datagram, Failure, Port, Quiet, Receipt, cut, next_of, received}
-use Rattle.mold_session.specs.Answer.{answer}
 use Rattle.mold_session.specs.Journal.{JournalState}
 use Rattle.mold_session.specs.Records.{SpellsJournal3}
 use Rattle.mold_session.specs.Server.{ServerState, checked_request, judged, request_refusal, unless}
@@ -31,7 +29,7 @@ use Rattle.mold_feeder.specs.FeedLines.{SendsOn}
 use Rattle.mold_input.specs.Entries.{InputEntries}
 use Rattle.mold_session.specs.Publisher.{PublisherState, closed}
 use Rattle.mold_feeder.specs.Feeder.{HasEnded, HasSent, HasTurned, IsFileAtEnd, sends_at, sends_at_end}
-use Rattle.mold_feeder.specs.Feeding.{FeedState, HasBroken, HasFed, HasReplied, IsAtRest, IsFileLeft, IsGroupFile, Replies}
+use Rattle.mold_feeder.specs.Feeding.{FeedState, HasFed, HasReplied, IsAtRest, IsFileLeft, Replies}
 use Rattle.mold_feeder.specs.Feeding.{all_of, first_messages, grown, shut}
 use Rattle.mold_feeder.specs.Gathering.{IsFileUpTo, with_committed, with_waiting}
 use Rattle.mold_feeder.specs.Requests.{Offers, RepliesTo, responses, responses_to, sent_journal}

@@ -6,3 +6,4 @@ pub mod GatheringLemmas
 pub mod PieceLemmas
 pub mod InputLemmas
 pub mod FeedingLemmas
+pub mod TakingLemmas

@@ -1,17 +1,17 @@
 -- Which bytes of the pieces of an input are whole entries.
-use Rattle.std.proofs.Common.{arith, ◌≡◌, ◌∙◌, ℕ, zero, suc, ◌+◌, ◌-◌, ◌<◌, ◌≤◌, Bool, cond, true, false, eqb, List, [], ◌∷◌}
+use Rattle.std.proofs.Common.{arith, ◌≡◌, ◌∙◌, ℕ, ◌+◌, ◌-◌, ◌<◌, ◌≤◌, Bool, cond, true, false, eqb, List, [], ◌∷◌}
 use Rattle.std.proofs.Common.{◌++◌, length, length-append, length-drop, take, drop, get_or, Ok, ap, refl, sym, subst, map}
 use Rattle.std.proofs.Common.{append_assoc, inl, inr, min, take_all, take-append-drop, take-suc, take-add, length-take-le, get_or-drop, add-one}
-use Rattle.std.proofs.lemmas.Bool.{cond-true, cond-false, cases_lt, eqb-true}
+use Rattle.std.proofs.lemmas.Bool.{cases_lt, eqb-true}
 use Rattle.std.proofs.lemmas.List.{drop_all, drop-drop, map-append, take-append-le}
 use Rattle.byteorder.specs.Endian.{big_number}
 use Rattle.memchr.specs.Find.{NoneAfter, Nowhere, Passes, is_byte}
 use Rattle.mold_devices.specs.Lines.{HasNoEnd, lines_of, onto_first}
 use Rattle.mold_devices.proofs.LineLemmas.{HasNoEnd-append, none_found}
-use Rattle.mold_input.specs.Blocks.{IsCut, block_entries}
+use Rattle.mold_input.specs.Blocks.{block_entries}
 use Rattle.mold_input.specs.Entries.{Entry, line_entries, line_entry}
-use Rattle.mold_input.proofs.BlockLemmas.{IsWhole, cut_entries, first_entries, first_message, front_entries, no_entries, number_front}
-use Rattle.mold_feeder.specs.Pieces.{AreWhole, IsBlockPart}
+use Rattle.mold_input.proofs.BlockLemmas.{cut_entries, first_entries, first_message, front_entries, no_entries, number_front}
+use Rattle.mold_feeder.specs.Pieces.{AreWhole}
 
 -- ---- lines
 

@@ -7,6 +7,7 @@ use Rattle.mold_durable.specs.Storage.{LeavesOnly}
 use Rattle.mold_durable_publisher.specs.DurablePublisher.{Publishes}
 use Rattle.mold_durable_publisher.specs.Told.{IsTrueNow}
 use Rattle.mold_durable_publisher.specs.declared.durable_publisher.DurablePublisher.{DurablePublisher}
+use Rattle.mold_input.specs.Entries.{Entry}
 use Rattle.mold_input.specs.declared.input_kind.InputKind.{InputKind}
 use Rattle.mold_port_set.specs.PortSet.{PortSetState}
 use Rattle.mold_ports.specs.Ports.{Port, cut, next_of, received}
@@ -18,6 +19,7 @@ use Rattle.mold_feeder.specs.FeedLines.{SendsOn}
 use Rattle.mold_feeder.specs.FeedText.{first_text, status_at, stop_text}
 use Rattle.mold_feeder.specs.Gathering.{IsFileUpTo}
 use Rattle.mold_feeder.specs.Requests.{RepliesTo}
+use Rattle.mold_feeder.specs.Taking.{AllSent, TakesInput, reopened}
 use Rattle.mold_feeder.specs.declared.feed.Feed.{Feed}
 use Rattle.mold_feeder.specs.declared.feed_end.FeedEnd.{FeedEnd}
 use Rattle.mold_feeder.specs.declared.feed_lines.FeedLines.{FeedLines}
@@ -142,17 +144,22 @@ pub record HasBroken {S P Q : Type 0} (shows may_leave : S → List ℕ → Type
       (IsFileNear closes (grown life groups) new.publisher)
   pub silent : modeled ≡ true → new.ports.sent ≡ mid.ports.sent
 
--- The loop has ended with this status. `last` is the last line of a session whose input ended. The text was written: the
+-- The loop has ended with this status. `known` are the entries of its input, if they are known, and `last` is the last
+-- line of a session whose input ended. The text was written: the
 -- number of messages that the journal had, if it existed, and why the loop stopped.
 pub record HasFinished {S P Q : Type 0} (shows may_leave : S → List ℕ → Type 0) (moment : S → ℕ)
     (left_since : S → ℕ → List ℕ → Type 0) (modeled answers : Bool) (kind : InputKind) (options : FeedOptions P)
-    (last : List ℕ) (life : Life) (old new : FeedState S P Q) (held_old held_new : Option (List ℕ)) (status : ℕ) :
+    (last : List ℕ) (known : Option (List Entry)) (life : Life) (old new : FeedState S P Q) (held_old held_new : Option (List ℕ)) (status : ℕ) :
     Type 0 where
   -- why the loop stopped
   pub stop : FeedStop
   pub groups : List (List (List ℕ))
   pub fed : HasFed shows may_leave moment left_since modeled answers options.lines life groups
       (closes_at options.end stop) old new
+  -- which messages were taken from the input
+  pub taken : TakesInput options.appends kind old.publisher.publisher.journal
+      (reopened old.publisher.publisher.journal new.publisher.publisher.journal) known stop
+  pub all : AllSent new.publisher.publisher stop
   pub ends : status ≡ status_at stop
   pub said : Appends held_old held_new
       (first_text options.resumed (length old.publisher.publisher.journal.messages) ++ stop_text kind stop last)

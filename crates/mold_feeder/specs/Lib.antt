@@ -9,3 +9,4 @@ pub mod Gathering
 pub mod Pieces
 pub mod Input
 pub mod Feeding
+pub mod Taking

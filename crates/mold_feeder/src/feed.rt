@@ -1,12 +1,17 @@
 //! A publisher over ports with its requests and its input: what it does in a turn.
 
-ghost use Rattle.std.specs.Prelude.{◌≡◌, ◌≤◌, ◌+◌, ◌++◌, [], ℕ, false, true, IfOk, length, List, not, OnOk};
+ghost use Rattle.std.specs.Prelude.{◌≡◌, ◌≤◌, ◌+◌, ◌++◌, ◌&&◌, [], Some, ℕ, false, true, IfOk, length, List, not, OnOk};
 ghost use Rattle.std.specs.Io.Iter.{u64_saturate};
 ghost use Rattle.std.specs.Io.KnownBytes.{Appends, IsAtEnd};
 ghost use Rattle.mold_durable.specs.Life.{Life};
 ghost use Rattle.mold_feeder.specs.FeedText.{fed_line, first_text, stop_text};
 ghost use Rattle.mold_feeder.specs.Feeding.{HasFed, IsAtRest, closes_at, state_of};
-ghost use Rattle.mold_feeder.specs.Input.{IsInput, KeepsRest, entries_of_rest};
+ghost use Rattle.mold_feeder.specs.Input.{IsInput, KeepsRest, bytes_come, entries_after, entries_of_rest};
+ghost use Rattle.mold_feeder.specs.Gathering.{filled_for};
+ghost use Rattle.mold_feeder.specs.Taking.{ComparesCome, Takes, TakesCome, filled_now, is_end, left_of, stop_at};
+ghost use Rattle.mold_feeder.specs.Taking.{AllSent, IsStop, TakesAfter, TakesInput, is_same, refusal_of, reopened, taken_at};
+ghost use Rattle.mold_feeder.specs.Feeder.{ended};
+ghost use Rattle.mold_feeder.specs.Comparison.{ComparesAll};
 ghost use Rattle.mold_wire.specs.declared.limits.TheConstants.{MAX_LIMIT};
 
 use crate::compared::Compared;
@@ -26,7 +31,7 @@ use mold_devices::{CommandFault, Sink, Source, send};
 use mold_durable::Storage;
 use mold_durable_publisher::laws::told_law;
 use mold_ports::Datagrams;
-use mold_publish::push_message_refused;
+use mold_publish::{MessageRefusal, push_message_refused};
 use std::alloc::AllocError;
 
 /// A publisher over ports, the requests that it answers, and its input.
@@ -118,6 +123,10 @@ impl<
             ((groups : List (List (List ℕ)))
             × HasFed S.shows S.may_leave S.moment S.left_since L.modeled D.modeled lines.now life groups false
             (state_of L.state D.port self.old) (state_of L.state D.port self.new)) }
+        ensures taken { (life : Life) → IsAtRest S.shows S.may_leave self.old.feeder.publisher life → IfOk result
+            (TakesCome M.input_kind self.old.feeder.publisher.publisher.journal self.new.feeder.publisher.publisher.journal
+            (M.entries (bytes_come M.unread K.left self.old.input))
+            (M.entries (bytes_come M.unread K.left self.new.input))) }
         ensures longest { self.new.feeder.publisher.publisher.journal.max_message
             ≤ self.new.requests.server.max_message }
         ensures input { self.new.input ≡ record self.old.input { come = self.new.input.come } }
@@ -135,9 +144,13 @@ impl<
         requires over { self.old.input.ended ≡ true →
             (self.old.input.part.items ≡ []) × IsAtEnd (K.left self.old.input.source) }
         ensures input { OnOk result (IsInput M.unread K.left self.new.input) }
+        ensures rest { OnOk result (entries_of_rest M.unread K.left M.entries self.new.input
+            ≡ entries_after M.entries (left_of taken (M.entries (bytes_come M.unread K.left self.old.input)))
+            self.old.input.part.items (K.left self.old.input.source)) }
         ensures feeder { self.new.feeder ≡ self.old.feeder }
         ensures requests { self.new.requests ≡ self.old.requests }
     {
+        M::empty_law();
         if let Some(Gathered::End) = taken {
             self.input.note_taken()?;
         }
@@ -158,6 +171,10 @@ impl<
             ((groups : List (List (List ℕ)))
             × HasFed S.shows S.may_leave S.moment S.left_since L.modeled D.modeled lines.now life groups false
             (state_of L.state D.port self.old) (state_of L.state D.port self.new)) }
+        ensures taken { (life : Life) → IsAtRest S.shows S.may_leave self.old.feeder.publisher life → IfOk result
+            (λ taken. Takes M.input_kind self.old.feeder.publisher.publisher.journal self.new.feeder.publisher.publisher.journal
+            (entries_of_rest M.unread K.left M.entries self.old.input)
+            (entries_of_rest M.unread K.left M.entries self.new.input) (filled_now taken)) }
         ensures longest { OnOk result (self.new.feeder.publisher.publisher.journal.max_message
             ≤ self.new.requests.server.max_message) }
         ensures input { OnOk result (IsInput M.unread K.left self.new.input) }
@@ -174,11 +191,19 @@ impl<
     }
 
     // Returns why the input was taken no further, or `None` if more may be taken.
-    fn stop_of(&self, taken: Option<Gathered>) -> Option<Gathered> {
+    fn stop_of(&self, taken: Option<Gathered>) -> Option<Gathered>
+        ensures { result ≡ stop_at taken (not self.now.input.ready && self.now.input.ended) }
+    {
         match taken {
             Some(Gathered::Refused { refusal }) => Some(Gathered::Refused { refusal }),
-            Some(Gathered::End) if self.input.is_over() => Some(Gathered::End),
-            _ => None,
+            Some(Gathered::End) => {
+                if self.input.is_over() {
+                    return Some(Gathered::End);
+                }
+                None
+            }
+            Some(Gathered::Full) => None,
+            None => None,
         }
     }
 
@@ -196,10 +221,16 @@ impl<
             ((groups : List (List (List ℕ)))
             × HasFed S.shows S.may_leave S.moment S.left_since L.modeled D.modeled lines.now life groups false
             (state_of L.state D.port self.old) (state_of L.state D.port self.new)) }
+        ensures taken { (life : Life) → IsAtRest S.shows S.may_leave self.old.feeder.publisher life → IfOk result
+            (λ gathered. Takes M.input_kind self.old.feeder.publisher.publisher.journal self.new.feeder.publisher.publisher.journal
+            (entries_of_rest M.unread K.left M.entries self.old.input)
+            (entries_of_rest M.unread K.left M.entries self.new.input) (filled_for gathered)) }
+        ensures stops { IfOk result IsStop }
         ensures longest { OnOk result (self.new.feeder.publisher.publisher.journal.max_message
             ≤ self.new.requests.server.max_message) }
         ensures buffer { OnOk result (length buffer.new ≡ MAX_LIMIT) }
     {
+        M::empty_law();
         for _ in 0..u64::MAX {
             let taken = self.turn(lines, buffer)?;
             if let Some(gathered) = self.stop_of(taken) {
@@ -217,6 +248,9 @@ impl<
         ensures input { self.new.input ≡ record self.old.input { come = self.new.input.come } }
         ensures feeder { self.new.feeder ≡ self.old.feeder }
         ensures requests { self.new.requests ≡ self.old.requests }
+        ensures compared { IfOk result (λ found. ComparesAll self.old.feeder.publisher.publisher.journal number found.0
+            (Some (M.entries (bytes_come M.unread K.left self.old.input)))
+            (Some (M.entries (bytes_come M.unread K.left self.new.input))) found.1) }
         ensures within { IfOk result (λ found. (1 ≤ found.0)
             × (found.0 ≤ length self.old.feeder.publisher.publisher.journal.messages + 1)) }
     {
@@ -234,6 +268,9 @@ impl<
         ensures input { OnOk result (IsInput M.unread K.left self.new.input) }
         ensures feeder { self.new.feeder ≡ self.old.feeder }
         ensures requests { self.new.requests ≡ self.old.requests }
+        ensures compared { IfOk result (λ found. ComparesCome self.old.feeder.publisher.publisher.journal number found.0
+            (entries_of_rest M.unread K.left M.entries self.old.input)
+            (entries_of_rest M.unread K.left M.entries self.new.input) found.1) }
         ensures within { IfOk result (λ found. (1 ≤ found.0)
             × (found.0 ≤ length self.old.feeder.publisher.publisher.journal.messages + 1)) }
     {
@@ -241,17 +278,15 @@ impl<
             return Ok((number, Compared::End));
         }
         let (at, compared) = self.compare_ready(number)?;
-        let taken = match compared {
-            Compared::End => Some(Gathered::End),
-            _ => None,
-        };
-        self.note(taken)?;
+        self.note(taken_at(compared))?;
         Ok((at, compared))
     }
 
     // Whether the comparison goes on after entries that have come were compared so.
-    fn compares_on(&self, compared: Compared) -> bool {
-        matches!(compared, Compared::End) && !self.input.is_over()
+    fn compares_on(&self, compared: Compared) -> bool
+        ensures { result ≡ (is_end compared && not (not self.now.input.ready && self.now.input.ended)) }
+    {
+        is_end(compared) && !self.input.is_over()
     }
 
     // Compares the input with the journal's messages, while it comes. Returns the number at which it stopped and how.
@@ -267,11 +302,16 @@ impl<
         ensures fed { (life : Life) → IsAtRest S.shows S.may_leave self.old.feeder.publisher life → OnOk result
             (HasFed S.shows S.may_leave S.moment S.left_since L.modeled D.modeled lines.now life [] false
             (state_of L.state D.port self.old) (state_of L.state D.port self.new)) }
+        ensures compared { IfOk result (λ found. ComparesAll self.old.feeder.publisher.publisher.journal 1 found.0
+            (entries_of_rest M.unread K.left M.entries self.old.input)
+            (entries_of_rest M.unread K.left M.entries self.new.input) found.1) }
+        ensures journal { OnOk result (self.new.feeder.publisher.publisher.journal ≡ self.old.feeder.publisher.publisher.journal) }
         ensures longest { OnOk result (self.new.feeder.publisher.publisher.journal.max_message
             ≤ self.new.requests.server.max_message) }
         ensures input { OnOk result (IsInput M.unread K.left self.new.input) }
         ensures buffer { OnOk result (length buffer.new ≡ MAX_LIMIT) }
     {
+        M::empty_law();
         let mut number = 1;
         for _ in 0..u64::MAX {
             self.pause()?;
@@ -343,6 +383,9 @@ impl<
         ensures fed { (life : Life) → IsAtRest S.shows S.may_leave self.old.feeder.publisher life → OnOk result
             (HasFed S.shows S.may_leave S.moment S.left_since L.modeled D.modeled options.now.lines life []
             (not options.now.end.stays_open) (state_of L.state D.port self.old) (state_of L.state D.port self.new)) }
+        ensures journal { OnOk result (self.new.feeder.publisher.publisher.journal
+            ≡ (ended options.now.end self.old.feeder.publisher.publisher).journal) }
+        ensures sent { OnOk result (length self.new.feeder.publisher.publisher.journal.messages ≤ self.new.feeder.publisher.publisher.sent) }
     {
         told_law();
         self.feeder.end(&options.lines, options.end)?;
@@ -368,10 +411,14 @@ impl<
             (groups : List (List (List ℕ)))
             × HasFed S.shows S.may_leave S.moment S.left_since L.modeled D.modeled options.now.lines life groups
             (closes_at options.now.end stop) (state_of L.state D.port self.old) (state_of L.state D.port self.new)) }
+        ensures taken { (life : Life) → IsAtRest S.shows S.may_leave self.old.feeder.publisher life → IfOk result
+            (TakesAfter M.input_kind begun self.old.feeder.publisher.publisher.journal (reopened self.old.feeder.publisher.publisher.journal self.new.feeder.publisher.publisher.journal)
+            (entries_of_rest M.unread K.left M.entries self.old.input)) }
+        ensures all { IfOk result (AllSent self.new.feeder.publisher.publisher) }
     {
         let gathered = self.publish(&options.lines, buffer)?;
         self.serve_until(&options.lines, 0, buffer)?;
-        if let Gathered::Refused { refusal } = gathered {
+        if let Some(refusal) = refusal_of(gathered) {
             let number = self.feeder.publisher.journal().next().saturating_sub(begun);
             return Ok(FeedStop::Refused { number, refusal });
         }
@@ -394,13 +441,17 @@ impl<
             (groups : List (List (List ℕ)))
             × HasFed S.shows S.may_leave S.moment S.left_since L.modeled D.modeled options.now.lines life groups
             (closes_at options.now.end stop) (state_of L.state D.port self.old) (state_of L.state D.port self.new)) }
+        ensures taken { (life : Life) → IsAtRest S.shows S.may_leave self.old.feeder.publisher life → IfOk result
+            (TakesInput options.now.appends M.input_kind self.old.feeder.publisher.publisher.journal (reopened self.old.feeder.publisher.publisher.journal self.new.feeder.publisher.publisher.journal)
+            (entries_of_rest M.unread K.left M.entries self.old.input)) }
+        ensures all { IfOk result (AllSent self.new.feeder.publisher.publisher) }
     {
         if options.appends {
             let begun = self.feeder.publisher.journal().next() - 1;
             return self.publish_all(begun, options, buffer);
         }
         let (number, compared) = self.compare(&options.lines, buffer)?;
-        if !matches!(compared, Compared::Same) {
+        if !is_same(compared) {
             return Ok(FeedStop::Other { number, compared });
         }
         self.publish_all(0, options, buffer)
@@ -452,6 +503,7 @@ impl<
         ensures empty { OnOk result (text.new.items ≡ []) }
         ensures longest { self.new.feeder.publisher.publisher.journal.max_message
             ≤ self.new.requests.server.max_message }
+        ensures journal { self.new.feeder.publisher.publisher.journal ≡ self.old.feeder.publisher.publisher.journal }
         ensures input { self.new.input ≡ self.old.input }
     {
         if !options.resumed {
@@ -461,5 +513,52 @@ impl<
         send(sink, text)?;
         self.feeder.send_beat(&options.lines);
         Ok(())
+    }
+}
+
+// Returns whether a comparison stopped because there was no further entry.
+fn is_end(compared: Compared) -> bool
+    ensures { result ≡ is_end compared }
+{
+    match compared {
+        Compared::End => true,
+        Compared::Same => false,
+        Compared::Differs => false,
+        Compared::Refused { .. } => false,
+    }
+}
+
+// Returns the end of what has come, if a comparison stopped there.
+fn taken_at(compared: Compared) -> Option<Gathered>
+    ensures { result ≡ taken_at compared }
+{
+    match compared {
+        Compared::End => Some(Gathered::End),
+        Compared::Same => None,
+        Compared::Differs => None,
+        Compared::Refused { .. } => None,
+    }
+}
+
+// Returns why an entry is refused, if publishing stopped there.
+fn refusal_of(gathered: Gathered) -> Option<MessageRefusal>
+    ensures { result ≡ refusal_of gathered }
+{
+    match gathered {
+        Gathered::Refused { refusal } => Some(refusal),
+        Gathered::End => None,
+        Gathered::Full => None,
+    }
+}
+
+// Returns whether all messages of the journal were compared.
+fn is_same(compared: Compared) -> bool
+    ensures { result ≡ is_same compared }
+{
+    match compared {
+        Compared::Same => true,
+        Compared::Differs => false,
+        Compared::Refused { .. } => false,
+        Compared::End => false,
     }
 }

@@ -5,7 +5,7 @@ ghost use Rattle.std.specs.Io.Iter.{u64_saturate};
 ghost use Rattle.mold_durable.specs.Life.{Life};
 ghost use Rattle.mold_feeder.specs.FeedText.{fed_line, status_at};
 ghost use Rattle.mold_feeder.specs.Feeding.{HasFinished, IsAtRest, state_of};
-ghost use Rattle.mold_feeder.specs.Input.{IsInput};
+ghost use Rattle.mold_feeder.specs.Input.{IsInput, entries_of_rest};
 
 use crate::feed::Feed;
 use crate::feed_options::FeedOptions;
@@ -70,7 +70,7 @@ pub fn feed_loop<
         (fed_line (length feed.new.feeder.publisher.publisher.journal.messages) feed.new.feeder.datagrams
         feed.new.requests.answered
         (u64_saturate ((L.state feed.new.feeder.ports).failures + (D.port feed.new.requests.port).failures)))
-        life (state_of L.state D.port feed.old) (state_of L.state D.port feed.new) (O.held sink.old) (O.held sink.new)) }
+        (entries_of_rest M.unread K.left M.entries feed.old.input) life (state_of L.state D.port feed.old) (state_of L.state D.port feed.new) (O.held sink.old) (O.held sink.new)) }
 {
     let mut buffer = vec![in alloc; 0; MAX_LIMIT]?;
     let mut text = Vec::new(alloc);

@@ -1,5 +1,9 @@
-use Rattle.std.proofs.Common.{[]}
+use Rattle.std.proofs.Common.{[], subst}
+use Rattle.mold_session.specs.Journal.{JournalState}
 use Rattle.mold_feeder.specs.Feeding.{closes_at, grown, state_of}
+use Rattle.mold_feeder.specs.Input.{entries_of_rest}
+use Rattle.mold_feeder.specs.Taking.{TakesInput, reopened}
+use Rattle.mold_feeder.specs.declared.piece_input.PieceInput.{PieceInput}
 use Rattle.mold_feeder.proofs.FeedingLemmas.{fed_then, said_all}
 use Rattle.mold_feeder.proofs.feeding.feed_loop.Goals as goal
 
@@ -17,6 +21,14 @@ returns g c = record {
             (state_of g.L.PortSet.state g.D.Datagrams.port c.args.feed.now)
             (state_of g.L.PortSet.state g.D.Datagrams.port c.begin.new.self)
             (state_of g.L.PortSet.state g.D.Datagrams.port c.run.new.self) begun ran.1;
+        taken = subst (λ (j : JournalState). TakesInput c.args.options.now.appends g.M.MessageReader.input_kind j
+            (reopened j c.run.new.self.feeder.publisher.publisher.journal) (entries_of_rest g.M.InputReader.unread g.K.Source.left g.M.MessageReader.entries c.args.feed.now.input) c.in_ok-stop.stop) c.begin.ensures.journal
+            (subst (λ (i : PieceInput g.row.M.Denot g.row.K.Denot). TakesInput c.args.options.now.appends
+            g.M.MessageReader.input_kind c.begin.new.self.feeder.publisher.publisher.journal
+            (reopened c.begin.new.self.feeder.publisher.publisher.journal c.run.new.self.feeder.publisher.publisher.journal)
+            (entries_of_rest g.M.InputReader.unread g.K.Source.left g.M.MessageReader.entries i) c.in_ok-stop.stop)
+            c.begin.ensures.input (c.in_ok-stop.ensures.taken (grown life []) begun.rests));
+        all = c.in_ok-stop.ensures.all;
         ends = c.status_of.ensures;
         said = said_all (g.O.Sink.held c.args.sink.now) (g.O.Sink.held c.begin.new.sink)
             (g.O.Sink.held c.send.new.sink) _ _ c.begin.new.text.items c.push_stop.new.out.items

@@ -1,5 +1,11 @@
-use Rattle.std.proofs.Common.{◌∙◌, ◌≤◌, ◌+◌, ℕ, List, length, subst, sym, [], ap, arith, false, refl, ◌++◌}
+use Rattle.std.proofs.Common.{◌∙◌, ◌≤◌, ◌+◌, length, subst, sym, [], ap, arith, false, refl}
+use Rattle.std.proofs.Common.{◌&&◌, not}
+use Rattle.mold_session.specs.Journal.{JournalState}
 use Rattle.mold_feeder.specs.Feeding.{grown, state_of}
+use Rattle.mold_feeder.specs.Input.{KeepsRest, entries_of_rest}
+use Rattle.mold_feeder.specs.Taking.{ComparesCome}
+use Rattle.mold_feeder.specs.declared.piece_input.PieceInput.{PieceInput}
+use Rattle.mold_feeder.proofs.TakingLemmas.{compare_on, compare_stops, over_rest, same_kept, same_yet}
 use Rattle.mold_feeder.specs.declared.feeder.Feeder.{Feeder}
 use Rattle.mold_feeder.specs.declared.requests.Requests.{Requests}
 use Rattle.mold_feeder.proofs.FeedingLemmas.{fed_then, fed_waited, fed_yet}
@@ -14,6 +20,9 @@ loop-init g c = record {
   longest = c.requires.longest;
   buffer = c.requires.buffer;
   input = c.requires.input;
+  same = same_yet c.args.self.now.feeder.publisher.publisher.journal 1
+      (entries_of_rest g.M.InputReader.unread g.K.Source.left g.M.MessageReader.entries c.args.self.now.input);
+  journal = refl;
   some = omega arith;
   within = omega arith;
 }
@@ -76,8 +85,65 @@ loop-preserved g c = record {
       ≤ r.server.max_message) (sym c.compare_some.ensures.requests) c.serve.ensures.longest);
   buffer = c.serve.ensures.buffer;
   input = c.in_ok-at.ensures.input;
+  same =
+      let test = c.if-not-compares_on.false in
+      let is = c.compares_on.ensures in
+      compare_on c.args.self.now.feeder.publisher.publisher.journal 1 c.loop.number c.in_ok-at.at
+      (entries_of_rest g.M.InputReader.unread g.K.Source.left g.M.MessageReader.entries c.args.self.now.input)
+      (entries_of_rest g.M.InputReader.unread g.K.Source.left g.M.MessageReader.entries c.serve.new.self.input)
+      (entries_of_rest g.M.InputReader.unread g.K.Source.left g.M.MessageReader.entries c.compare_some.new.self.input) c.in_ok-at.compared
+      (not c.compare_some.new.self.input.ready && c.compare_some.new.self.input.ended) (cc)
+      (same_kept c.args.self.now.feeder.publisher.publisher.journal 1 c.loop.number (entries_of_rest g.M.InputReader.unread g.K.Source.left g.M.MessageReader.entries c.args.self.now.input)
+      (entries_of_rest g.M.InputReader.unread g.K.Source.left g.M.MessageReader.entries c.loop.self.input)
+      (entries_of_rest g.M.InputReader.unread g.K.Source.left g.M.MessageReader.entries c.serve.new.self.input) c.loop.invariant.same
+      (subst (λ (i : PieceInput g.row.M.Denot g.row.K.Denot). KeepsRest
+      (entries_of_rest g.M.InputReader.unread g.K.Source.left g.M.MessageReader.entries c.loop.self.input)
+      (entries_of_rest g.M.InputReader.unread g.K.Source.left g.M.MessageReader.entries i)) (sym c.serve.ensures.input)
+      c.in_ok-pause.ensures.rest))
+      (subst (λ (j : JournalState). ComparesCome j c.loop.number c.in_ok-at.at
+      (entries_of_rest g.M.InputReader.unread g.K.Source.left g.M.MessageReader.entries c.serve.new.self.input)
+      (entries_of_rest g.M.InputReader.unread g.K.Source.left g.M.MessageReader.entries c.compare_some.new.self.input) c.in_ok-at.compared)
+      (c.serve.ensures.journal
+      ∙ ap (λ (f : Feeder g.row.S.Denot g.row.L.Denot). f.publisher.publisher.journal) c.in_ok-pause.ensures.feeder
+      ∙ c.loop.invariant.journal) c.in_ok-at.ensures.compared);
+  journal = ap (λ (f : Feeder g.row.S.Denot g.row.L.Denot). f.publisher.publisher.journal) c.compare_some.ensures.feeder
+      ∙ (c.serve.ensures.journal
+      ∙ ap (λ (f : Feeder g.row.S.Denot g.row.L.Denot). f.publisher.publisher.journal) c.in_ok-pause.ensures.feeder
+      ∙ c.loop.invariant.journal);
   some = c.in_ok-at.ensures.within.0;
   within = subst (λ (f : Feeder g.row.S.Denot g.row.L.Denot). c.in_ok-at.at
       ≤ length f.publisher.publisher.journal.messages + 1) (sym c.compare_some.ensures.feeder)
       c.in_ok-at.ensures.within.1;
 }
+
+pub returns-then-not-compares_on-clause-compared : goal.returns-then-not-compares_on-clause-compared
+returns-then-not-compares_on-clause-compared g c =
+    let test = c.if-not-compares_on.true in
+    let is = c.compares_on.ensures in
+    compare_stops c.args.self.now.feeder.publisher.publisher.journal 1 c.loop.number c.in_ok-at.at
+    (entries_of_rest g.M.InputReader.unread g.K.Source.left g.M.MessageReader.entries c.args.self.now.input)
+    (entries_of_rest g.M.InputReader.unread g.K.Source.left g.M.MessageReader.entries c.serve.new.self.input)
+    (entries_of_rest g.M.InputReader.unread g.K.Source.left g.M.MessageReader.entries c.compare_some.new.self.input) c.in_ok-at.compared
+    (not c.compare_some.new.self.input.ready && c.compare_some.new.self.input.ended) (cc)
+    (over_rest g.M.InputReader.unread g.K.Source.left g.M.MessageReader.entries c.compare_some.new.self.input
+    c.in_ok-at.ensures.input c.empty_law.ensures.none)
+    (same_kept c.args.self.now.feeder.publisher.publisher.journal 1 c.loop.number (entries_of_rest g.M.InputReader.unread g.K.Source.left g.M.MessageReader.entries c.args.self.now.input)
+    (entries_of_rest g.M.InputReader.unread g.K.Source.left g.M.MessageReader.entries c.loop.self.input)
+    (entries_of_rest g.M.InputReader.unread g.K.Source.left g.M.MessageReader.entries c.serve.new.self.input) c.loop.invariant.same
+    (subst (λ (i : PieceInput g.row.M.Denot g.row.K.Denot). KeepsRest
+    (entries_of_rest g.M.InputReader.unread g.K.Source.left g.M.MessageReader.entries c.loop.self.input)
+    (entries_of_rest g.M.InputReader.unread g.K.Source.left g.M.MessageReader.entries i)) (sym c.serve.ensures.input)
+    c.in_ok-pause.ensures.rest))
+    (subst (λ (j : JournalState). ComparesCome j c.loop.number c.in_ok-at.at
+    (entries_of_rest g.M.InputReader.unread g.K.Source.left g.M.MessageReader.entries c.serve.new.self.input)
+    (entries_of_rest g.M.InputReader.unread g.K.Source.left g.M.MessageReader.entries c.compare_some.new.self.input) c.in_ok-at.compared)
+    (c.serve.ensures.journal
+    ∙ ap (λ (f : Feeder g.row.S.Denot g.row.L.Denot). f.publisher.publisher.journal) c.in_ok-pause.ensures.feeder
+    ∙ c.loop.invariant.journal) c.in_ok-at.ensures.compared)
+
+pub returns-then-not-compares_on-clause-journal : goal.returns-then-not-compares_on-clause-journal
+returns-then-not-compares_on-clause-journal g c =
+    ap (λ (f : Feeder g.row.S.Denot g.row.L.Denot). f.publisher.publisher.journal) c.compare_some.ensures.feeder
+    ∙ (c.serve.ensures.journal
+    ∙ ap (λ (f : Feeder g.row.S.Denot g.row.L.Denot). f.publisher.publisher.journal) c.in_ok-pause.ensures.feeder
+    ∙ c.loop.invariant.journal)

@@ -1,8 +1,12 @@
-use Rattle.std.proofs.Common.{◌∙◌, [], ap, arith, false, refl, ◌++◌}
+use Rattle.std.proofs.Common.{◌∙◌, [], false, ◌++◌}
+use Rattle.std.proofs.Common.{◌&&◌, not, subst, sym}
+use Rattle.mold_publish.specs.declared.filling.Filled.{Filled}
+use Rattle.mold_publish.specs.declared.filling.Filled.TheVariants.{Full}
 use Rattle.mold_feeder.specs.Feeding.{grown, state_of}
-use Rattle.mold_feeder.specs.declared.feeder.Feeder.{Feeder}
-use Rattle.mold_feeder.specs.declared.requests.Requests.{Requests}
-use Rattle.mold_feeder.proofs.FeedingLemmas.{fed_then, fed_waited, fed_yet}
+use Rattle.mold_feeder.specs.Input.{entries_of_rest}
+use Rattle.mold_feeder.specs.Taking.{Takes, filled_now}
+use Rattle.mold_feeder.proofs.TakingLemmas.{goes_on, is_stop, over_rest, stops, takes_then, takes_yet}
+use Rattle.mold_feeder.proofs.FeedingLemmas.{fed_then, fed_yet}
 use Rattle.mold_feeder.proofs.feed.Feed.publish.Goals as goal
 
 pub loop-init : goal.loop-init
@@ -13,6 +17,9 @@ loop-init g c = record {
         g.D.Datagrams.modeled c.args.lines.now g.met.S.Storage.only_now life
         (state_of g.L.PortSet.state g.D.Datagrams.port c.args.self.now) is,
   );
+  taken = λ life is.
+      takes_yet g.M.MessageReader.input_kind c.args.self.now.feeder.publisher.publisher.journal
+      (entries_of_rest g.M.InputReader.unread g.K.Source.left g.M.MessageReader.entries c.args.self.now.input);
   longest = c.requires.longest;
   buffer = c.requires.buffer;
   input = c.requires.input;
@@ -29,6 +36,20 @@ loop-preserved g c = record {
             (state_of g.L.PortSet.state g.D.Datagrams.port c.args.self.now) (state_of g.L.PortSet.state g.D.Datagrams.port c.loop.self)
             (state_of g.L.PortSet.state g.D.Datagrams.port c.turn.new.self) start.1 (next.1),
       );
+  taken = λ life is.
+      let start = c.loop.invariant.fed life is in
+      takes_then g.M.MessageReader.input_kind c.args.self.now.feeder.publisher.publisher.journal
+      c.loop.self.feeder.publisher.publisher.journal c.turn.new.self.feeder.publisher.publisher.journal
+      (entries_of_rest g.M.InputReader.unread g.K.Source.left g.M.MessageReader.entries c.args.self.now.input)
+      (entries_of_rest g.M.InputReader.unread g.K.Source.left g.M.MessageReader.entries c.loop.self.input)
+      (entries_of_rest g.M.InputReader.unread g.K.Source.left g.M.MessageReader.entries c.turn.new.self.input) Full
+      (c.loop.invariant.taken life is)
+      (subst (λ (f : Filled). Takes g.M.MessageReader.input_kind c.loop.self.feeder.publisher.publisher.journal
+      c.turn.new.self.feeder.publisher.publisher.journal (entries_of_rest g.M.InputReader.unread g.K.Source.left g.M.MessageReader.entries c.loop.self.input)
+      (entries_of_rest g.M.InputReader.unread g.K.Source.left g.M.MessageReader.entries c.turn.new.self.input) f)
+      (goes_on c.in_ok-taken.taken (not c.turn.new.self.input.ready && c.turn.new.self.input.ended)
+      (sym c.stop_of.ensures ∙ c.in_default.is))
+      (c.in_ok-taken.ensures.taken (grown life start.0) start.1.rests));
   longest = c.in_ok-taken.ensures.longest;
   buffer = c.in_ok-taken.ensures.buffer;
   input = c.in_ok-taken.ensures.input;
@@ -44,3 +65,26 @@ returns-in-Some-clause-fed g c = λ life is.
           (state_of g.L.PortSet.state g.D.Datagrams.port c.args.self.now) (state_of g.L.PortSet.state g.D.Datagrams.port c.loop.self)
           (state_of g.L.PortSet.state g.D.Datagrams.port c.turn.new.self) start.1 (next.1),
     )
+
+pub returns-in-Some-clause-taken : goal.returns-in-Some-clause-taken
+returns-in-Some-clause-taken g c = λ life is.
+    let start = c.loop.invariant.fed life is in
+    stops g.M.MessageReader.input_kind c.args.self.now.feeder.publisher.publisher.journal
+    c.turn.new.self.feeder.publisher.publisher.journal (entries_of_rest g.M.InputReader.unread g.K.Source.left g.M.MessageReader.entries c.args.self.now.input)
+    (entries_of_rest g.M.InputReader.unread g.K.Source.left g.M.MessageReader.entries c.turn.new.self.input) c.in_ok-taken.taken
+    (not c.turn.new.self.input.ready && c.turn.new.self.input.ended) c.in-Some.gathered
+    (sym c.stop_of.ensures ∙ c.in-Some.is)
+    (over_rest g.M.InputReader.unread g.K.Source.left g.M.MessageReader.entries c.turn.new.self.input
+    c.in_ok-taken.ensures.input c.empty_law.ensures.none)
+    (takes_then g.M.MessageReader.input_kind c.args.self.now.feeder.publisher.publisher.journal
+    c.loop.self.feeder.publisher.publisher.journal c.turn.new.self.feeder.publisher.publisher.journal
+    (entries_of_rest g.M.InputReader.unread g.K.Source.left g.M.MessageReader.entries c.args.self.now.input)
+    (entries_of_rest g.M.InputReader.unread g.K.Source.left g.M.MessageReader.entries c.loop.self.input)
+    (entries_of_rest g.M.InputReader.unread g.K.Source.left g.M.MessageReader.entries c.turn.new.self.input) (filled_now c.in_ok-taken.taken)
+    (c.loop.invariant.taken life is)
+    (c.in_ok-taken.ensures.taken (grown life start.0) start.1.rests))
+
+pub returns-in-Some-clause-stops : goal.returns-in-Some-clause-stops
+returns-in-Some-clause-stops g c =
+    is_stop c.in_ok-taken.taken (not c.turn.new.self.input.ready && c.turn.new.self.input.ended) c.in-Some.gathered
+    (sym c.stop_of.ensures ∙ c.in-Some.is)

@@ -1,32 +1,74 @@
-use Rattle.std.proofs.Common.{[], ◌++◌, false, not}
+use Rattle.std.proofs.Common.{◌≡◌, ◌∙◌, ap, arith, length, subst, sym, [], ◌++◌, false, not}
+use Rattle.mold_publish.specs.declared.filling.Filled.{Filled}
+use Rattle.mold_publish.specs.declared.filling.Filled.TheVariants as filled
+use Rattle.mold_session.specs.Journal.{JournalState}
 use Rattle.mold_feeder.specs.Feeding.{grown, state_of}
+use Rattle.mold_feeder.specs.Input.{entries_of_rest}
+use Rattle.mold_feeder.specs.Taking.{Takes, reopened}
+use Rattle.mold_feeder.proofs.TakingLemmas.{not_refused, reopened_ended, reopened_same, was_refused}
 use Rattle.mold_feeder.proofs.FeedingLemmas.{fed_then}
 use Rattle.mold_feeder.proofs.feed.Feed.publish_all.Goals as goal
 
-pub returns-in-Refused : goal.returns-in-Refused
-returns-in-Refused g c = record {
-  fed = λ life is.
-      let one = c.in_ok-gathered.ensures.fed life is in (
-        one.0 ++ [],
-        fed_then g.S.Storage.shows g.S.Storage.may_leave g.S.Storage.moment g.S.Storage.left_since g.L.PortSet.modeled
-            g.D.Datagrams.modeled c.args.options.now.lines life one.0 [] false
-            (state_of g.L.PortSet.state g.D.Datagrams.port c.args.self.now) (state_of g.L.PortSet.state g.D.Datagrams.port c.publish.new.self)
-            (state_of g.L.PortSet.state g.D.Datagrams.port c.serve_until.new.self) one.1 (c.serve_until.ensures.fed (grown life one.0) one.1.rests),
-      );
-}
+pub returns-in-Some-clause-fed : goal.returns-in-Some-clause-fed
+returns-in-Some-clause-fed g c = λ life is.
+    let one = c.in_ok-gathered.ensures.fed life is in (
+      one.0 ++ [],
+      fed_then g.S.Storage.shows g.S.Storage.may_leave g.S.Storage.moment g.S.Storage.left_since g.L.PortSet.modeled
+          g.D.Datagrams.modeled c.args.options.now.lines life one.0 [] false
+          (state_of g.L.PortSet.state g.D.Datagrams.port c.args.self.now) (state_of g.L.PortSet.state g.D.Datagrams.port c.publish.new.self)
+          (state_of g.L.PortSet.state g.D.Datagrams.port c.serve_until.new.self) one.1 (c.serve_until.ensures.fed (grown life one.0) one.1.rests),
+    )
 
-pub returns : goal.returns
-returns g c = record {
-  fed = λ life is.
-      let one = c.in_ok-gathered.ensures.fed life is in
-      let two = fed_then g.S.Storage.shows g.S.Storage.may_leave g.S.Storage.moment g.S.Storage.left_since g.L.PortSet.modeled
-      g.D.Datagrams.modeled c.args.options.now.lines life one.0 [] false
-      (state_of g.L.PortSet.state g.D.Datagrams.port c.args.self.now) (state_of g.L.PortSet.state g.D.Datagrams.port c.publish.new.self)
-      (state_of g.L.PortSet.state g.D.Datagrams.port c.serve_until.new.self) one.1 (c.serve_until.ensures.fed (grown life one.0) one.1.rests) in (
-        (one.0 ++ []) ++ [],
-        fed_then g.S.Storage.shows g.S.Storage.may_leave g.S.Storage.moment g.S.Storage.left_since g.L.PortSet.modeled
-            g.D.Datagrams.modeled c.args.options.now.lines life (one.0 ++ []) [] (not c.args.options.now.end.stays_open)
-            (state_of g.L.PortSet.state g.D.Datagrams.port c.args.self.now) (state_of g.L.PortSet.state g.D.Datagrams.port c.serve_until.new.self)
-            (state_of g.L.PortSet.state g.D.Datagrams.port c.end.new.self) two (c.in_ok-end.ensures.fed (grown life (one.0 ++ [])) two.rests),
-      );
-}
+pub returns-clause-fed : goal.returns-clause-fed
+returns-clause-fed g c = λ life is.
+    let one = c.in_ok-gathered.ensures.fed life is in
+    let two = fed_then g.S.Storage.shows g.S.Storage.may_leave g.S.Storage.moment g.S.Storage.left_since g.L.PortSet.modeled
+    g.D.Datagrams.modeled c.args.options.now.lines life one.0 [] false
+    (state_of g.L.PortSet.state g.D.Datagrams.port c.args.self.now) (state_of g.L.PortSet.state g.D.Datagrams.port c.publish.new.self)
+    (state_of g.L.PortSet.state g.D.Datagrams.port c.serve_until.new.self) one.1 (c.serve_until.ensures.fed (grown life one.0) one.1.rests) in (
+      (one.0 ++ []) ++ [],
+      fed_then g.S.Storage.shows g.S.Storage.may_leave g.S.Storage.moment g.S.Storage.left_since g.L.PortSet.modeled
+          g.D.Datagrams.modeled c.args.options.now.lines life (one.0 ++ []) [] (not c.args.options.now.end.stays_open)
+          (state_of g.L.PortSet.state g.D.Datagrams.port c.args.self.now) (state_of g.L.PortSet.state g.D.Datagrams.port c.serve_until.new.self)
+          (state_of g.L.PortSet.state g.D.Datagrams.port c.end.new.self) two (c.in_ok-end.ensures.fed (grown life (one.0 ++ [])) two.rests),
+    )
+
+pub returns-in-Some-clause-taken : goal.returns-in-Some-clause-taken
+returns-in-Some-clause-taken g c = λ life is.
+    let kept = c.serve_until.ensures.journal in
+    let shut : c.serve_until.new.self.feeder.publisher.publisher.journal.closed ≡ c.args.self.now.feeder.publisher.publisher.journal.closed =
+    ap (λ (j : JournalState). j.closed) kept ∙ (c.in_ok-gathered.ensures.fed life is).1.rests.publishes.closed ∙ sym is.publishes.closed in (
+      omega (
+        arith,
+        c.saturating_sub-number.ensures,
+        c.next.ensures.value,
+        ap (λ (j : JournalState). length j.messages) c.journal.ensures,
+      ),
+      (
+        (entries_of_rest g.M.InputReader.unread g.K.Source.left g.M.MessageReader.entries c.publish.new.self.input),
+        subst (λ (j : JournalState). Takes g.M.MessageReader.input_kind c.args.self.now.feeder.publisher.publisher.journal j
+            (entries_of_rest g.M.InputReader.unread g.K.Source.left g.M.MessageReader.entries c.args.self.now.input)
+            (entries_of_rest g.M.InputReader.unread g.K.Source.left g.M.MessageReader.entries c.publish.new.self.input) (filled.Refused c.in-Some.refusal))
+            (sym (reopened_same c.args.self.now.feeder.publisher.publisher.journal c.serve_until.new.self.feeder.publisher.publisher.journal shut ∙ kept))
+            (subst (λ (f : Filled). Takes g.M.MessageReader.input_kind c.args.self.now.feeder.publisher.publisher.journal
+            c.publish.new.self.feeder.publisher.publisher.journal (entries_of_rest g.M.InputReader.unread g.K.Source.left g.M.MessageReader.entries c.args.self.now.input)
+            (entries_of_rest g.M.InputReader.unread g.K.Source.left g.M.MessageReader.entries c.publish.new.self.input) f) (was_refused c.in_ok-gathered.gathered c.in-Some.refusal (sym c.refusal_of.ensures ∙ c.in-Some.is))
+            (c.in_ok-gathered.ensures.taken life is)),
+      ),
+    )
+
+pub returns-clause-taken : goal.returns-clause-taken
+returns-clause-taken g c = λ life is.
+    let kept = c.serve_until.ensures.journal in
+    let shut : c.serve_until.new.self.feeder.publisher.publisher.journal.closed ≡ c.args.self.now.feeder.publisher.publisher.journal.closed =
+    ap (λ (j : JournalState). j.closed) kept ∙ (c.in_ok-gathered.ensures.fed life is).1.rests.publishes.closed ∙ sym is.publishes.closed in (
+      (entries_of_rest g.M.InputReader.unread g.K.Source.left g.M.MessageReader.entries c.publish.new.self.input),
+      subst (λ (j : JournalState). Takes g.M.MessageReader.input_kind c.args.self.now.feeder.publisher.publisher.journal j
+          (entries_of_rest g.M.InputReader.unread g.K.Source.left g.M.MessageReader.entries c.args.self.now.input)
+          (entries_of_rest g.M.InputReader.unread g.K.Source.left g.M.MessageReader.entries c.publish.new.self.input) filled.End)
+          (sym (ap (reopened c.args.self.now.feeder.publisher.publisher.journal) c.in_ok-end.ensures.journal ∙ reopened_ended c.args.options.now.end c.args.self.now.feeder.publisher.publisher.journal c.serve_until.new.self.feeder.publisher.publisher shut ∙ kept))
+          (subst (λ (f : Filled). Takes g.M.MessageReader.input_kind c.args.self.now.feeder.publisher.publisher.journal
+          c.publish.new.self.feeder.publisher.publisher.journal (entries_of_rest g.M.InputReader.unread g.K.Source.left g.M.MessageReader.entries c.args.self.now.input)
+          (entries_of_rest g.M.InputReader.unread g.K.Source.left g.M.MessageReader.entries c.publish.new.self.input) f) (not_refused c.in_ok-gathered.gathered c.in_ok-gathered.ensures.stops (sym c.refusal_of.ensures ∙ c.in_default.is))
+          (c.in_ok-gathered.ensures.taken life is)),
+    )

@@ -1,20 +1,67 @@
-use Rattle.std.proofs.Common.{[]}
+use Rattle.std.proofs.Common.{◌≡◌, ◌-◌, Bool, [], ℕ, ap, arith, length, subst, sym}
+use Rattle.std.specs.Prelude.{IfOk}
+use Rattle.mold_session.specs.Journal.{JournalState}
 use Rattle.std.proofs.lemmas.Result.{IfOk-weaker}
 use Rattle.mold_feeder.specs.Feeding.{closes_at, grown, state_of}
+use Rattle.mold_feeder.specs.Input.{entries_of_rest}
+use Rattle.mold_feeder.specs.Taking.{TakesAfter, TakesInput, reopened}
+use Rattle.mold_feeder.specs.declared.feed_stop.FeedStop.TheVariants as stop
+use Rattle.mold_feeder.proofs.TakingLemmas.{all_same, is_not_same, takes_behind}
 use Rattle.mold_feeder.proofs.FeedingLemmas.{fed_then}
 use Rattle.mold_feeder.proofs.feed.Feed.run.Goals as goal
 
-pub returns : goal.returns
-returns g c = record {
-  fed = λ life is.
-      let one = c.in_ok-number.ensures.fed life is in
-      IfOk-weaker c.publish_all-2.result _ _
-      (λ stop next. (
-        next.0,
-        fed_then g.S.Storage.shows g.S.Storage.may_leave g.S.Storage.moment g.S.Storage.left_since g.L.PortSet.modeled
-            g.D.Datagrams.modeled c.args.options.now.lines life [] next.0 (closes_at c.args.options.now.end stop)
-            (state_of g.L.PortSet.state g.D.Datagrams.port c.args.self.now) (state_of g.L.PortSet.state g.D.Datagrams.port c.compare.new.self)
-            (state_of g.L.PortSet.state g.D.Datagrams.port c.publish_all-2.new.self) one (next.1),
-      ))
-      (c.publish_all-2.ensures.fed (grown life []) one.rests);
-}
+pub returns-clause-fed : goal.returns-clause-fed
+returns-clause-fed g c = λ life is.
+    let one = c.in_ok-number.ensures.fed life is in
+    IfOk-weaker c.publish_all-2.result _ _
+    (λ stop next. (
+      next.0,
+      fed_then g.S.Storage.shows g.S.Storage.may_leave g.S.Storage.moment g.S.Storage.left_since g.L.PortSet.modeled
+          g.D.Datagrams.modeled c.args.options.now.lines life [] next.0 (closes_at c.args.options.now.end stop)
+          (state_of g.L.PortSet.state g.D.Datagrams.port c.args.self.now) (state_of g.L.PortSet.state g.D.Datagrams.port c.compare.new.self)
+          (state_of g.L.PortSet.state g.D.Datagrams.port c.publish_all-2.new.self) one (next.1),
+    ))
+    (c.publish_all-2.ensures.fed (grown life []) one.rests)
+
+pub returns-then-options-clause-taken : goal.returns-then-options-clause-taken
+returns-then-options-clause-taken g c = λ life is.
+    let new = c.publish_all.new.self.feeder.publisher.publisher.journal in
+    let begun : c.next-begun.result - 1 ≡ length c.args.self.now.feeder.publisher.publisher.journal.messages =
+    omega (arith, c.next-begun.ensures.value, ap (λ (j : JournalState). length j.messages) c.journal.ensures) in
+    subst (λ (a : Bool). IfOk c.publish_all.result (TakesInput a g.M.MessageReader.input_kind c.args.self.now.feeder.publisher.publisher.journal
+    (reopened c.args.self.now.feeder.publisher.publisher.journal new) (entries_of_rest g.M.InputReader.unread g.K.Source.left g.M.MessageReader.entries c.args.self.now.input))) (sym c.if-options.true)
+    (subst (λ (n : ℕ). IfOk c.publish_all.result (TakesAfter g.M.MessageReader.input_kind n c.args.self.now.feeder.publisher.publisher.journal
+    (reopened c.args.self.now.feeder.publisher.publisher.journal new) (entries_of_rest g.M.InputReader.unread g.K.Source.left g.M.MessageReader.entries c.args.self.now.input))) begun
+    (c.publish_all.ensures.taken life is))
+
+pub returns-then-not-is_same-clause-taken : goal.returns-then-not-is_same-clause-taken
+returns-then-not-is_same-clause-taken g c = λ life is.
+    let test = c.if-not-is_same.true in
+    let same = c.is_same.ensures in
+    subst (λ (a : Bool). TakesInput a g.M.MessageReader.input_kind c.args.self.now.feeder.publisher.publisher.journal
+    (reopened c.args.self.now.feeder.publisher.publisher.journal c.compare.new.self.feeder.publisher.publisher.journal) (entries_of_rest g.M.InputReader.unread g.K.Source.left g.M.MessageReader.entries c.args.self.now.input)
+    (stop.Other c.in_ok-number.number c.in_ok-number.compared)) (sym c.if-options.false) (
+      ap (reopened c.args.self.now.feeder.publisher.publisher.journal) c.in_ok-number.ensures.journal,
+      (
+        is_not_same c.in_ok-number.compared (cc),
+        ((entries_of_rest g.M.InputReader.unread g.K.Source.left g.M.MessageReader.entries c.compare.new.self.input), c.in_ok-number.ensures.compared),
+      ),
+    )
+
+pub returns-clause-taken : goal.returns-clause-taken
+returns-clause-taken g c = λ life is.
+    let new = c.publish_all-2.new.self.feeder.publisher.publisher.journal in
+    let test = c.if-not-is_same.false in
+    let same = c.is_same.ensures in
+    IfOk-weaker c.publish_all-2.result _ _
+    (λ stop takes.
+    subst (λ (a : Bool). TakesInput a g.M.MessageReader.input_kind c.args.self.now.feeder.publisher.publisher.journal
+    (reopened c.args.self.now.feeder.publisher.publisher.journal new) (entries_of_rest g.M.InputReader.unread g.K.Source.left g.M.MessageReader.entries c.args.self.now.input) stop) (sym c.if-options.false)
+    (takes_behind g.M.MessageReader.input_kind c.args.self.now.feeder.publisher.publisher.journal (reopened c.args.self.now.feeder.publisher.publisher.journal new)
+    (entries_of_rest g.M.InputReader.unread g.K.Source.left g.M.MessageReader.entries c.args.self.now.input) (entries_of_rest g.M.InputReader.unread g.K.Source.left g.M.MessageReader.entries c.compare.new.self.input)
+    c.in_ok-number.number c.in_ok-number.compared stop (all_same c.in_ok-number.compared (cc))
+    c.in_ok-number.ensures.compared
+    (subst (λ (j : JournalState). TakesAfter g.M.MessageReader.input_kind 0 j (reopened j new)
+    (entries_of_rest g.M.InputReader.unread g.K.Source.left g.M.MessageReader.entries c.compare.new.self.input) stop)
+    c.in_ok-number.ensures.journal takes)))
+    (c.publish_all-2.ensures.taken (grown life []) (c.in_ok-number.ensures.fed life is).rests)

@@ -1,4 +1,4 @@
-use Rattle.std.proofs.Common.{◌∙◌, [], ap, arith, false, refl, ◌++◌}
+use Rattle.std.proofs.Common.{◌∙◌, [], ap, false, refl}
 use Rattle.mold_feeder.specs.Feeding.{grown, state_of}
 use Rattle.mold_feeder.specs.declared.feeder.Feeder.{Feeder}
 use Rattle.mold_feeder.specs.declared.requests.Requests.{Requests}

@@ -1,8 +1,7 @@
-use Rattle.std.proofs.Common.{◌≡◌, ◌≤◌, ◌+◌, [], false, length, List, ℕ}
+use Rattle.std.proofs.Common.{◌≡◌, ◌≤◌, [], false, length}
 use Rattle.mold_durable.specs.Life.{Life}
 use Rattle.mold_wire.specs.declared.limits.TheConstants.{MAX_LIMIT}
 use Rattle.mold_feeder.specs.Feeding.{HasFed, IsAtRest, state_of}
-use Rattle.mold_feeder.specs.Input.{IsInput}
 use Rattle.mold_feeder.proofs.feed.Feed.serve_until.Given as goal
 
 -- what was done so far

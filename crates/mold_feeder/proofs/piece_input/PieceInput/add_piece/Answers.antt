@@ -1,4 +1,4 @@
-use Rattle.std.proofs.Common.{◌≡◌, ◌∙◌, ◌++◌, List, ℕ, subst, take}
+use Rattle.std.proofs.Common.{◌≡◌, ◌++◌, List, ℕ, subst, take}
 use Rattle.mold_feeder.specs.Pieces.{AreWhole}
 use Rattle.mold_feeder.proofs.InputLemmas.{split_rest}
 use Rattle.mold_feeder.proofs.piece_input.PieceInput.add_piece.Goals as goal

@@ -1,4 +1,4 @@
-use Rattle.std.proofs.Common.{◌≡◌, ◌∙◌, ap}
+use Rattle.std.proofs.Common.{◌∙◌, ap}
 use Rattle.mold_feeder.specs.declared.piece_input.PieceInput.{PieceInput}
 use Rattle.mold_feeder.proofs.InputLemmas.{lacks_ready, nil_second, rest_added, rest_ended}
 use Rattle.mold_feeder.proofs.piece_input.PieceInput.pull.Goals as goal

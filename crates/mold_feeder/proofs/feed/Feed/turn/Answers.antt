@@ -1,0 +1,36 @@
+use Rattle.std.proofs.Common.{◌∙◌, List, Option, ap, subst, sym}
+use Rattle.mold_input.specs.Entries.{Entry}
+use Rattle.mold_feeder.specs.Feeding.{IsAtRest}
+use Rattle.mold_feeder.specs.Input.{bytes_come, entries_after, entries_of_rest}
+use Rattle.mold_feeder.specs.Taking.{Takes, filled_now, left_of}
+use Rattle.mold_feeder.specs.declared.feeder.Feeder.{Feeder}
+use Rattle.mold_feeder.specs.declared.piece_input.PieceInput.{PieceInput}
+use Rattle.mold_feeder.proofs.TakingLemmas.{turn_takes}
+use Rattle.mold_feeder.proofs.feed.Feed.turn.Goals as goal
+
+pub returns-clause-taken : goal.returns-clause-taken
+returns-clause-taken g c = λ life is.
+    let entries = g.M.MessageReader.entries in
+    let kind = g.M.MessageReader.input_kind in
+    let taken = c.in_ok-taken.taken in
+    let known = entries_of_rest g.M.InputReader.unread g.K.Source.left entries c.args.self.now.input in
+    let before = c.pause.new.self.input in
+    let left = left_of taken (entries (bytes_come g.M.InputReader.unread g.K.Source.left c.take.new.self.input)) in
+    let rest = entries_after entries left before.part.items (g.K.Source.left before.source) in
+    let start : IsAtRest g.S.Storage.shows g.S.Storage.may_leave c.pause.new.self.feeder.publisher life =
+    subst (λ (f : Feeder g.row.S.Denot g.row.L.Denot). IsAtRest g.S.Storage.shows g.S.Storage.may_leave f.publisher life)
+    (sym c.in_ok-pause.ensures.feeder) is in
+    let takes =
+    turn_takes kind c.pause.new.self.feeder.publisher.publisher.journal c.take.new.self.feeder.publisher.publisher.journal
+    known entries (entries (bytes_come g.M.InputReader.unread g.K.Source.left before))
+    (entries (bytes_come g.M.InputReader.unread g.K.Source.left c.take.new.self.input)) before.part.items
+    (g.K.Source.left before.source) taken c.in_ok-pause.ensures.rest (c.in_ok-taken.ensures.taken life start) in
+    subst (λ (r : Option (List Entry)). Takes kind c.args.self.now.feeder.publisher.publisher.journal
+    c.note.new.self.feeder.publisher.publisher.journal known r (filled_now taken))
+    (sym (c.in_ok-note.ensures.rest
+    ∙ ap (λ (i : PieceInput g.row.M.Denot g.row.K.Denot).
+    entries_after entries left i.part.items (g.K.Source.left i.source)) c.take.ensures.input))
+    (subst (λ (f : Feeder g.row.S.Denot g.row.L.Denot). Takes kind c.args.self.now.feeder.publisher.publisher.journal
+    f.publisher.publisher.journal known rest (filled_now taken)) (sym c.note.ensures.feeder)
+    (subst (λ (f : Feeder g.row.S.Denot g.row.L.Denot). Takes kind f.publisher.publisher.journal
+    c.take.new.self.feeder.publisher.publisher.journal known rest (filled_now taken)) c.in_ok-pause.ensures.feeder takes))
