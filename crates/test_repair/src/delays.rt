@@ -1,42 +1,30 @@
-//! The patience that adapts, by worked examples. Times are in nanoseconds.
+//! The patience that adapts, by a worked example. Times are in nanoseconds. `tests/repair-network` compares it with a
+//! model.
 
-use crate::comparisons::{holds, holds_at};
+use crate::comparisons::holds;
 use mold_pacing::{Arrival, Delays};
 use std::process::Abort;
 use std::test::Fail;
 
-/// The first number of a datagram of five messages, its time, its line, and the patience after it.
-type Row = (u64, u64, u32, u64);
-
-const ROWS: &[Row] = &[
-    // A datagram on one line alone changes nothing, and neither does its duplicate.
-    (1, 10_000_000, 0, 1_000_000),
-    (1, 90_000_000, 0, 1_000_000),
-    // The other line brings it 3 milliseconds after the first arrival.
-    (1, 13_000_000, 1, 6_000_000),
-    (1, 99_000_000, 0, 6_000_000),
-    // A shorter delay changes nothing. A longer one counts as 100 milliseconds at most.
-    (6, 14_000_000, 1, 6_000_000),
-    (6, 14_050_000, 0, 6_000_000),
-    (11, 20_000_000, 0, 6_000_000),
-    (11, 90_000_000, 1, 100_000_000),
-];
-
-fn is_taken(delays: &mut Delays, row: Row) -> bool {
+// A datagram of five messages arrives on a line.
+fn take(delays: &mut Delays, time: u64, line: u32) {
     delays.take(Arrival {
-        first: row.0,
-        end: row.0.saturating_add(5),
-        time: row.1,
-        line: row.2,
+        first: 1,
+        end: 6,
+        time,
+        line,
     });
-    delays.patience() == row.3
 }
 
-fn expect_rows(rt: &impl Abort, delays: &mut Delays) {
+// The other line brings the datagram 3 milliseconds after the first one.
+fn expect_patience(rt: &impl Abort, delays: &mut Delays) {
+    take(delays, 10_000_000, 0);
     holds(rt, delays.patience() == 1_000_000);
-    for (at, row) in ROWS.iter().enumerate() {
-        holds_at(rt, is_taken(delays, *row), at);
-    }
+    take(delays, 13_000_000, 1);
+    holds(
+        rt,
+        delays.patience() == 6_000_000 && delays.late(1) == 3_000_000,
+    );
 }
 
 #[test]
@@ -46,6 +34,6 @@ fn out_of_memory_patience_adapts(rt: HostRuntime) -> Result<(), Fail> {
         Ok(delays) => delays,
         Err(_) => Delays::new(rt.alloc())?,
     };
-    expect_rows(&rt, &mut delays);
+    expect_patience(&rt, &mut delays);
     Ok(())
 }

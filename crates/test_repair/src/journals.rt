@@ -1,12 +1,8 @@
-//! Journals in memory, and comparisons that several modules make.
+//! Journals in memory, and what several modules do with them.
 
-use crate::comparisons::holds;
-use mold_devices::MemorySource;
 use mold_durable::{CommitError, DurableJournal, MemoryStorage, NotOpened};
-use mold_session::{FileError, Journal};
 use mold_wire::Session;
-use std::alloc::{AllocError, Global};
-use std::process::Abort;
+use std::alloc::Global;
 use std::test::Fail;
 
 /// The session of all journals.
@@ -15,8 +11,8 @@ pub const SESSION: Session = Session(*b"SESSION001");
 /// The file of a closed journal with the messages `AB` and an empty one.
 pub const EXAMPLE: [u8; 31] = *b"MOLDJNL3SESSION001\x01\x00\x00\x02AB\x01\x00\x00\x00\x01\x01\x00";
 
-/// What loading a file returns: how many messages it has, and whether it is closed.
-pub type Loaded = Result<(u64, bool), FileError>;
+/// The calls of `created` on its storage: six of the creation, and four of the commit.
+pub const CALLS_BEFORE: u64 = 10;
 
 /// A journal in memory.
 pub type InMemory = DurableJournal<MemoryStorage>;
@@ -25,50 +21,25 @@ pub fn create(alloc: Global, storage: MemoryStorage) -> Result<InMemory, NotOpen
     DurableJournal::create(alloc, SESSION, 42, storage)
 }
 
-pub fn load(alloc: Global, bytes: &[u8]) -> Loaded {
-    let journal = Journal::load(alloc, 42, &mut MemorySource::new(bytes))?;
-    Ok((journal.next() - 1, journal.is_closed()))
-}
-
-/// Appends the message `AB`, commits it, and appends another message.
-pub fn append_two(journal: &mut InMemory) -> Result<(), Fail> {
+fn append_two(journal: &mut InMemory) -> Result<(), Fail> {
     journal.append(b"AB")?;
     journal.commit()?;
     journal.append(b"C")?;
     Ok(())
 }
 
-pub fn expect_loaded(rt: &impl Abort, alloc: Global, bytes: &[u8], wanted: Loaded) {
-    holds(rt, load(alloc, bytes) == wanted);
+/// A journal in which the message `AB` is committed and another one waits.
+pub fn created(alloc: Global, storage: MemoryStorage) -> Result<InMemory, Fail> {
+    let mut journal = create(alloc, storage)?;
+    append_two(&mut journal)?;
+    Ok(journal)
 }
 
-/// The bytes are the file of one of two journals.
-pub fn expect_either(
-    rt: &impl Abort,
-    alloc: Global,
-    bytes: &[u8],
-    before: (u64, bool),
-    after: (u64, bool),
-) {
-    let found = load(alloc, bytes);
-    holds(rt, found == Ok(before) || found == Ok(after));
-}
-
-pub fn same_number(rt: &impl Abort, found: u64, wanted: u64) {
-    assert!(rt; found == wanted, "{found}, not {wanted}");
-}
-
-pub fn same_commit(
-    rt: &impl Abort,
-    found: Result<(), CommitError>,
-    wanted: Result<(), CommitError>,
-) {
-    holds(rt, found == wanted);
-}
-
-/// The tear of a single write.
-pub fn one_tear(alloc: Global, tear: &[u8]) -> Result<Vec<Vec<u8>>, AllocError> {
-    let mut tears = Vec::new(alloc);
-    tears.push(tear.to_vec(alloc)?)?;
-    Ok(tears)
+/// Commits the message that waits, and closes the session if `closes` is true.
+pub fn commit(journal: &mut InMemory, closes: bool) -> Result<(), CommitError> {
+    if closes {
+        journal.close()
+    } else {
+        journal.commit()
+    }
 }

@@ -36,5 +36,3 @@ mod recording;
 mod reopening;
 #[cfg(test)]
 mod repairer;
-#[cfg(test)]
-mod reporting;

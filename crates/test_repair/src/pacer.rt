@@ -1,4 +1,4 @@
-//! The policy of requests by worked examples. The expected values were worked out by hand from the rules of the policy:
+//! The policy of requests by a worked example. The expected values were worked out by hand from the rules of the policy:
 //! patience 10, timeout 100, ceiling 400, settle 5, one request each 10 and two at once, at most 3
 //! messages in a request.
 
@@ -20,19 +20,6 @@ const OPTIONS: PacerOptions = PacerOptions {
     servers: 2,
 };
 
-// The same, but at most 100 messages in a request.
-const LONG_REQUESTS: PacerOptions = PacerOptions {
-    patience: 10,
-    timeout: 100,
-    ceiling: 400,
-    settle: 5,
-    interval: 10,
-    tolerance: 10,
-    most: 100,
-    places: 4,
-    servers: 2,
-};
-
 /// A request: its first number, one more than its last, and its server.
 type Request = (u64, u64, u32);
 
@@ -41,8 +28,6 @@ type Request = (u64, u64, u32);
 enum Call {
     /// The time, and one more than the greatest known number.
     Advance(u64, u64),
-    /// The patience from now on.
-    Adapt(u64),
     /// The server that responded, the first number of the response, and one more than its last.
     Respond(u32, u64, u64),
     /// The first number that arrived, and one more than the last.
@@ -62,7 +47,6 @@ impl Call {
     fn is_taken(self, pacer: &mut Pacer) -> bool {
         match self {
             Call::Advance(time, known) => return is_advanced(pacer, time, known),
-            Call::Adapt(patience) => pacer.adapt(patience),
             Call::Respond(server, first, end) => pacer.respond(server, Gap { first, end }),
             Call::Arrive(first, end) => pacer.arrive(Gap { first, end }),
             Call::Poll(first, end, wanted) => return is_asked(pacer, Gap { first, end }, wanted),
@@ -108,6 +92,7 @@ fn expect_calls(rt: &impl Abort, pacer: &mut Pacer, calls: &[Call]) {
 const REQUESTS: &[Call] = &[
     // Numbers that become known are requested after one to two patiences, two requests at once.
     Call::Advance(10, 8),
+    Call::Ripens(20, 1),
     Call::Poll(1, 8, None),
     Call::Advance(20, 8),
     Call::Poll(1, 8, Some((1, 4, 0))),
@@ -139,73 +124,6 @@ fn requests_at_their_times(rt: HostRuntime) -> Result<(), Fail> {
     Ok(())
 }
 
-const LEARNS: &[Call] = &[
-    Call::Advance(10, 301),
-    Call::Poll(1, 301, Some((1, 101, 0))),
-    // The server sends 10 messages, so 10 are requested from then on.
-    Call::Respond(0, 1, 11),
-    Call::Advance(20, 301),
-    Call::Poll(11, 301, Some((11, 21, 0))),
-];
-
-// A response to the whole request for the ten messages from 10 k + 1 on. An interval later `count` messages are
-// requested.
-fn expect_answer(rt: &impl Abort, pacer: &mut Pacer, k: u16, count: u16) {
-    let first = u64::from(k) * 10 + 1;
-    let next = first + 10;
-    let request = (next, next + u64::from(count), 0);
-    let calls = [
-        Call::Respond(0, first, next),
-        Call::Advance(u64::from(k) * 100 + 10, 301),
-        Call::Poll(next, 301, Some(request)),
-    ];
-    expect_calls(rt, pacer, &calls);
-}
-
-// After 16 full requests, one asks for twice as many, and the next one does not.
-fn expect_learned(rt: &impl Abort, pacer: &mut Pacer) {
-    expect_calls(rt, pacer, LEARNS);
-    for k in 1..=15u16 {
-        expect_answer(rt, pacer, k, 10);
-    }
-    expect_answer(rt, pacer, 16, 20);
-    let calls = [
-        Call::Advance(3000, 301),
-        Call::Poll(191, 301, Some((191, 201, 0))),
-    ];
-    expect_calls(rt, pacer, &calls);
-}
-
-#[test]
-fn learns_what_a_server_sends(rt: HostRuntime) -> Result<(), Fail> {
-    let mut pacer = Pacer::new(rt.alloc(), LONG_REQUESTS, 301)?;
-    expect_learned(&rt, &mut pacer);
-    Ok(())
-}
-
-const WAITS: &[Call] = &[
-    Call::Adapt(50),
-    Call::Advance(50, 3),
-    Call::Ripens(100, 1),
-    Call::Advance(90, 3),
-    Call::Poll(1, 3, None),
-    Call::Advance(100, 3),
-    Call::Poll(1, 3, Some((1, 3, 0))),
-];
-
-#[test]
-fn waits_as_long_as_the_patience(rt: HostRuntime) -> Result<(), Fail> {
-    let mut pacer = Pacer::new(rt.alloc(), OPTIONS, 1)?;
-    expect_calls(&rt, &mut pacer, WAITS);
-    Ok(())
-}
-
-#[test]
-fn gaps_that_overlap_are_not_in_order(rt: HostRuntime) {
-    let gaps = [Gap { first: 1, end: 3 }, Gap { first: 2, end: 4 }];
-    holds(&rt, !are_in_order(&gaps));
-}
-
 fn run(alloc: Global, pacer: &mut Pacer) -> Result<Vec<Option<Ask>>, AllocError> {
     let steps = [
         Step::Advance { time: 10, known: 3 },
@@ -234,9 +152,8 @@ fn is_asked_last(asks: &[Option<Ask>]) -> bool {
 
 fn expect_applied(rt: &impl Abort, pacer: &mut Pacer) {
     let advanced = pacer.apply(Step::Advance { time: 30, known: 3 });
-    holds(rt, advanced.is_none());
     let adapted = pacer.apply(Step::Adapt { patience: 20 });
-    holds(rt, adapted.is_none());
+    holds(rt, advanced.is_none() && adapted.is_none());
 }
 
 #[test]

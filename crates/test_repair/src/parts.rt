@@ -1,8 +1,8 @@
-//! What the tests of receivers share: datagrams, and a case: what a receiver of line A receives and prints.
+//! What the tests of receivers of line A share.
 
 use mold_devices::MemorySink;
 use mold_port_set::{MemoryPortSet, PortSetStep};
-use mold_receive::{FirstPacket, ReceiveOptions, ReceiveParts};
+use mold_receive::{ReceiveOptions, ReceiveParts};
 use mold_receiver::{Arbiter, Receiver};
 use mold_repair::{RepairOptions, Repairer};
 use mold_wire::Session;
@@ -21,8 +21,7 @@ pub const END_4: &[u8] = b"SESSION001\0\0\0\0\0\0\0\x04\xff\xff";
 
 const MILLI: u64 = 1_000_000;
 
-pub const SERVER: u32 = 9;
-
+/// The options of a receiver without servers.
 pub const OPTIONS: RepairOptions = RepairOptions {
     patience: MILLI,
     timeout: 50 * MILLI,
@@ -31,49 +30,19 @@ pub const OPTIONS: RepairOptions = RepairOptions {
     interval: MILLI,
     bucket: 32,
     places: 256,
-    servers: 1,
+    servers: 0,
     give_up: 0,
     audit: 0,
 };
 
-/// A datagram, after its time in milliseconds and its port.
-pub type Timed = (u32, usize, &'static [u8]);
-
-/// The datagrams of line A, which has no message 2.
-pub const LINE: &[Timed] = &[(1, 0, DATA_1), (2, 0, DATA_3), (3, 0, END_4)];
-
-/// The same, and message 2 as a response.
-pub const ANSWERED: &[Timed] = &[
-    (1, 0, DATA_1),
-    (2, 0, DATA_3),
-    (3, 0, END_4),
-    (20, 1, DATA_2),
-];
-
-/// What a receiver of line A receives, its options, and what it prints.
-#[derive(Clone, Copy)]
-pub struct Case {
-    pub script: &'static [Timed],
-    pub repair: RepairOptions,
-    /// The addresses of the servers.
-    pub servers: &'static [u32],
-    pub blocks: bool,
-    /// The seconds of `ReceiveOptions::with_quiet` and of `ReceiveOptions::with_stats`.
-    pub quiet: u32,
-    pub stats: u32,
-    pub status: u8,
-    /// The text on standard output, and on standard error.
-    pub text: &'static [u8],
-    pub side: &'static [u8],
-    /// Whether message 2 is requested, once. Nothing else is.
-    pub requests: bool,
-}
+/// A datagram, after its time in milliseconds.
+pub type Timed = (u32, &'static [u8]);
 
 fn step(alloc: Global, timed: &Timed) -> Result<PortSetStep, AllocError> {
     Ok(PortSetStep::Come {
         at: u64::from(timed.0) * MILLI,
-        port: timed.1,
-        bytes: timed.2.to_vec(alloc)?,
+        port: 0,
+        bytes: timed.1.to_vec(alloc)?,
     })
 }
 
@@ -85,28 +54,23 @@ pub fn ports(alloc: Global, script: &[Timed]) -> Result<MemoryPortSet, AllocErro
     MemoryPortSet::new(alloc, steps)
 }
 
-fn repairer(alloc: Global, options: RepairOptions) -> Result<Repairer, Fail> {
+pub fn repairer(alloc: Global) -> Result<Repairer, Fail> {
     let receiver = Receiver::new(alloc, SESSION, 1, 16)?;
-    Ok(Repairer::new(alloc, Arbiter::new(receiver), options)?)
+    Ok(Repairer::new(alloc, Arbiter::new(receiver), OPTIONS)?)
 }
 
-pub fn parts(
-    alloc: Global,
-    ports: MemoryPortSet,
-    first: Option<FirstPacket>,
-    case: &Case,
-) -> Result<ReceiveParts<MemoryPortSet>, Fail> {
-    let repairer = repairer(alloc, case.repair)?;
+pub fn parts(alloc: Global, script: &[Timed]) -> Result<ReceiveParts<MemoryPortSet>, Fail> {
     Ok(ReceiveParts {
-        ports,
-        repairer,
-        first,
+        repairer: repairer(alloc)?,
+        ports: ports(alloc, script)?,
+        first: None,
     })
 }
 
-pub fn options_of(alloc: Global, case: &Case) -> Result<ReceiveOptions<u32>, Fail> {
-    match ReceiveOptions::new(1, case.servers.to_vec(alloc)?, case.blocks, 1000) {
-        Some(options) => Ok(options.with_quiet(case.quiet).with_stats(case.stats)),
+/// The options of a receiver that prints statistics each second, and ends after two seconds without a datagram.
+pub fn options(alloc: Global) -> Result<ReceiveOptions<u32>, Fail> {
+    match ReceiveOptions::new(1, Vec::new(alloc), false, 1000) {
+        Some(options) => Ok(options.with_quiet(2).with_stats(1)),
         None => Err(Fail::new("no options")),
     }
 }

