@@ -17,7 +17,6 @@ use Rattle.mold_session.specs.Server.{ServerState}
 use Rattle.mold_wire.specs.declared.limits.TheConstants.{MAX_LIMIT}
 use Rattle.mold_feeder.specs.FeedLines.{SendsOn}
 use Rattle.mold_feeder.specs.FeedText.{first_text, status_at, stop_text}
-use Rattle.mold_feeder.specs.Gathering.{IsFileUpTo}
 use Rattle.mold_feeder.specs.Requests.{RepliesTo}
 use Rattle.mold_feeder.specs.Taking.{AllSent, TakesInput, reopened}
 use Rattle.mold_feeder.specs.declared.feed.Feed.{Feed}
@@ -124,25 +123,6 @@ abbrev pub closes_at : FeedEnd → FeedStop → Bool
 closes_at end Ended = not end.stays_open
 closes_at end (Refused number refusal) = false
 closes_at end (Other number compared) = false
-
--- The bytes are a file of the committed messages of this life, or of all messages that the publisher has. If the
--- session was to be closed, they may be the closed file.
-abbrev pub IsFileNear : {S : Type 0} → Bool → Life → DurablePublisher S → List ℕ → Type 0
-IsFileNear closes life publisher bytes =
-    IsFileUpTo life publisher bytes
-    ⊎ ((closes ≡ true) × SpellsJournal3 life.session life.committed true bytes)
-
--- The publisher stopped with a fault. Until the state `mid` it went on without one. Then it may have written a group of
--- messages, or the end of the session, and it sent nothing more.
-pub record HasBroken {S P Q : Type 0} (shows may_leave : S → List ℕ → Type 0) (moment : S → ℕ)
-    (left_since : S → ℕ → List ℕ → Type 0) (modeled answers : Bool) (lines : FeedLines P) (life : Life) (closes : Bool)
-    (old new : FeedState S P Q) : Type 0 where
-  pub mid : FeedState S P Q
-  pub groups : List (List (List ℕ))
-  pub fed : HasFed shows may_leave moment left_since modeled answers lines life groups false old mid
-  pub leaves : LeavesOnly moment left_since mid.publisher.durable.storage new.publisher.durable.storage
-      (IsFileNear closes (grown life groups) new.publisher)
-  pub silent : modeled ≡ true → new.ports.sent ≡ mid.ports.sent
 
 -- The loop has ended with this status. `known` are the entries of its input, if they are known, and `last` is the last
 -- line of a session whose input ended. The text was written: the

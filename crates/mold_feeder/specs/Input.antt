@@ -16,18 +16,18 @@ KeepsRest (Some entries) None = ⊥
 KeepsRest (Some entries) (Some others) = others ≡ entries
 
 -- The bytes of the whole entries that have come and are not taken yet.
-abbrev pub bytes_come : {M K : Type 0} → (M → List ℕ) → (K → Option (List ℕ)) → PieceInput M K → List ℕ
-bytes_come unread left input = unread input.come.messages ++ input.come.source
+abbrev pub bytes_come : {M K : Type 0} → (M → List ℕ) → PieceInput M K → List ℕ
+bytes_come unread input = unread input.come.messages ++ input.come.source
 
 -- The remaining entries of the input, if they are known: those that have come, and those that come later.
 abbrev pub entries_of_rest : {M K : Type 0} → (M → List ℕ) → (K → Option (List ℕ)) → (List ℕ → List Entry) →
     PieceInput M K → Option (List Entry)
 entries_of_rest unread left entries input =
-    entries_after entries (entries (bytes_come unread left input)) input.part.items (left input.source)
+    entries_after entries (entries (bytes_come unread input)) input.part.items (left input.source)
 
 -- What holds of an input: if it is not ready, all entries that have come were taken. If it has ended, nothing comes
 -- after those that have come.
 pub record IsInput {M K : Type 0} (unread : M → List ℕ) (left : K → Option (List ℕ)) (input : PieceInput M K) :
     Type 0 where
-  pub taken : input.ready ≡ false → bytes_come unread left input ≡ []
+  pub taken : input.ready ≡ false → bytes_come unread input ≡ []
   pub over : input.ended ≡ true → (input.part.items ≡ []) × IsAtEnd (left input.source)

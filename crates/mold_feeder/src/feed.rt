@@ -125,8 +125,8 @@ impl<
             (state_of L.state D.port self.old) (state_of L.state D.port self.new)) }
         ensures taken { (life : Life) → IsAtRest S.shows S.may_leave self.old.feeder.publisher life → IfOk result
             (TakesCome M.input_kind self.old.feeder.publisher.publisher.journal self.new.feeder.publisher.publisher.journal
-            (M.entries (bytes_come M.unread K.left self.old.input))
-            (M.entries (bytes_come M.unread K.left self.new.input))) }
+            (M.entries (bytes_come M.unread self.old.input))
+            (M.entries (bytes_come M.unread self.new.input))) }
         ensures longest { self.new.feeder.publisher.publisher.journal.max_message
             ≤ self.new.requests.server.max_message }
         ensures input { self.new.input ≡ record self.old.input { come = self.new.input.come } }
@@ -145,7 +145,7 @@ impl<
             (self.old.input.part.items ≡ []) × IsAtEnd (K.left self.old.input.source) }
         ensures input { OnOk result (IsInput M.unread K.left self.new.input) }
         ensures rest { OnOk result (entries_of_rest M.unread K.left M.entries self.new.input
-            ≡ entries_after M.entries (left_of taken (M.entries (bytes_come M.unread K.left self.old.input)))
+            ≡ entries_after M.entries (left_of taken (M.entries (bytes_come M.unread self.old.input)))
             self.old.input.part.items (K.left self.old.input.source)) }
         ensures feeder { self.new.feeder ≡ self.old.feeder }
         ensures requests { self.new.requests ≡ self.old.requests }
@@ -249,8 +249,8 @@ impl<
         ensures feeder { self.new.feeder ≡ self.old.feeder }
         ensures requests { self.new.requests ≡ self.old.requests }
         ensures compared { IfOk result (λ found. ComparesAll self.old.feeder.publisher.publisher.journal number found.0
-            (Some (M.entries (bytes_come M.unread K.left self.old.input)))
-            (Some (M.entries (bytes_come M.unread K.left self.new.input))) found.1) }
+            (Some (M.entries (bytes_come M.unread self.old.input)))
+            (Some (M.entries (bytes_come M.unread self.new.input))) found.1) }
         ensures within { IfOk result (λ found. (1 ≤ found.0)
             × (found.0 ≤ length self.old.feeder.publisher.publisher.journal.messages + 1)) }
     {

@@ -129,7 +129,7 @@ impl<M: PieceReader, K: Source + Drop> PieceInput<M, K> {
 
     /// Notes that all entries that have come were taken. It fails if an allocation fails.
     pub(crate) fn note_taken(&mut self) -> Result<(), AllocError>
-        ensures taken { OnOk result (bytes_come M.unread K.left self.new ≡ []) }
+        ensures taken { OnOk result (bytes_come M.unread self.new ≡ []) }
         ensures ready { OnOk result (self.new.ready ≡ false) }
         ensures same { self.new ≡ record self.old { come = self.new.come; ready = self.new.ready } }
     {

@@ -12,7 +12,7 @@ returns-clause-compared g c =
     let entries = g.M.MessageReader.entries in
     let found = c.in_ok-at.compared in
     let before = c.args.self.now.input in
-    let behind = entries (bytes_come g.M.InputReader.unread g.K.Source.left c.compare_ready.new.self.input) in
+    let behind = entries (bytes_come g.M.InputReader.unread c.compare_ready.new.self.input) in
     let after = c.compare_ready.new.self.input in
     subst (λ (r : Option (List Entry)). ComparesCome c.args.self.now.feeder.publisher.publisher.journal c.args.number
     c.in_ok-at.at (entries_of_rest g.M.InputReader.unread g.K.Source.left g.M.MessageReader.entries c.args.self.now.input) r found)
@@ -23,5 +23,5 @@ returns-clause-compared g c =
     entries_after entries (left_of (taken_at found) behind) i.part.items (g.K.Source.left i.source))
     c.compare_ready.ensures.input))
     (rest_compared c.args.self.now.feeder.publisher.publisher.journal c.args.number c.in_ok-at.at entries
-    (entries (bytes_come g.M.InputReader.unread g.K.Source.left before)) behind before.part.items
+    (entries (bytes_come g.M.InputReader.unread before)) behind before.part.items
     (g.K.Source.left before.source) found c.in_ok-at.ensures.compared)

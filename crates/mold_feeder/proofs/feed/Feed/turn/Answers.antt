@@ -15,15 +15,15 @@ returns-clause-taken g c = λ life is.
     let taken = c.in_ok-taken.taken in
     let known = entries_of_rest g.M.InputReader.unread g.K.Source.left entries c.args.self.now.input in
     let before = c.pause.new.self.input in
-    let left = left_of taken (entries (bytes_come g.M.InputReader.unread g.K.Source.left c.take.new.self.input)) in
+    let left = left_of taken (entries (bytes_come g.M.InputReader.unread c.take.new.self.input)) in
     let rest = entries_after entries left before.part.items (g.K.Source.left before.source) in
     let start : IsAtRest g.S.Storage.shows g.S.Storage.may_leave c.pause.new.self.feeder.publisher life =
     subst (λ (f : Feeder g.row.S.Denot g.row.L.Denot). IsAtRest g.S.Storage.shows g.S.Storage.may_leave f.publisher life)
     (sym c.in_ok-pause.ensures.feeder) is in
     let takes =
     turn_takes kind c.pause.new.self.feeder.publisher.publisher.journal c.take.new.self.feeder.publisher.publisher.journal
-    known entries (entries (bytes_come g.M.InputReader.unread g.K.Source.left before))
-    (entries (bytes_come g.M.InputReader.unread g.K.Source.left c.take.new.self.input)) before.part.items
+    known entries (entries (bytes_come g.M.InputReader.unread before))
+    (entries (bytes_come g.M.InputReader.unread c.take.new.self.input)) before.part.items
     (g.K.Source.left before.source) taken c.in_ok-pause.ensures.rest (c.in_ok-taken.ensures.taken life start) in
     subst (λ (r : Option (List Entry)). Takes kind c.args.self.now.feeder.publisher.publisher.journal
     c.note.new.self.feeder.publisher.publisher.journal known r (filled_now taken))
