@@ -15,6 +15,7 @@ S = b"SESSION001"
 HEX = S.hex().encode()
 OLD = model.old_journal_file(S, [b"AB", b""])
 RECORDS = model.record_file(S, [b"AB", b""], True)
+OPEN = model.record_file(S, [b"AB"], False)
 MESSAGES = b"4142\n\n43\n"
 LINES = b"".join(b"%02d" % it * 20 + b"\n" for it in range(1, 6))
 # The exit status of a program that reports a fault.
@@ -43,6 +44,8 @@ class Call:
     status: int = 0
     # The kinds of system calls that the call makes in any case.
     devices: tuple = ("read", "write")
+    # The kinds of system calls that the call does not always count if they fail.
+    uncounted: tuple = ()
 
 
 @dataclass
@@ -100,7 +103,7 @@ def request_messages(process, own):
     return [[it for it, _ in udp_peers.arrived(own[0])]]
 
 
-def feed(process, own):
+def send_messages(process, own):
     """Sends message 3 on line A, the end of session on line B, and messages 1 and 2 in response to each request."""
     host = udp_peers.own_host()
     while not has_ended(process):
@@ -145,6 +148,7 @@ def calls_over_ports():
     loop += ["--drop-a", "2", "--drop-b", "2"]
     publish = ["publish", "--session", "SESSION001", *limits, "--journal", "@new"]
     publish += ["--a", address(udp_peers.PUBLISHED_A), "--b", address(udp_peers.PUBLISHED_B)]
+    feed = ["feed", *publish[1:], "--idle", "0"]
     published = (udp_peers.PUBLISHED_A, udp_peers.PUBLISHED_B)
     serve = ["serve", "--journal", "@old", *limits, "--bind", address(udp_peers.SERVER), "--turns", "2"]
     listen = ["listen", "--session", "SESSION001", "--window", "4", "--turns", "1000"]
@@ -157,11 +161,15 @@ def calls_over_ports():
         Call("loop, to an empty block", [*loop, "--blocks", "--end-at-empty"], b"\0\2AB\0\0", devices=responds),
         Call("publish", publish, MESSAGES, {}, ("new",), receive_lines, published, 0, sends),
         Call("publish over a file", publish, MESSAGES, existing, ("new",), receive_lines, published, 0, sends),
+        # `feed` also waits for nothing, to read its clock. If such a wait fails, nothing is lost.
+        Call("feed", feed, MESSAGES, {}, ("new",), receive_lines, published, 0, sends, ("wait",)),
+        Call("feed over a file", feed, MESSAGES, {"new": OPEN}, ("new",), receive_lines, published, 0, sends,
+             ("wait",)),
         Call("serve", serve, b"", {"old": OLD}, (), request_messages, (udp_peers.REQUESTING,), 0, responds),
         Call("serve, a file with records", serve, b"", {"old": RECORDS}, (), request_messages,
              (udp_peers.REQUESTING,), 0, responds),
         Call("serve, refused", serve, b"", {"old": OLD[:-1]}, status=2),
-        Call("listen", listen, b"", {}, (), feed, (udp_peers.FEEDING, udp_peers.OWN), 0, receives),
+        Call("listen", listen, b"", {}, (), send_messages, (udp_peers.FEEDING, udp_peers.OWN), 0, receives),
     ]
 
 
@@ -234,7 +242,10 @@ class Trial:
             return True
         if name in self.call.files and name not in self.call.made or self.full.made[name] is None:
             return False
-        return self.full.made[name][: len(got)] == got
+        full = self.full.made[name]
+        # An open journal of version 3 ends with a zero byte, which the next record replaces.
+        is_open = isinstance(got, bytes) and got[:8] == RECORDS[:8] and got.endswith(b"\0")
+        return full[: len(got)] == got or is_open and full.startswith(got[:-1])
 
 
 def with_ports(mold, call, room, try_all):
