@@ -43,14 +43,22 @@ pub struct CommandRow {
 pub(crate) fn value_name(option: &str) -> &'static str {
     match option {
         "session" => "NAME",
-        "limit" | "server-limit" => "BYTES",
-        "window" | "rate" => "MESSAGES",
-        "burst" => "PACKETS",
         "a" | "b" | "server" | "bind" => "ADDRESS",
         "journal" | "to" => "FILE",
         "folder" => "FOLDER",
-        "next" | "from" => "NUMBER",
         "source-a" | "source-b" | "interface-a" | "interface-b" => "IP",
+        _ => number_name(option),
+    }
+}
+
+// Returns the name of an option's value that is a number. For the prover, this is apart from `value_name`: the cost of a
+// `match` over texts grows with the square of their number.
+fn number_name(option: &str) -> &'static str {
+    match option {
+        "limit" | "server-limit" => "BYTES",
+        "window" | "rate" => "MESSAGES",
+        "burst" => "PACKETS",
+        "next" | "from" => "NUMBER",
         "patience" => "US",
         "timeout" | "ceiling" | "idle" | "linger" => "MS",
         "ttl" => "HOPS",
