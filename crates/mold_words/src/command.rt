@@ -1,5 +1,5 @@
 //! Builds the `clap` command of the program from the table.
-ghost use Rattle.std.specs.Prelude.{◌≡◌, IfOk, false, fold, map};
+ghost use Rattle.std.specs.Prelude.{◌≡◌, [], IfOk, Some, false, fold, map};
 ghost use Rattle.clap.specs.Words.{app_of, rule_of};
 ghost use Rattle.clap.specs.declared.builder.Command.TheViews.{out-Command as fields_of};
 ghost use Rattle.mold_words.specs.Words.{bare_app, command_app, first_commands, last_commands, middle_commands};
@@ -19,32 +19,39 @@ const ABOUT: &str = "Publish, serve, receive and check MoldUDP64 sessions";
 
 const WITHOUT_COMMAND: &str = "Without a command, show is run.";
 
+// Returns what `clap` does with an option of this kind.
+fn action_of(kind: Kind) -> ArgAction
+    ensures { Some result ≡ (rule_for [] kind).action }
+{
+    match kind {
+        Kind::Flag => ArgAction::SetTrue,
+        Kind::Repeated => ArgAction::Append,
+        Kind::Optional | Kind::Required | Kind::Word => ArgAction::Set,
+    }
+}
+
+// Whether an option of this kind must be given.
+fn is_required(kind: Kind) -> bool
+    ensures { result ≡ (rule_for [] kind).required }
+{
+    matches!(kind, Kind::Required | Kind::Word)
+}
+
 // Returns the `clap` argument of an option. `clap` reads each value as text.
 fn argument_of<'a>(alloc: Global, option: OptionRow) -> Arg<'a>
     ensures rule { rule_of result ≡ rule_for option.name.now option.kind }
     ensures local { result.global ≡ false }
 {
-    let argument = Arg::new(alloc, option.name).help(option.help);
-    let value = value_name(option.name);
+    let argument = Arg::new(alloc, option.name)
+        .help(option.help)
+        .action(action_of(option.kind))
+        .required(is_required(option.kind));
     match option.kind {
-        Kind::Flag => argument.long(option.name).action(ArgAction::SetTrue),
-        Kind::Optional => argument
+        Kind::Flag => argument.long(option.name),
+        Kind::Word => argument.value_name(value_name(option.name)),
+        _ => argument
             .long(option.name)
-            .action(ArgAction::Set)
-            .value_name(value),
-        Kind::Repeated => argument
-            .long(option.name)
-            .action(ArgAction::Append)
-            .value_name(value),
-        Kind::Required => argument
-            .long(option.name)
-            .action(ArgAction::Set)
-            .value_name(value)
-            .required(true),
-        Kind::Word => argument
-            .action(ArgAction::Set)
-            .value_name(value)
-            .required(true),
+            .value_name(value_name(option.name)),
     }
 }
 
