@@ -94,18 +94,6 @@ fn bare_command<'a>(alloc: Global) -> Result<Command<'a>, AllocError>
         .bin_name("mold")
 }
 
-// Adds the command of a row to the program.
-fn with_command<'a>(
-    alloc: Global,
-    program: Command<'a>,
-    row: CommandRow,
-) -> Result<Command<'a>, AllocError>
-    ensures { IfOk result (λ c. app_of c ≡ with_command (app_of program.entry) (command_of row)) }
-{
-    let command = command_from(alloc, row)?;
-    program.subcommand(command)
-}
-
 // Adds the command of each row to the program.
 fn with_commands<'a>(
     alloc: Global,
@@ -117,7 +105,8 @@ fn with_commands<'a>(
 {
     let mut program = program;
     for row in rows {
-        program = with_command(alloc, program, *row)?;
+        let command = command_from(alloc, *row)?;
+        program = program.subcommand(command)?;
     }
     Ok(program)
 }
