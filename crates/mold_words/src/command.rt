@@ -1,5 +1,5 @@
 //! Builds the `clap` command of the program from the table.
-ghost use Rattle.std.specs.Prelude.{◌≡◌, [], IfOk, Some, false, fold, map};
+ghost use Rattle.std.specs.Prelude.{◌≡◌, [], IfOk, Some, drop, false, fold, map, take};
 ghost use Rattle.clap.specs.Words.{app_of, rule_of};
 ghost use Rattle.clap.specs.declared.builder.Command.TheViews.{out-Command as fields_of};
 ghost use Rattle.mold_words.specs.Words.{bare_app, command_app, first_commands, last_commands, middle_commands};
@@ -7,7 +7,8 @@ ghost use Rattle.mold_words.specs.Words.{mold_app, rule_for, with_command, with_
 ghost use Rattle.mold_words.specs.Table.{command_of, option_of};
 
 use crate::table::{
-    CommandRow, FIRST_COMMANDS, Kind, LAST_COMMANDS, MIDDLE_COMMANDS, OptionRow, value_name,
+    CommandRow, FIRST_COMMANDS, Kind, LAST_COMMANDS, MIDDLE_COMMANDS, OptionRow, RECEIVE_COMMAND,
+    value_name,
 };
 use clap::{Arg, ArgAction, Command};
 use std::alloc::{AllocError, Global};
@@ -126,9 +127,16 @@ fn with_middle_commands<'a>(alloc: Global, program: Command<'a>) -> Result<Comma
     with_commands(alloc, program, &MIDDLE_COMMANDS)
 }
 
-// Adds the last commands to the program.
+// Adds the command `receive` to the program.
+fn with_receive_command<'a>(alloc: Global, program: Command<'a>) -> Result<Command<'a>, AllocError>
+    ensures { IfOk result (λ c. app_of c ≡ fold with_command (app_of program.entry) (take 1 last_commands)) }
+{
+    with_commands(alloc, program, &RECEIVE_COMMAND)
+}
+
+// Adds the commands that follow `receive` to the program.
 fn with_last_commands<'a>(alloc: Global, program: Command<'a>) -> Result<Command<'a>, AllocError>
-    ensures { IfOk result (λ c. app_of c ≡ fold with_command (app_of program.entry) last_commands) }
+    ensures { IfOk result (λ c. app_of c ≡ fold with_command (app_of program.entry) (drop 1 last_commands)) }
 {
     with_commands(alloc, program, &LAST_COMMANDS)
 }
@@ -139,5 +147,6 @@ pub(crate) fn mold_command<'a>(alloc: Global) -> Result<Command<'a>, AllocError>
 {
     let first = with_first_commands(alloc)?;
     let middle = with_middle_commands(alloc, first)?;
-    with_last_commands(alloc, middle)
+    let receive = with_receive_command(alloc, middle)?;
+    with_last_commands(alloc, receive)
 }
