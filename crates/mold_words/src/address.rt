@@ -1,7 +1,7 @@
 //! The address of a UDP port.
 
 /// The IPv4 address and the number of a UDP port.
-#[derive(Clone, Copy, PartialEq, Eq)]
+#[derive(Clone, Copy)]
 pub struct Address {
     /// The four bytes of the IPv4 address, in the order in which they are written.
     pub host: [u8; 4],

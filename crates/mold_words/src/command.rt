@@ -1,5 +1,5 @@
 //! Builds the `clap` command of the program from the table.
-ghost use Rattle.std.specs.Prelude.{◌≡◌, IfOk, false, fold, map};
+ghost use Rattle.std.specs.Prelude.{◌≡◌, [], IfOk, Some, drop, false, fold, map, take};
 ghost use Rattle.clap.specs.Words.{app_of, rule_of};
 ghost use Rattle.clap.specs.declared.builder.Command.TheViews.{out-Command as fields_of};
 ghost use Rattle.mold_words.specs.Words.{bare_app, command_app, first_commands, last_commands, middle_commands};
@@ -7,7 +7,8 @@ ghost use Rattle.mold_words.specs.Words.{mold_app, rule_for, with_command, with_
 ghost use Rattle.mold_words.specs.Table.{command_of, option_of};
 
 use crate::table::{
-    CommandRow, FIRST_COMMANDS, Kind, LAST_COMMANDS, MIDDLE_COMMANDS, OptionRow, value_name,
+    CommandRow, FIRST_COMMANDS, Kind, LAST_COMMANDS, MIDDLE_COMMANDS, OptionRow, RECEIVE_COMMAND,
+    value_name,
 };
 use clap::{Arg, ArgAction, Command};
 use std::alloc::{AllocError, Global};
@@ -19,32 +20,39 @@ const ABOUT: &str = "Publish, serve, receive and check MoldUDP64 sessions";
 
 const WITHOUT_COMMAND: &str = "Without a command, show is run.";
 
+// Returns what `clap` does with an option of this kind.
+fn action_of(kind: Kind) -> ArgAction
+    ensures { Some result ≡ (rule_for [] kind).action }
+{
+    match kind {
+        Kind::Flag => ArgAction::SetTrue,
+        Kind::Repeated => ArgAction::Append,
+        Kind::Optional | Kind::Required | Kind::Word => ArgAction::Set,
+    }
+}
+
+// Whether an option of this kind must be given.
+fn is_required(kind: Kind) -> bool
+    ensures { result ≡ (rule_for [] kind).required }
+{
+    matches!(kind, Kind::Required | Kind::Word)
+}
+
 // Returns the `clap` argument of an option. `clap` reads each value as text.
 fn argument_of<'a>(alloc: Global, option: OptionRow) -> Arg<'a>
     ensures rule { rule_of result ≡ rule_for option.name.now option.kind }
     ensures local { result.global ≡ false }
 {
-    let argument = Arg::new(alloc, option.name).help(option.help);
-    let value = value_name(option.name);
+    let argument = Arg::new(alloc, option.name)
+        .help(option.help)
+        .action(action_of(option.kind))
+        .required(is_required(option.kind));
     match option.kind {
-        Kind::Flag => argument.long(option.name).action(ArgAction::SetTrue),
-        Kind::Optional => argument
+        Kind::Flag => argument.long(option.name),
+        Kind::Word => argument.value_name(value_name(option.name)),
+        _ => argument
             .long(option.name)
-            .action(ArgAction::Set)
-            .value_name(value),
-        Kind::Repeated => argument
-            .long(option.name)
-            .action(ArgAction::Append)
-            .value_name(value),
-        Kind::Required => argument
-            .long(option.name)
-            .action(ArgAction::Set)
-            .value_name(value)
-            .required(true),
-        Kind::Word => argument
-            .action(ArgAction::Set)
-            .value_name(value)
-            .required(true),
+            .value_name(value_name(option.name)),
     }
 }
 
@@ -87,18 +95,6 @@ fn bare_command<'a>(alloc: Global) -> Result<Command<'a>, AllocError>
         .bin_name("mold")
 }
 
-// Adds the command of a row to the program.
-fn with_command<'a>(
-    alloc: Global,
-    program: Command<'a>,
-    row: CommandRow,
-) -> Result<Command<'a>, AllocError>
-    ensures { IfOk result (λ c. app_of c ≡ with_command (app_of program.entry) (command_of row)) }
-{
-    let command = command_from(alloc, row)?;
-    program.subcommand(command)
-}
-
 // Adds the command of each row to the program.
 fn with_commands<'a>(
     alloc: Global,
@@ -110,7 +106,8 @@ fn with_commands<'a>(
 {
     let mut program = program;
     for row in rows {
-        program = with_command(alloc, program, *row)?;
+        let command = command_from(alloc, *row)?;
+        program = program.subcommand(command)?;
     }
     Ok(program)
 }
@@ -130,9 +127,16 @@ fn with_middle_commands<'a>(alloc: Global, program: Command<'a>) -> Result<Comma
     with_commands(alloc, program, &MIDDLE_COMMANDS)
 }
 
-// Adds the last commands to the program.
+// Adds the command `receive` to the program.
+fn with_receive_command<'a>(alloc: Global, program: Command<'a>) -> Result<Command<'a>, AllocError>
+    ensures { IfOk result (λ c. app_of c ≡ fold with_command (app_of program.entry) (take 1 last_commands)) }
+{
+    with_commands(alloc, program, &RECEIVE_COMMAND)
+}
+
+// Adds the commands that follow `receive` to the program.
 fn with_last_commands<'a>(alloc: Global, program: Command<'a>) -> Result<Command<'a>, AllocError>
-    ensures { IfOk result (λ c. app_of c ≡ fold with_command (app_of program.entry) last_commands) }
+    ensures { IfOk result (λ c. app_of c ≡ fold with_command (app_of program.entry) (drop 1 last_commands)) }
 {
     with_commands(alloc, program, &LAST_COMMANDS)
 }
@@ -143,5 +147,6 @@ pub(crate) fn mold_command<'a>(alloc: Global) -> Result<Command<'a>, AllocError>
 {
     let first = with_first_commands(alloc)?;
     let middle = with_middle_commands(alloc, first)?;
-    with_last_commands(alloc, middle)
+    let receive = with_receive_command(alloc, middle)?;
+    with_last_commands(alloc, receive)
 }

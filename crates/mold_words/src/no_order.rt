@@ -14,10 +14,8 @@ pub(crate) enum NoOrder {
     Missing {
         name: &'static str,
     },
-    /// The value of this option is not a session name.
-    Session {
-        name: &'static str,
-    },
+    /// The value of `--session` is not a session name.
+    Session,
     /// The value of this option is not a number in its range.
     Number {
         name: &'static str,
@@ -113,8 +111,8 @@ impl NoOrder {
                 let value = value_name(name);
                 format!(in alloc; "error: '--{name} <{value}>' has no value\n")
             }
-            NoOrder::Session { name } => {
-                invalid_value(alloc, name, "not 1 to 10 characters from space to ~")
+            NoOrder::Session => {
+                invalid_value(alloc, "session", "not 1 to 10 characters from space to ~")
             }
             NoOrder::Number { name, least, most } => {
                 let value = value_name(name);

@@ -1,7 +1,7 @@
 //! Reads the values of a command's options from the matches of a parse.
 
-ghost use Rattle.std.specs.Prelude.{◌≡◌, ◌≤◌, IfOk, IfSome, MatchResult, None, Some, map, option_map, string_bytes};
-ghost use Rattle.std.specs.Prelude.{true};
+ghost use Rattle.std.specs.Prelude.{◌≡◌, ◌≤◌, IfOk, IfSome, MatchResult, None, Some, codes, map, option_map};
+ghost use Rattle.std.specs.Prelude.{string_bytes, true};
 ghost use Rattle.std.specs.List.{list_all};
 ghost use Rattle.clap.specs.Words.{all_of, first_of, found_of, rows_of};
 ghost use Rattle.mold_words.specs.NoOrders.{LacksOrder, LacksValue};
@@ -44,17 +44,13 @@ pub(crate) fn required_in<'a>(
     text_in(options, name).ok_or(NoOrder::Missing { name })
 }
 
-/// Returns the value of an option that must have one, as a string that an order keeps.
-pub(crate) fn string_in(
-    alloc: Global,
-    options: &ArgMatches<'_>,
-    name: &'static str,
-) -> Result<String, NoOrder>
+/// Returns the name of the journal file, as a string that an order keeps.
+pub(crate) fn journal_in(alloc: Global, options: &ArgMatches<'_>) -> Result<String, NoOrder>
     ensures { MatchResult result
-        (λ text. first_of name.now (rows_of (found_of options.now)) ≡ Some (string_bytes text))
-        (LacksOrder (first_of name.now (rows_of (found_of options.now)))) }
+        (λ text. first_of (codes "journal") (rows_of (found_of options.now)) ≡ Some (string_bytes text))
+        (LacksOrder (first_of (codes "journal") (rows_of (found_of options.now)))) }
 {
-    let text = required_in(options, name)?;
+    let text = required_in(options, "journal")?;
     Ok(String::from_str(alloc, text)?)
 }
 
@@ -65,16 +61,16 @@ pub(crate) fn flag_in(options: &ArgMatches<'_>, name: &str) -> bool
     text_in(options, name).is_some_and(|text| text == "true")
 }
 
-/// Returns the value of an option that is a session name.
-pub(crate) fn session_in(options: &ArgMatches<'_>, name: &'static str) -> Result<[u8; 10], NoOrder>
+/// Returns the session name.
+pub(crate) fn session_in(options: &ArgMatches<'_>) -> Result<[u8; 10], NoOrder>
     ensures value { MatchResult result
-        (λ session. session_in name.now (rows_of (found_of options.now)) ≡ Some session)
-        (LacksValue (session_in name.now (rows_of (found_of options.now)))) }
+        (λ session. session_in (codes "session") (rows_of (found_of options.now)) ≡ Some session)
+        (LacksValue (session_in (codes "session") (rows_of (found_of options.now)))) }
     ensures named { IfOk result (λ session. list_all is_character session ≡ true) }
 {
-    match text_in(options, name) {
-        Some(text) => session_of(text).ok_or(NoOrder::Session { name }),
-        None => Err(NoOrder::Session { name }),
+    match text_in(options, "session") {
+        Some(text) => session_of(text).ok_or(NoOrder::Session),
+        None => Err(NoOrder::Session),
     }
 }
 

@@ -16,8 +16,8 @@ use crate::listen_order::ListenOrder;
 use crate::loop_order::LoopOrder;
 use crate::no_order::NoOrder;
 use crate::options::{
-    address_in, bound_in, burst_in, flag_in, follow_in, format_in, limit_in, limits_in, live_in,
-    number_in, report_in, required_in, session_in, string_in, text_in, turns_in, window_in,
+    address_in, bound_in, burst_in, flag_in, follow_in, format_in, journal_in, limit_in, limits_in,
+    live_in, number_in, report_in, required_in, session_in, text_in, turns_in, window_in,
 };
 use crate::pack_journal_order::PackJournalOrder;
 use crate::pack_order::PackOrder;
@@ -91,7 +91,7 @@ fn pack_order(alloc: Global, options: &ArgMatches<'_>) -> Result<Order, NoOrder>
         (λ order. pack_of (rows_of (found_of options.now)) ≡ Some (view order))
         (LacksOrder (pack_of (rows_of (found_of options.now)))) }
 {
-    let session = session_in(options, "session")?;
+    let session = session_in(options)?;
     let limit = limit_in(options, "limit")?;
     let input = format_in(options)?;
     let pack = PackOrder {
@@ -135,7 +135,7 @@ fn dump_order(alloc: Global, options: &ArgMatches<'_>) -> Result<Order, NoOrder>
     let from = number_in(options, "from", 1, 1, MAX_NUMBER)?;
     let count = number_in(options, "count", MAX_NUMBER, 0, MAX_NUMBER)?;
     let output = format_in(options)?;
-    let journal = string_in(alloc, options, "journal")?;
+    let journal = journal_in(alloc, options)?;
     Ok(Order::Dump(DumpOrder {
         journal,
         follow: follow_in(options),
@@ -151,7 +151,7 @@ fn sim_order(options: &ArgMatches<'_>) -> Result<Order, NoOrder>
         (λ order. sim_of (rows_of (found_of options.now)) ≡ Some (view order))
         (LacksOrder (sim_of (rows_of (found_of options.now)))) }
 {
-    let session = session_in(options, "session")?;
+    let session = session_in(options)?;
     let limits = limits_in(options)?;
     let window = window_in(options)?;
     let receivers = number_in(options, "receivers", 2, 1, 8)?;
@@ -186,14 +186,14 @@ fn publish_order(alloc: Global, options: &ArgMatches<'_>) -> Result<Order, NoOrd
         (λ order. publish_of (rows_of (found_of options.now)) ≡ Some (view order))
         (LacksOrder (publish_of (rows_of (found_of options.now)))) }
 {
-    let session = session_in(options, "session")?;
+    let session = session_in(options)?;
     let limit = limit_in(options, "limit")?;
     let a = address_in(options, "a")?;
     let b = address_in(options, "b")?;
     let beats = number_in(options, "beats", 1, 0, 1000)?;
     let ends = number_in(options, "ends", 1, 0, 1000)?;
     let input = format_in(options)?;
-    let journal = string_in(alloc, options, "journal")?;
+    let journal = journal_in(alloc, options)?;
     Ok(Order::Publish(PublishOrder {
         session,
         limit,
@@ -212,7 +212,7 @@ fn feed_order(alloc: Global, options: &ArgMatches<'_>) -> Result<Order, NoOrder>
         (λ order. feed_of (rows_of (found_of options.now)) ≡ Some (view order))
         (LacksOrder (feed_of (rows_of (found_of options.now)))) }
 {
-    let session = session_in(options, "session")?;
+    let session = session_in(options)?;
     let limit = limit_in(options, "limit")?;
     let lines = sent_lines_in(options)?;
     let bind = address_or_none(options, "bind")?;
@@ -221,7 +221,7 @@ fn feed_order(alloc: Global, options: &ArgMatches<'_>) -> Result<Order, NoOrder>
     let blocks = flag_in(options, "blocks");
     let beats = number_in(options, "beats", 1, 0, 1000)?;
     let ends = number_in(options, "ends", 1, 0, 1000)?;
-    let journal = string_in(alloc, options, "journal")?;
+    let journal = journal_in(alloc, options)?;
     Ok(Order::Feed(FeedOrder {
         session,
         limit,
@@ -248,7 +248,7 @@ fn serve_order(alloc: Global, options: &ArgMatches<'_>) -> Result<Order, NoOrder
     let burst = burst_in(options)?;
     let bind = address_in(options, "bind")?;
     let turns = bound_in(options)?;
-    let journal = string_in(alloc, options, "journal")?;
+    let journal = journal_in(alloc, options)?;
     Ok(Order::Serve(ServeOrder {
         journal,
         follow: follow_in(options),
@@ -266,7 +266,7 @@ fn listen_order(options: &ArgMatches<'_>) -> Result<Order, NoOrder>
         (λ order. listen_of (rows_of (found_of options.now)) ≡ Some (view order))
         (LacksOrder (listen_of (rows_of (found_of options.now)))) }
 {
-    let session = session_in(options, "session")?;
+    let session = session_in(options)?;
     let next = number_in(options, "next", 1, 1, MAX_NEXT)?;
     let window = window_in(options)?;
     let a = address_in(options, "a")?;
@@ -399,7 +399,7 @@ fn loop_order(options: &ArgMatches<'_>) -> Result<Order, NoOrder>
         (λ order. loop_of (rows_of (found_of options.now)) ≡ Some (view order))
         (LacksOrder (loop_of (rows_of (found_of options.now)))) }
 {
-    let session = session_in(options, "session")?;
+    let session = session_in(options)?;
     let limits = limits_in(options)?;
     let window = window_in(options)?;
     let burst = burst_in(options)?;

@@ -47,7 +47,7 @@ pub(crate) fn learned_in(options: &ArgMatches<'_>) -> Result<Option<[u8; 10]>, N
     match (text_in(options, "session"), flag_in(options, "learn")) {
         (None, false) => Err(NoOrder::NoSession),
         (None, true) => Ok(None),
-        (Some(_), false) => Ok(Some(session_in(options, "session")?)),
+        (Some(_), false) => Ok(Some(session_in(options)?)),
         (Some(_), true) => Err(NoOrder::Both {
             first: "session",
             second: "learn",

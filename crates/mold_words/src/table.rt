@@ -43,14 +43,22 @@ pub struct CommandRow {
 pub(crate) fn value_name(option: &str) -> &'static str {
     match option {
         "session" => "NAME",
-        "limit" | "server-limit" => "BYTES",
-        "window" | "rate" => "MESSAGES",
-        "burst" => "PACKETS",
         "a" | "b" | "server" | "bind" => "ADDRESS",
         "journal" | "to" => "FILE",
         "folder" => "FOLDER",
-        "next" | "from" => "NUMBER",
         "source-a" | "source-b" | "interface-a" | "interface-b" => "IP",
+        _ => number_name(option),
+    }
+}
+
+// Returns the name of an option's value that is a number. For the prover, this is apart from `value_name`: the cost of a
+// `match` over texts grows with the square of their number.
+fn number_name(option: &str) -> &'static str {
+    match option {
+        "limit" | "server-limit" => "BYTES",
+        "window" | "rate" => "MESSAGES",
+        "burst" => "PACKETS",
+        "next" | "from" => "NUMBER",
         "patience" => "US",
         "timeout" | "ceiling" | "idle" | "linger" => "MS",
         "ttl" => "HOPS",
@@ -161,7 +169,8 @@ const END_AT_EMPTY_BOTH: OptionRow = OptionRow {
         output with an empty block if the session is finished",
 };
 
-// For the prover, the commands are in three lists: the value of one list of all has too many bytes.
+// For the prover, the commands are in four lists: the cost of a function that names a list grows with the square of the
+// number of texts in it.
 
 /// The first commands, in the order in which help lists them.
 pub static FIRST_COMMANDS: [CommandRow; 5] = [
@@ -418,136 +427,138 @@ pub static MIDDLE_COMMANDS: [CommandRow; 3] = [
     },
 ];
 
-/// The commands that help lists last.
-pub static LAST_COMMANDS: [CommandRow; 4] = [
-    CommandRow {
-        name: "receive",
-        about: "Receive a session on one or two lines, repair its gaps, and print the messages",
-        options: &[
-            OptionRow {
-                name: "session",
-                kind: Kind::Optional,
-                help: "The session's name, 1 to 10 characters from space to ~",
-            },
-            OptionRow {
-                name: "learn",
-                kind: Kind::Flag,
-                help: "Receive the session of the first data packet or heartbeat,\n\
+/// The command that follows the middle ones in help.
+pub static RECEIVE_COMMAND: [CommandRow; 1] = [CommandRow {
+    name: "receive",
+    about: "Receive a session on one or two lines, repair its gaps, and print the messages",
+    options: &[
+        OptionRow {
+            name: "session",
+            kind: Kind::Optional,
+            help: "The session's name, 1 to 10 characters from space to ~",
+        },
+        OptionRow {
+            name: "learn",
+            kind: Kind::Flag,
+            help: "Receive the session of the first data packet or heartbeat,\n\
                     in place of --session",
-            },
-            OptionRow {
-                name: "next",
-                kind: Kind::Optional,
-                help: "The sequence number to start at, 1 to 9223372036854775807 [default: 1]",
-            },
-            OptionRow {
-                name: "from-now",
-                kind: Kind::Flag,
-                help: "Start at the sequence number of the first data packet or heartbeat of\n\
+        },
+        OptionRow {
+            name: "next",
+            kind: Kind::Optional,
+            help: "The sequence number to start at, 1 to 9223372036854775807 [default: 1]",
+        },
+        OptionRow {
+            name: "from-now",
+            kind: Kind::Flag,
+            help: "Start at the sequence number of the first data packet or heartbeat of\n\
                     the session, in place of --next",
-            },
-            OptionRow {
-                name: "a",
-                kind: Kind::Required,
-                help: "The address to receive line A on, such as 127.0.0.1:9000, or fd:N for\n\
+        },
+        OptionRow {
+            name: "a",
+            kind: Kind::Required,
+            help: "The address to receive line A on, such as 127.0.0.1:9000, or fd:N for\n\
                     an open UDP socket with descriptor N, 3 to 1023; mold-join opens\n\
                     sockets that receive multicast groups",
-            },
-            OptionRow {
-                name: "b",
-                kind: Kind::Optional,
-                help: "The same for line B, if there is one",
-            },
-            OptionRow {
-                name: "source-a",
-                kind: Kind::Optional,
-                help: "Ignore datagrams on line A from all senders except this IPv4 address",
-            },
-            OptionRow {
-                name: "source-b",
-                kind: Kind::Optional,
-                help: "The same for line B",
-            },
-            OptionRow {
-                name: "server",
-                kind: Kind::Repeated,
-                help: "An address that requests are sent to. May be given up to 8 times",
-            },
-            OptionRow {
-                name: "window",
-                kind: Kind::Optional,
-                help: "How many messages ahead can be stored, 1 to 1048576 [default: 1048576]",
-            },
-            OptionRow {
-                name: "patience",
-                kind: Kind::Optional,
-                help: "How long a message is missing before it is requested, in microseconds,\n\
+        },
+        OptionRow {
+            name: "b",
+            kind: Kind::Optional,
+            help: "The same for line B, if there is one",
+        },
+        OptionRow {
+            name: "source-a",
+            kind: Kind::Optional,
+            help: "Ignore datagrams on line A from all senders except this IPv4 address",
+        },
+        OptionRow {
+            name: "source-b",
+            kind: Kind::Optional,
+            help: "The same for line B",
+        },
+        OptionRow {
+            name: "server",
+            kind: Kind::Repeated,
+            help: "An address that requests are sent to. May be given up to 8 times",
+        },
+        OptionRow {
+            name: "window",
+            kind: Kind::Optional,
+            help: "How many messages ahead can be stored, 1 to 1048576 [default: 1048576]",
+        },
+        OptionRow {
+            name: "patience",
+            kind: Kind::Optional,
+            help: "How long a message is missing before it is requested, in microseconds,\n\
                     200 to 1000000 [default: adaptive]",
-            },
-            OptionRow {
-                name: "timeout",
-                kind: Kind::Optional,
-                help: "How long a request waits for its response before the next one, in\n\
+        },
+        OptionRow {
+            name: "timeout",
+            kind: Kind::Optional,
+            help: "How long a request waits for its response before the next one, in\n\
                     milliseconds, 1 to 60000 [default: 50]",
-            },
-            OptionRow {
-                name: "ceiling",
-                kind: Kind::Optional,
-                help: "The maximum to which the timeout doubles, in milliseconds, 1 to 600000\n\
+        },
+        OptionRow {
+            name: "ceiling",
+            kind: Kind::Optional,
+            help: "The maximum to which the timeout doubles, in milliseconds, 1 to 600000\n\
                     [default: 1000]. It is at least the timeout",
-            },
-            OptionRow {
-                name: "requests",
-                kind: Kind::Optional,
-                help: "The maximum number of requests in a second, 1 to 1000000\n\
+        },
+        OptionRow {
+            name: "requests",
+            kind: Kind::Optional,
+            help: "The maximum number of requests in a second, 1 to 1000000\n\
                     [default: 1000]",
-            },
-            OptionRow {
-                name: "in-flight",
-                kind: Kind::Optional,
-                help: "The maximum number of requests in flight, 1 to 4096 [default: 256]",
-            },
-            OptionRow {
-                name: "give-up",
-                kind: Kind::Optional,
-                help: "The number of unanswered requests after which the first missing\n\
+        },
+        OptionRow {
+            name: "in-flight",
+            kind: Kind::Optional,
+            help: "The maximum number of requests in flight, 1 to 4096 [default: 256]",
+        },
+        OptionRow {
+            name: "give-up",
+            kind: Kind::Optional,
+            help: "The number of unanswered requests after which the first missing\n\
                     message is given up, 0 to 1000 [default: 0]. 0 never gives up",
-            },
-            OptionRow {
-                name: "audit",
-                kind: Kind::Optional,
-                help: "The number of delivered messages that later copies are compared with,\n\
+        },
+        OptionRow {
+            name: "audit",
+            kind: Kind::Optional,
+            help: "The number of delivered messages that later copies are compared with,\n\
                     0 to 1048576 [default: 65536]",
-            },
-            OptionRow {
-                name: "quiet",
-                kind: Kind::Optional,
-                help: "End after this time without an accepted datagram, 0 to 86400\n\
+        },
+        OptionRow {
+            name: "quiet",
+            kind: Kind::Optional,
+            help: "End after this time without an accepted datagram, 0 to 86400\n\
                     [default: 0]. 0 never ends",
-            },
-            OptionRow {
-                name: "stats",
-                kind: Kind::Optional,
-                help: "The time between two lines of statistics on standard error, 0 to 86400\n\
+        },
+        OptionRow {
+            name: "stats",
+            kind: Kind::Optional,
+            help: "The time between two lines of statistics on standard error, 0 to 86400\n\
                     [default: 0]. 0 prints none",
-            },
-            OptionRow {
-                name: "journal",
-                kind: Kind::Optional,
-                help: "The file to keep the session in, instead of printing its messages. If\n\
+        },
+        OptionRow {
+            name: "journal",
+            kind: Kind::Optional,
+            help: "The file to keep the session in, instead of printing its messages. If\n\
                     it exists, the session is continued",
-            },
-            OptionRow {
-                name: "no-sync",
-                kind: Kind::Flag,
-                help: "Do not wait for the disk. If the machine fails, the file of --journal\n\
+        },
+        OptionRow {
+            name: "no-sync",
+            kind: Kind::Flag,
+            help: "Do not wait for the disk. If the machine fails, the file of --journal\n\
                     can't be continued",
-            },
-            BLOCKS_OUT,
-        ],
-        example: "Example:\n  mold receive --session SESSION001 --a 127.0.0.1:9001 --b 127.0.0.1:9002 \\\
+        },
+        BLOCKS_OUT,
+    ],
+    example: "Example:\n  mold receive --session SESSION001 --a 127.0.0.1:9001 --b 127.0.0.1:9002 \\\
             \n    --server 127.0.0.1:9003 > received",
-    },
+}];
+
+/// The commands that help lists last.
+pub static LAST_COMMANDS: [CommandRow; 3] = [
     CommandRow {
         name: "loop",
         about: "Publish, serve and listen in one process over ports of 127.0.0.1",

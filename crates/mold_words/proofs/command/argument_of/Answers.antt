@@ -1,63 +1,40 @@
-use Rattle.std.proofs.Common.{ap, Some, true}
-use Rattle.clap.specs.Words.{Rule}
-use Rattle.clap.specs.declared.builder.ArgAction.TheVariants.{Append, Set, SetTrue}
+use Rattle.std.proofs.Common.{◌≡◌, ◌∙◌, [], Bool, Some, ap, refl}
+use Rattle.clap.specs.Words.{Rule, Text, new_rule}
+use Rattle.clap.specs.declared.builder.ArgAction.{ArgAction}
+use Rattle.mold_words.specs.Words.{rule_for}
+use Rattle.mold_words.specs.declared.table.Kind.{Kind}
+use Rattle.mold_words.specs.declared.table.Kind.TheVariants.{Flag, Optional, Repeated, Required, Word}
 use Rattle.mold_words.proofs.command.argument_of.Goals as goal
 
-pub returns-in-Flag-clause-rule : goal.returns-in-Flag-clause-rule
-returns-in-Flag-clause-rule c =
-    rw (c.in-Flag.is, c.action.ensures, c.long.ensures, c.help-argument.ensures)
-    (ap (λ (rule : Rule). record rule { long = Some c.args.option.name.now; action = Some SetTrue }) c.new.ensures.rule)
+-- an option with a value that is given by its name
+named : (name : Text) (kind : Kind) (action : ArgAction) (required : Bool)
+    → (kind ≡ Flag → ⊥) → (kind ≡ Word → ⊥)
+    → Some action ≡ (rule_for [] kind).action → required ≡ (rule_for [] kind).required
+    → record (new_rule name) { long = Some name; action = Some action; value_names = 1; required = required }
+    ≡ rule_for name kind
+named name Flag action required flag word acts requires = absurd (flag refl)
+named name Word action required flag word acts requires = absurd (word refl)
+named name Optional action required flag word acts requires = rw (acts, requires) refl
+named name Repeated action required flag word acts requires = rw (acts, requires) refl
+named name Required action required flag word acts requires = rw (acts, requires) refl
 
-pub returns-in-Optional-clause-rule : goal.returns-in-Optional-clause-rule
-returns-in-Optional-clause-rule c =
+pub returns-in_default-clause-rule : goal.returns-in_default-clause-rule
+returns-in_default-clause-rule c =
+    let name = c.args.option.name.now in
     rw (
-      c.in-Optional.is,
-      c.value_name.ensures,
-      c.action-in-Optional.ensures,
-      c.long-in-Optional.ensures,
-      c.help-argument.ensures,
-    )
-    (ap (λ (rule : Rule). record rule { long = Some c.args.option.name.now; action = Some Set; value_names = 1 })
-    c.new.ensures.rule)
-
-pub returns-in-Repeated-clause-rule : goal.returns-in-Repeated-clause-rule
-returns-in-Repeated-clause-rule c =
-    rw (
-      c.in-Repeated.is,
-      c.value_name-in-Repeated.ensures,
-      c.action-in-Repeated.ensures,
-      c.long-in-Repeated.ensures,
-      c.help-argument.ensures,
-    )
-    (ap (λ (rule : Rule). record rule { long = Some c.args.option.name.now; action = Some Append; value_names = 1 })
-    c.new.ensures.rule)
-
-pub returns-in-Required-clause-rule : goal.returns-in-Required-clause-rule
-returns-in-Required-clause-rule c =
-    rw (
-      c.in-Required.is,
-      c.required.ensures,
-      c.value_name-in-Required.ensures,
-      c.action-in-Required.ensures,
-      c.long-in-Required.ensures,
-      c.help-argument.ensures,
+      c.value_name-in_default-2.ensures,
+      c.long-in_default.ensures,
+      c.required-argument.ensures,
+      c.action.ensures,
+      c.help.ensures,
     )
     (ap
     (λ (rule : Rule). record rule {
-      long = Some c.args.option.name.now;
-      action = Some Set;
+      long = Some name;
+      action = Some c.action_of.result;
       value_names = 1;
-      required = true;
+      required = c.is_required.result;
     })
-    c.new.ensures.rule)
-
-pub returns-in-Word-clause-rule : goal.returns-in-Word-clause-rule
-returns-in-Word-clause-rule c =
-    rw (
-      c.in-Word.is,
-      c.required-in-Word.ensures,
-      c.value_name-in-Word.ensures,
-      c.action-in-Word.ensures,
-      c.help-argument.ensures,
-    )
-    (ap (λ (rule : Rule). record rule { action = Some Set; value_names = 1; required = true }) c.new.ensures.rule)
+    c.new.ensures.rule
+    ∙ named name c.args.option.kind c.action_of.result c.is_required.result c.in_default.not-Flag
+    c.in_default.not-Word c.action_of.ensures c.is_required.ensures)
