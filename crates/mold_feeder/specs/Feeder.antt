@@ -137,3 +137,12 @@ pub record HasEnded {S L P : Type 0} (shows may_leave : S → List ℕ → Type 
   pub sends : modeled ≡ true →
       SendsOn lines (sends_at_end end old.publisher.publisher) (sent_of state old) (sent_of state new)
   pub told : AreTold may_leave new.publisher (ended_life end life) (sends_at_end end old.publisher.publisher)
+
+-- The publisher sent heartbeats if its session was open, and nothing else.
+pub record HasBeaten {S L P : Type 0} (shows may_leave : S → List ℕ → Type 0) (modeled : Bool)
+    (state : L → PortSetState P) (lines : FeedLines P) (beats : ℕ) (old new : Feeder S L) : Type 0 where
+  -- the publisher after the heartbeats
+  pub mid : Feeder S L
+  pub sent : HasSent shows may_leave modeled state lines (repeated beats (next_heartbeat old.publisher.publisher)) old
+      mid
+  pub silent : new.ports ≡ mid.ports

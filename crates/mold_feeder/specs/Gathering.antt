@@ -24,6 +24,11 @@ filled_for Full = filled.Full
 filled_for End = filled.End
 filled_for (Refused refusal) = filled.Refused refusal
 
+-- The publisher has the messages that it had, and possibly more after them.
+abbrev pub Grows : {S : Type 0} → DurablePublisher S → DurablePublisher S → Type 0
+Grows old new =
+    (messages : List (List ℕ)) × (new.publisher.journal.messages ≡ old.publisher.journal.messages ++ messages)
+
 -- The message of the entry joined those that wait.
 pub record JoinsWaiting {S : Type 0} (shows may_leave : S → List ℕ → Type 0) (life : Life)
     (old new : DurablePublisher S) (outcome : Result (List ℕ) MessageRefusal) : Type 0 where
