@@ -43,8 +43,8 @@ state_of state port feed = record {
 }
 
 -- The session has this life, no message waits to be committed, and no write has failed.
-pub record IsAtRest {S : Type 0} (shows may_leave : S → List ℕ → Type 0) (publisher : DurablePublisher S) (life : Life) :
-    Type 0 where
+pub record IsAtRest {S : Type 0} (shows may_leave : S → List ℕ → Type 0) (publisher : DurablePublisher S)
+    (life : Life) : Type 0 where
   pub publishes : Publishes shows may_leave publisher life
   pub none : life.waiting ≡ []
   pub intact : publisher.durable.broken ≡ false
@@ -118,6 +118,28 @@ pub record HasFed {S P Q : Type 0} (shows may_leave : S → List ℕ → Type 0)
   pub limits : new.server ≡ record old.server { answered = new.server.answered }
   pub onward : old.publisher.publisher.sent ≤ new.publisher.publisher.sent
 
+-- The publisher ended with a fault: a call failed. Before that call it had fed the session as `HasFed` states. The call
+-- that failed sent nothing, on the lines or to a request. If `stays_open` is true, the session was not closed.
+pub record HasBroken {S P Q : Type 0} (shows may_leave : S → List ℕ → Type 0) (moment : S → ℕ)
+    (left_since : S → ℕ → List ℕ → Type 0) (modeled answers : Bool) (lines : FeedLines P) (stays_open : Bool)
+    (life : Life) (old new : FeedState S P Q) : Type 0 where
+  -- the state before the call that failed
+  pub mid : FeedState S P Q
+  pub groups : List (List (List ℕ))
+  pub closes : Bool
+  pub fed : HasFed shows may_leave moment left_since modeled answers lines life groups closes old mid
+  -- the messages of the group whose commit failed, or `[]` if another call failed
+  pub last : List (List ℕ)
+  -- whether the call that failed was the one that closes the session
+  pub closing : Bool
+  pub alone : closing ≡ true → last ≡ []
+  -- A crash during that call leaves the committed messages, and all messages of its group or none.
+  pub leaves : LeavesOnly moment left_since mid.publisher.durable.storage new.publisher.durable.storage
+      (IsFileLeft closing (shut closes (grown life groups)) (last ∷ []))
+  pub kept_open : stays_open ≡ true → (closes ≡ false) × (closing ≡ false)
+  pub silent : modeled ≡ true → new.ports.sent ≡ mid.ports.sent
+  pub unanswered : new.requests ≡ mid.requests
+
 -- Whether the session was closed, if the publisher stopped so.
 abbrev pub closes_at : FeedEnd → FeedStop → Bool
 closes_at end Ended = not end.stays_open
@@ -125,12 +147,12 @@ closes_at end (Refused number refusal) = false
 closes_at end (Other number compared) = false
 
 -- The loop has ended with this status. `known` are the entries of its input, if they are known, and `last` is the last
--- line of a session whose input ended. The text was written: the
--- number of messages that the journal had, if it existed, and why the loop stopped.
+-- line of a session whose input ended. The text was written: the number of messages that the journal had, if it
+-- existed, and why the loop stopped.
 pub record HasFinished {S P Q : Type 0} (shows may_leave : S → List ℕ → Type 0) (moment : S → ℕ)
     (left_since : S → ℕ → List ℕ → Type 0) (modeled answers : Bool) (kind : InputKind) (options : FeedOptions P)
-    (last : List ℕ) (known : Option (List Entry)) (life : Life) (old new : FeedState S P Q) (held_old held_new : Option (List ℕ)) (status : ℕ) :
-    Type 0 where
+    (last : List ℕ) (known : Option (List Entry)) (life : Life) (old new : FeedState S P Q)
+    (held_old held_new : Option (List ℕ)) (status : ℕ) : Type 0 where
   -- why the loop stopped
   pub stop : FeedStop
   pub groups : List (List (List ℕ))

@@ -1,36 +1,85 @@
-use Rattle.std.proofs.Common.{◌≡◌, ◌∙◌, ap, arith, length, subst, sym, [], ◌++◌, false, not}
+use Rattle.std.proofs.Common.{◌≡◌, ◌∙◌, ap, arith, length, subst, sym, [], ◌++◌, false, not, refl}
 use Rattle.mold_publish.specs.declared.filling.Filled.{Filled}
 use Rattle.mold_publish.specs.declared.filling.Filled.TheVariants as filled
 use Rattle.mold_session.specs.Journal.{JournalState}
+use Rattle.mold_devices.proofs.LineLemmas.{on_err}
 use Rattle.mold_feeder.specs.Feeding.{grown, state_of}
 use Rattle.mold_feeder.specs.Input.{entries_of_rest}
 use Rattle.mold_feeder.specs.Taking.{Takes, reopened}
 use Rattle.mold_feeder.proofs.TakingLemmas.{not_refused, reopened_ended, reopened_same, was_refused}
-use Rattle.mold_feeder.proofs.FeedingLemmas.{fed_then}
+use Rattle.mold_feeder.proofs.FeedingLemmas.{broken_at, broken_open, broken_then, fed_serving, fed_then}
 use Rattle.mold_feeder.proofs.feed.Feed.publish_all.Goals as goal
+
+pub returns-in_err-gathered-clause-broken : goal.returns-in_err-gathered-clause-broken
+returns-in_err-gathered-clause-broken g c = λ life is.
+    on_err _
+    (broken_open g.S.Storage.shows g.S.Storage.may_leave g.S.Storage.moment g.S.Storage.left_since g.L.PortSet.modeled
+    g.D.Datagrams.modeled c.args.options.now.lines c.args.options.now.end.stays_open life
+    (state_of g.L.PortSet.state g.D.Datagrams.port c.args.self.now)
+    (state_of g.L.PortSet.state g.D.Datagrams.port c.publish.new.self) (c.in_err-gathered.ensures.broken life is))
+
+pub returns-in_err-serve_until-clause-broken : goal.returns-in_err-serve_until-clause-broken
+returns-in_err-serve_until-clause-broken g c = λ life is.
+    let one = c.in_ok-gathered.ensures.fed life is in
+    on_err _
+    (broken_at g.S.Storage.shows g.S.Storage.may_leave g.S.Storage.moment g.S.Storage.left_since g.L.PortSet.modeled
+    g.D.Datagrams.modeled c.args.options.now.lines g.met.S.Storage.only_now life c.args.options.now.end.stays_open one.0
+    false
+    (state_of g.L.PortSet.state g.D.Datagrams.port c.args.self.now)
+    (state_of g.L.PortSet.state g.D.Datagrams.port c.serve_until.new.self) (λ _. refl)
+    (fed_serving g.S.Storage.shows g.S.Storage.may_leave g.S.Storage.moment g.S.Storage.left_since g.L.PortSet.modeled
+    g.D.Datagrams.modeled c.args.options.now.lines life one.0 false
+    (state_of g.L.PortSet.state g.D.Datagrams.port c.args.self.now)
+    (state_of g.L.PortSet.state g.D.Datagrams.port c.publish.new.self)
+    (state_of g.L.PortSet.state g.D.Datagrams.port c.serve_until.new.self) one.1
+    c.serve_until.ensures.fed))
 
 pub returns-in-Some-clause-fed : goal.returns-in-Some-clause-fed
 returns-in-Some-clause-fed g c = λ life is.
     let one = c.in_ok-gathered.ensures.fed life is in (
-      one.0 ++ [],
-      fed_then g.S.Storage.shows g.S.Storage.may_leave g.S.Storage.moment g.S.Storage.left_since g.L.PortSet.modeled
-          g.D.Datagrams.modeled c.args.options.now.lines life one.0 [] false
-          (state_of g.L.PortSet.state g.D.Datagrams.port c.args.self.now) (state_of g.L.PortSet.state g.D.Datagrams.port c.publish.new.self)
-          (state_of g.L.PortSet.state g.D.Datagrams.port c.serve_until.new.self) one.1 (c.serve_until.ensures.fed (grown life one.0) one.1.rests),
+      one.0,
+      fed_serving g.S.Storage.shows g.S.Storage.may_leave g.S.Storage.moment g.S.Storage.left_since g.L.PortSet.modeled
+          g.D.Datagrams.modeled c.args.options.now.lines life one.0 false
+          (state_of g.L.PortSet.state g.D.Datagrams.port c.args.self.now)
+          (state_of g.L.PortSet.state g.D.Datagrams.port c.publish.new.self)
+          (state_of g.L.PortSet.state g.D.Datagrams.port c.serve_until.new.self) one.1
+          c.serve_until.ensures.fed,
     )
+
+pub returns-in_err-end-clause-broken : goal.returns-in_err-end-clause-broken
+returns-in_err-end-clause-broken g c = λ life is.
+    let one = c.in_ok-gathered.ensures.fed life is in
+    let two = fed_serving g.S.Storage.shows g.S.Storage.may_leave g.S.Storage.moment g.S.Storage.left_since
+    g.L.PortSet.modeled
+    g.D.Datagrams.modeled c.args.options.now.lines life one.0 false
+    (state_of g.L.PortSet.state g.D.Datagrams.port c.args.self.now)
+    (state_of g.L.PortSet.state g.D.Datagrams.port c.publish.new.self)
+    (state_of g.L.PortSet.state g.D.Datagrams.port c.serve_until.new.self) one.1
+    c.serve_until.ensures.fed in
+    on_err _
+    (broken_then g.S.Storage.shows g.S.Storage.may_leave g.S.Storage.moment g.S.Storage.left_since g.L.PortSet.modeled
+    g.D.Datagrams.modeled c.args.options.now.lines c.args.options.now.end.stays_open life one.0
+    (state_of g.L.PortSet.state g.D.Datagrams.port c.args.self.now)
+    (state_of g.L.PortSet.state g.D.Datagrams.port c.serve_until.new.self)
+    (state_of g.L.PortSet.state g.D.Datagrams.port c.end.new.self) two
+    (c.in_err-end.ensures.broken (grown life one.0) two.rests))
 
 pub returns-clause-fed : goal.returns-clause-fed
 returns-clause-fed g c = λ life is.
     let one = c.in_ok-gathered.ensures.fed life is in
-    let two = fed_then g.S.Storage.shows g.S.Storage.may_leave g.S.Storage.moment g.S.Storage.left_since g.L.PortSet.modeled
-    g.D.Datagrams.modeled c.args.options.now.lines life one.0 [] false
-    (state_of g.L.PortSet.state g.D.Datagrams.port c.args.self.now) (state_of g.L.PortSet.state g.D.Datagrams.port c.publish.new.self)
-    (state_of g.L.PortSet.state g.D.Datagrams.port c.serve_until.new.self) one.1 (c.serve_until.ensures.fed (grown life one.0) one.1.rests) in (
-      (one.0 ++ []) ++ [],
+    let two = fed_serving g.S.Storage.shows g.S.Storage.may_leave g.S.Storage.moment g.S.Storage.left_since
+    g.L.PortSet.modeled
+    g.D.Datagrams.modeled c.args.options.now.lines life one.0 false
+    (state_of g.L.PortSet.state g.D.Datagrams.port c.args.self.now)
+    (state_of g.L.PortSet.state g.D.Datagrams.port c.publish.new.self)
+    (state_of g.L.PortSet.state g.D.Datagrams.port c.serve_until.new.self) one.1
+    c.serve_until.ensures.fed in (
+      one.0 ++ [],
       fed_then g.S.Storage.shows g.S.Storage.may_leave g.S.Storage.moment g.S.Storage.left_since g.L.PortSet.modeled
-          g.D.Datagrams.modeled c.args.options.now.lines life (one.0 ++ []) [] (not c.args.options.now.end.stays_open)
+          g.D.Datagrams.modeled c.args.options.now.lines life one.0 [] (not c.args.options.now.end.stays_open)
           (state_of g.L.PortSet.state g.D.Datagrams.port c.args.self.now) (state_of g.L.PortSet.state g.D.Datagrams.port c.serve_until.new.self)
-          (state_of g.L.PortSet.state g.D.Datagrams.port c.end.new.self) two (c.in_ok-end.ensures.fed (grown life (one.0 ++ [])) two.rests),
+          (state_of g.L.PortSet.state g.D.Datagrams.port c.end.new.self) two
+          (c.in_ok-end.ensures.fed (grown life one.0) two.rests),
     )
 
 pub returns-in-Some-clause-taken : goal.returns-in-Some-clause-taken

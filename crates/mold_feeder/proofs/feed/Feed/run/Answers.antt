@@ -1,13 +1,14 @@
-use Rattle.std.proofs.Common.{◌≡◌, ◌-◌, Bool, [], ℕ, ap, arith, length, subst, sym}
+use Rattle.std.proofs.Common.{◌≡◌, ◌-◌, Bool, [], ℕ, ap, arith, false, length, refl, subst, sym}
 use Rattle.std.specs.Prelude.{IfOk}
 use Rattle.mold_session.specs.Journal.{JournalState}
-use Rattle.std.proofs.lemmas.Result.{IfOk-weaker}
+use Rattle.std.proofs.lemmas.Result.{IfOk-weaker, on_err_weaker}
+use Rattle.mold_devices.proofs.LineLemmas.{on_err}
 use Rattle.mold_feeder.specs.Feeding.{closes_at, grown, state_of}
 use Rattle.mold_feeder.specs.Input.{entries_of_rest}
 use Rattle.mold_feeder.specs.Taking.{TakesAfter, TakesInput, reopened}
 use Rattle.mold_feeder.specs.declared.feed_stop.FeedStop.TheVariants as stop
 use Rattle.mold_feeder.proofs.TakingLemmas.{all_same, is_not_same, takes_behind}
-use Rattle.mold_feeder.proofs.FeedingLemmas.{fed_then}
+use Rattle.mold_feeder.proofs.FeedingLemmas.{broken_at, broken_then, fed_then}
 use Rattle.mold_feeder.proofs.feed.Feed.run.Goals as goal
 
 pub returns-clause-fed : goal.returns-clause-fed
@@ -65,3 +66,24 @@ returns-clause-taken g c = λ life is.
     (entries_of_rest g.M.InputReader.unread g.K.Source.left g.M.MessageReader.entries c.compare.new.self.input) stop)
     c.in_ok-number.ensures.journal takes)))
     (c.publish_all-2.ensures.taken (grown life []) (c.in_ok-number.ensures.fed life is).rests)
+
+pub returns-in_err-number-clause-broken : goal.returns-in_err-number-clause-broken
+returns-in_err-number-clause-broken g c = λ life is.
+    on_err _
+    (broken_at g.S.Storage.shows g.S.Storage.may_leave g.S.Storage.moment g.S.Storage.left_since g.L.PortSet.modeled
+    g.D.Datagrams.modeled c.args.options.now.lines g.met.S.Storage.only_now life c.args.options.now.end.stays_open []
+    false
+    (state_of g.L.PortSet.state g.D.Datagrams.port c.args.self.now)
+    (state_of g.L.PortSet.state g.D.Datagrams.port c.compare.new.self) (λ _. refl)
+    (c.compare.ensures.fed life is))
+
+pub returns-clause-broken : goal.returns-clause-broken
+returns-clause-broken g c = λ life is.
+    let one = c.in_ok-number.ensures.fed life is in
+    on_err_weaker c.publish_all-2.result
+    (broken_then g.S.Storage.shows g.S.Storage.may_leave g.S.Storage.moment g.S.Storage.left_since g.L.PortSet.modeled
+    g.D.Datagrams.modeled c.args.options.now.lines c.args.options.now.end.stays_open life []
+    (state_of g.L.PortSet.state g.D.Datagrams.port c.args.self.now)
+    (state_of g.L.PortSet.state g.D.Datagrams.port c.compare.new.self)
+    (state_of g.L.PortSet.state g.D.Datagrams.port c.publish_all-2.new.self) one)
+    (c.publish_all-2.ensures.broken (grown life []) one.rests)

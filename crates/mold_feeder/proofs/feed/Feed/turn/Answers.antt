@@ -1,10 +1,12 @@
-use Rattle.std.proofs.Common.{◌∙◌, List, Option, ap, subst, sym}
+use Rattle.std.proofs.Common.{◌∙◌, List, [], Option, ap, false, refl, subst, sym, true}
 use Rattle.mold_input.specs.Entries.{Entry}
-use Rattle.mold_feeder.specs.Feeding.{IsAtRest}
+use Rattle.mold_devices.proofs.LineLemmas.{on_err}
+use Rattle.mold_feeder.specs.Feeding.{IsAtRest, grown, state_of}
 use Rattle.mold_feeder.specs.Input.{bytes_come, entries_after, entries_of_rest}
 use Rattle.mold_feeder.specs.Taking.{Takes, filled_now, left_of}
 use Rattle.mold_feeder.specs.declared.feeder.Feeder.{Feeder}
 use Rattle.mold_feeder.specs.declared.piece_input.PieceInput.{PieceInput}
+use Rattle.mold_feeder.proofs.FeedingLemmas.{broken_at, broken_then, fed_rested, fed_same, fed_then}
 use Rattle.mold_feeder.proofs.TakingLemmas.{turn_takes}
 use Rattle.mold_feeder.proofs.feed.Feed.turn.Goals as goal
 
@@ -34,3 +36,56 @@ returns-clause-taken g c = λ life is.
     f.publisher.publisher.journal known rest (filled_now taken)) (sym c.note.ensures.feeder)
     (subst (λ (f : Feeder g.row.S.Denot g.row.L.Denot). Takes kind f.publisher.publisher.journal
     c.take.new.self.feeder.publisher.publisher.journal known rest (filled_now taken)) c.in_ok-pause.ensures.feeder takes))
+
+pub returns-in_err-pause-clause-broken : goal.returns-in_err-pause-clause-broken
+returns-in_err-pause-clause-broken g c = λ life is.
+    on_err _
+    (broken_at g.S.Storage.shows g.S.Storage.may_leave g.S.Storage.moment g.S.Storage.left_since g.L.PortSet.modeled
+    g.D.Datagrams.modeled c.args.lines.now g.met.S.Storage.only_now life true [] false
+    (state_of g.L.PortSet.state g.D.Datagrams.port c.args.self.now)
+    (state_of g.L.PortSet.state g.D.Datagrams.port c.pause.new.self) (λ _. refl)
+    (fed_rested g.S.Storage.shows g.S.Storage.may_leave g.S.Storage.moment g.S.Storage.left_since g.L.PortSet.modeled
+    g.D.Datagrams.modeled c.args.lines.now g.met.S.Storage.only_now g.L.PortSet.state g.D.Datagrams.port life
+    c.args.self.now c.pause.new.self is
+    (ap (λ (f : Feeder g.row.S.Denot g.row.L.Denot). f.publisher) c.pause.ensures.feeder) c.pause.ensures.sent
+    c.pause.ensures.requests))
+
+pub returns-in_err-taken-clause-broken : goal.returns-in_err-taken-clause-broken
+returns-in_err-taken-clause-broken g c = λ life is.
+    let waited = fed_rested g.S.Storage.shows g.S.Storage.may_leave g.S.Storage.moment g.S.Storage.left_since
+    g.L.PortSet.modeled
+    g.D.Datagrams.modeled c.args.lines.now g.met.S.Storage.only_now g.L.PortSet.state g.D.Datagrams.port life
+    c.args.self.now c.pause.new.self is
+    (ap (λ (f : Feeder g.row.S.Denot g.row.L.Denot). f.publisher) c.pause.ensures.feeder) c.pause.ensures.sent
+    c.pause.ensures.requests in
+    on_err _
+    (broken_then g.S.Storage.shows g.S.Storage.may_leave g.S.Storage.moment g.S.Storage.left_since g.L.PortSet.modeled
+    g.D.Datagrams.modeled c.args.lines.now true life [] (state_of g.L.PortSet.state g.D.Datagrams.port c.args.self.now)
+    (state_of g.L.PortSet.state g.D.Datagrams.port c.pause.new.self)
+    (state_of g.L.PortSet.state g.D.Datagrams.port c.take.new.self) waited
+    (c.in_err-taken.ensures.broken (grown life []) waited.rests))
+
+pub returns-in_err-note-clause-broken : goal.returns-in_err-note-clause-broken
+returns-in_err-note-clause-broken g c = λ life is.
+    let waited = fed_rested g.S.Storage.shows g.S.Storage.may_leave g.S.Storage.moment g.S.Storage.left_since
+    g.L.PortSet.modeled
+    g.D.Datagrams.modeled c.args.lines.now g.met.S.Storage.only_now g.L.PortSet.state g.D.Datagrams.port life
+    c.args.self.now c.pause.new.self is
+    (ap (λ (f : Feeder g.row.S.Denot g.row.L.Denot). f.publisher) c.pause.ensures.feeder) c.pause.ensures.sent
+    c.pause.ensures.requests in
+    let took = c.in_ok-taken.ensures.fed (grown life []) waited.rests in
+    on_err _
+    (broken_at g.S.Storage.shows g.S.Storage.may_leave g.S.Storage.moment g.S.Storage.left_since g.L.PortSet.modeled
+    g.D.Datagrams.modeled c.args.lines.now g.met.S.Storage.only_now life true took.0 false
+    (state_of g.L.PortSet.state g.D.Datagrams.port c.args.self.now)
+    (state_of g.L.PortSet.state g.D.Datagrams.port c.note.new.self) (λ _. refl)
+    (fed_same g.S.Storage.shows g.S.Storage.may_leave g.S.Storage.moment g.S.Storage.left_since g.L.PortSet.modeled
+    g.D.Datagrams.modeled c.args.lines.now g.met.S.Storage.only_now g.L.PortSet.state g.D.Datagrams.port life took.0
+    false
+    (state_of g.L.PortSet.state g.D.Datagrams.port c.args.self.now) c.take.new.self c.note.new.self
+    (fed_then g.S.Storage.shows g.S.Storage.may_leave g.S.Storage.moment g.S.Storage.left_since g.L.PortSet.modeled
+    g.D.Datagrams.modeled c.args.lines.now life [] took.0 false
+    (state_of g.L.PortSet.state g.D.Datagrams.port c.args.self.now)
+    (state_of g.L.PortSet.state g.D.Datagrams.port c.pause.new.self)
+    (state_of g.L.PortSet.state g.D.Datagrams.port c.take.new.self) waited took.1)
+    c.note.ensures.feeder c.note.ensures.requests))
