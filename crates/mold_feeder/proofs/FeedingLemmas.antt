@@ -37,7 +37,7 @@ use Rattle.mold_feeder.specs.declared.feed.Feed.{Feed}
 use Rattle.mold_feeder.specs.declared.feed_end.FeedEnd.{FeedEnd}
 use Rattle.mold_feeder.specs.declared.feed_lines.FeedLines.{FeedLines}
 use Rattle.mold_feeder.specs.declared.feed_stop.FeedStop.{FeedStop}
-use Rattle.mold_feeder.specs.declared.feed_stop.FeedStop.TheVariants as stop
+use Rattle.mold_feeder.specs.declared.feed_stop.FeedStop.TheVariants.{Ended, Other, Refused}
 use Rattle.mold_feeder.specs.declared.feeder.Feeder.{Feeder}
 use Rattle.mold_feeder.specs.declared.gathered.Gathered.{Gathered}
 use Rattle.mold_feeder.specs.declared.requests.Requests.{Requests}
@@ -629,6 +629,23 @@ module _ {S P Q : Type 0} (shows may_leave : S → List ℕ → Type 0) (moment 
         onward = onward;
       }
 
+  -- The session was ended, and the publisher then served.
+  pub fed_ended_on : {L : Type 0} (state : L → PortSetState P) (end : FeedEnd) (life : Life) (old new : Feeder S L)
+      (asked : Port Q) (server : ServerState) (last : FeedState S P Q) → IsAtRest shows may_leave old.publisher life →
+      HasEnded shows may_leave modeled state lines end life old new →
+      LeavesOnly moment left_since old.publisher.durable.storage new.publisher.durable.storage
+      (IsFileAtEnd end.stays_open life) → new.publisher.durable.broken ≡ old.publisher.durable.broken →
+      ((life : Life) → IsAtRest shows may_leave new.publisher life →
+      HasFed shows may_leave moment left_since modeled answers lines life [] false
+      (record { publisher = new.publisher; ports = state new.ports; requests = asked; server = server }) last) →
+      HasFed shows may_leave moment left_since modeled answers lines life [] (not end.stays_open)
+      (record { publisher = old.publisher; ports = state old.ports; requests = asked; server = server }) last
+  fed_ended_on state end life old new asked server last is ended crash intact serves =
+      fed_serving shows may_leave moment left_since modeled answers lines life [] (not end.stays_open)
+      (record { publisher = old.publisher; ports = state old.ports; requests = asked; server = server })
+      (record { publisher = new.publisher; ports = state new.ports; requests = asked; server = server }) last
+      (fed_ended state end life old new asked server is ended crash intact) serves
+
 -- ---- a publisher that waits or reads
 
 module _ {S P Q : Type 0} (shows may_leave : S → List ℕ → Type 0) (moment : S → ℕ)
@@ -699,20 +716,25 @@ module _ {S P Q : Type 0} (shows may_leave : S → List ℕ → Type 0) (moment 
 
 -- ---- a fault
 
--- A session that stays open is not closed, however the publisher stopped.
-pub kept_at : (end : FeedEnd) (stop : FeedStop) → end.stays_open ≡ true → closes_at end stop ≡ false
-kept_at end stop.Ended is = ap not is
-kept_at end (stop.Refused number refusal) is = refl
-kept_at end (stop.Other number compared) is = refl
+pub not_open : (stays : Bool) → not stays ≡ true → stays ≡ false
+not_open false is = refl
+not_open true is = absurd (cc)
+
+-- If the session was closed, it does not stay open, and its input has ended.
+pub ended_at : (end : FeedEnd) (stop : FeedStop) (P : FeedStop → Type 0) → P stop → closes_at end stop ≡ true →
+    (end.stays_open ≡ false) × P Ended
+ended_at end Ended P so is = (not_open end.stays_open is, so)
+ended_at end (Refused number refusal) P so is = absurd (cc)
+ended_at end (Other number compared) P so is = absurd (cc)
 
 module _ {S P Q : Type 0} (shows may_leave : S → List ℕ → Type 0) (moment : S → ℕ)
     (left_since : S → ℕ → List ℕ → Type 0) (modeled answers : Bool) (lines : FeedLines P)
-    (stays_open : Bool) (life : Life) where
+    (may_close : JournalState → Type 0) (life : Life) where
   -- The publisher went on, and then ended with a fault.
   pub broken_then : (first : List (List (List ℕ))) (old mid new : FeedState S P Q) →
       HasFed shows may_leave moment left_since modeled answers lines life first false old mid →
-      HasBroken shows may_leave moment left_since modeled answers lines stays_open (grown life first) mid new →
-      HasBroken shows may_leave moment left_since modeled answers lines stays_open life old new
+      HasBroken shows may_leave moment left_since modeled answers lines may_close (grown life first) mid new →
+      HasBroken shows may_leave moment left_since modeled answers lines may_close life old new
   broken_then first old mid new one other = record {
     mid = other.mid;
     groups = first ++ other.groups;
@@ -725,16 +747,17 @@ module _ {S P Q : Type 0} (shows may_leave : S → List ℕ → Type 0) (moment 
     leaves = subst (λ (l : Life). LeavesOnly moment left_since other.mid.publisher.durable.storage
         new.publisher.durable.storage (IsFileLeft other.closing l (other.last ∷ [])))
         (shut_grown other.closes life first other.groups) other.leaves;
-    kept_open = other.kept_open;
+    allowed = other.allowed;
     silent = other.silent;
     unanswered = other.unanswered;
   }
 
-  -- A session that was not closed, whether it stays open or not.
-  pub broken_open : (old new : FeedState S P Q) →
-      HasBroken shows may_leave moment left_since modeled answers lines true life old new →
-      HasBroken shows may_leave moment left_since modeled answers lines stays_open life old new
-  broken_open old new broken = record {
+  -- The session may be closed in more cases.
+  pub broken_weaker : (less : JournalState → Type 0) (old new : FeedState S P Q) →
+      ((journal : JournalState) → less journal → may_close journal) →
+      HasBroken shows may_leave moment left_since modeled answers lines less life old new →
+      HasBroken shows may_leave moment left_since modeled answers lines may_close life old new
+  broken_weaker less old new follows broken = record {
     mid = broken.mid;
     groups = broken.groups;
     closes = broken.closes;
@@ -743,7 +766,7 @@ module _ {S P Q : Type 0} (shows may_leave : S → List ℕ → Type 0) (moment 
     closing = broken.closing;
     alone = broken.alone;
     leaves = broken.leaves;
-    kept_open = λ _. broken.kept_open refl;
+    allowed = λ is. follows broken.mid.publisher.publisher.journal (broken.allowed is);
     silent = broken.silent;
     unanswered = broken.unanswered;
   }
@@ -751,13 +774,13 @@ module _ {S P Q : Type 0} (shows may_leave : S → List ℕ → Type 0) (moment 
 module _ {S P Q : Type 0} (shows may_leave : S → List ℕ → Type 0) (moment : S → ℕ)
     (left_since : S → ℕ → List ℕ → Type 0) (modeled answers : Bool) (lines : FeedLines P)
     (only_now : (storage : S) (bytes : List ℕ) → left_since storage (moment storage) bytes → may_leave storage bytes)
-    (life : Life) where
+    (may_close : JournalState → Type 0) (life : Life) where
   -- A call failed that changed nothing of the session.
-  pub broken_at : (stays_open : Bool) (groups : List (List (List ℕ))) (closes : Bool) (old new : FeedState S P Q) →
-      (stays_open ≡ true → closes ≡ false) →
+  pub broken_at : (groups : List (List (List ℕ))) (closes : Bool) (old new : FeedState S P Q) →
+      (closes ≡ true → may_close new.publisher.publisher.journal) →
       HasFed shows may_leave moment left_since modeled answers lines life groups closes old new →
-      HasBroken shows may_leave moment left_since modeled answers lines stays_open life old new
-  broken_at stays_open groups closes old new kept fed =
+      HasBroken shows may_leave moment left_since modeled answers lines may_close life old new
+  broken_at groups closes old new allowed fed =
       let now = shut closes (grown life groups) in
       record {
         mid = new;
@@ -770,19 +793,29 @@ module _ {S P Q : Type 0} (shows may_leave : S → List ℕ → Type 0) (moment 
         leaves = leaves_still moment left_since may_leave only_now new.publisher.durable.storage
             (IsFileLeft false now ([] ∷ []))
             (λ bytes left. file_at_rest now new.publisher ([] ∷ []) bytes fed.rests left);
-        kept_open = λ is. (kept is, refl);
+        allowed = λ is. elim is [
+          | inl closed ↦ allowed closed
+          | inr closing ↦ absurd (cc)
+        ];
         silent = λ _. refl;
         unanswered = refl;
       }
 
-  -- A call failed after the publisher stopped, which began before it took the first entry.
+  -- A call failed that changed nothing of a session that was not closed.
+  pub broken_now : (groups : List (List (List ℕ))) (old new : FeedState S P Q) →
+      HasFed shows may_leave moment left_since modeled answers lines life groups false old new →
+      HasBroken shows may_leave moment left_since modeled answers lines may_close life old new
+  broken_now groups old new fed = broken_at groups false old new (λ is. absurd (cc)) fed
+
+  -- A call failed after the publisher stopped.
   pub broken_after : (end : FeedEnd) (stop : FeedStop) (old mid new : FeedState S P Q) →
+      (closes_at end stop ≡ true → may_close new.publisher.publisher.journal) →
       HasFed shows may_leave moment left_since modeled answers lines life [] false old mid →
       (groups : List (List (List ℕ)))
       × HasFed shows may_leave moment left_since modeled answers lines (grown life []) groups (closes_at end stop) mid
-      new → HasBroken shows may_leave moment left_since modeled answers lines end.stays_open life old new
-  broken_after end stop old mid new begun ran =
-      broken_at end.stays_open ran.0 (closes_at end stop) old new (kept_at end stop)
+      new → HasBroken shows may_leave moment left_since modeled answers lines may_close life old new
+  broken_after end stop old mid new allowed begun ran =
+      broken_at ran.0 (closes_at end stop) old new allowed
       (fed_then shows may_leave moment left_since modeled answers lines life [] ran.0 (closes_at end stop) old mid new
       begun ran.1)
 
@@ -795,7 +828,7 @@ module _ {S P Q : Type 0} (shows may_leave : S → List ℕ → Type 0) (moment 
       RepliesTo (sent_journal old.publisher.publisher) server (cut MAX_LIMIT (next_of asked)) (received asked) replied)
       →
       mine ≡ record server { answered = mine.answered } →
-      HasBroken shows may_leave moment left_since modeled answers lines true life
+      HasBroken shows may_leave moment left_since modeled answers lines may_close life
       (record { publisher = old.publisher; ports = state old.ports; requests = asked; server = server })
       (record { publisher = new.publisher; ports = state new.ports; requests = replied; server = mine })
   broken_turn {L} state old new asked replied server mine is grows crash ports replies limits =
@@ -814,7 +847,10 @@ module _ {S P Q : Type 0} (shows may_leave : S → List ℕ → Type 0) (moment 
             (leaves_weaker moment left_since old.publisher.durable.storage new.publisher.durable.storage
             (IsFileUpTo life new.publisher) (IsFileLeft false life (grows.0 ∷ []))
             (λ bytes. up_to_left life grows.0 new.publisher bytes added) crash);
-        kept_open = λ _. (refl, refl);
+        allowed = λ is. elim is [
+          | inl closed ↦ absurd (cc)
+          | inr closing ↦ absurd (cc)
+        ];
         silent = λ _. ap (λ (p : L). (state p).sent) ports;
         unanswered = refl;
       }
@@ -825,10 +861,12 @@ module _ {S P Q : Type 0} (shows may_leave : S → List ℕ → Type 0) (moment 
       HasBeaten shows may_leave modeled state lines end.beats old new →
       LeavesOnly moment left_since old.publisher.durable.storage new.publisher.durable.storage
       (IsFileAtEnd end.stays_open life) →
-      HasBroken shows may_leave moment left_since modeled answers lines end.stays_open life
+      ((journal : JournalState) → end.stays_open ≡ false → journal ≡ old.publisher.publisher.journal →
+      may_close journal) →
+      HasBroken shows may_leave moment left_since modeled answers lines may_close life
       (record { publisher = old.publisher; ports = state old.ports; requests = asked; server = server })
       (record { publisher = new.publisher; ports = state new.ports; requests = asked; server = server })
-  broken_end {L} state end old new asked server is beaten crash =
+  broken_end {L} state end old new asked server is beaten crash allowed =
       let left = IsFileLeft (not end.stays_open) life ([] ∷ []) in
       record {
         mid = record {
@@ -852,7 +890,11 @@ module _ {S P Q : Type 0} (shows may_leave : S → List ℕ → Type 0) (moment 
             (leaves_weaker moment left_since old.publisher.durable.storage new.publisher.durable.storage
             (IsFileAtEnd end.stays_open life) left
             (λ bytes. at_end_left end.stays_open life ([] ∷ []) bytes refl is.none) crash));
-        kept_open = λ is. (refl, ap not is);
+        allowed = λ is. elim is [
+          | inl closed ↦ absurd (cc)
+          | inr closing ↦ allowed beaten.mid.publisher.publisher.journal (not_open end.stays_open closing)
+              beaten.sent.journal
+        ];
         silent = λ _. ap (λ (p : L). (state p).sent) beaten.silent;
         unanswered = refl;
       }

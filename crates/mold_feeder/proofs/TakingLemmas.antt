@@ -373,6 +373,26 @@ pub reopened_ended : (end : FeedEnd) (old : JournalState) (publisher : Publisher
     publisher.journal.closed ≡ old.closed → reopened old (ended end publisher).journal ≡ publisher.journal
 reopened_ended end old publisher same = ended_cases end.stays_open old publisher ∙ reopened_same old publisher.journal same
 
+-- All entries were published, and since then the session was closed or not.
+pub takes_ended : (kind : InputKind) (begun : ℕ) (old published served last : JournalState)
+    (known left : Option (List Entry)) (gathered : Gathered) → IsStop gathered → refusal_of gathered ≡ None →
+    Takes kind old published known left (filled_for gathered) → served ≡ published → served.closed ≡ old.closed →
+    reopened served last ≡ served → TakesAfter kind begun old (reopened old last) known stop.Ended
+takes_ended kind begun old published served last known left gathered is none takes kept shut same = (
+  left,
+  subst (λ (j : JournalState). Takes kind old j known left filled.End)
+      (sym (ap (λ (c : Bool). record last { closed = c }) (sym shut) ∙ same ∙ kept))
+      (subst (Takes kind old published known left) (not_refused gathered is none) takes),
+)
+
+-- The same, if the journal and the entries are the same.
+pub takes_same : (appends : Bool) (kind : InputKind) (one other new : JournalState) (known mine : Option (List Entry))
+    (last : FeedStop) → one ≡ other → known ≡ mine → TakesInput appends kind one (reopened one new) known last →
+    TakesInput appends kind other (reopened other new) mine last
+takes_same appends kind one other new known mine last journal entries takes =
+    subst (λ (es : Option (List Entry)). TakesInput appends kind other (reopened other new) es last) entries
+    (subst (λ (j : JournalState). TakesInput appends kind j (reopened j new) known last) journal takes)
+
 -- The first entries are the messages of the journal.
 pub takes_behind : (kind : InputKind) (old new : JournalState) (known mid : Option (List Entry)) (number : ℕ)
     (found : Compared) (stop : FeedStop) → found ≡ Same → ComparesAll old 1 number known mid found →

@@ -18,7 +18,7 @@ use Rattle.mold_wire.specs.declared.limits.TheConstants.{MAX_LIMIT}
 use Rattle.mold_feeder.specs.FeedLines.{SendsOn}
 use Rattle.mold_feeder.specs.FeedText.{first_text, status_at, stop_text}
 use Rattle.mold_feeder.specs.Requests.{RepliesTo}
-use Rattle.mold_feeder.specs.Taking.{AllSent, TakesInput, reopened}
+use Rattle.mold_feeder.specs.Taking.{AllSent, TakesAfter, TakesInput, reopened}
 use Rattle.mold_feeder.specs.declared.feed.Feed.{Feed}
 use Rattle.mold_feeder.specs.declared.feed_end.FeedEnd.{FeedEnd}
 use Rattle.mold_feeder.specs.declared.feed_lines.FeedLines.{FeedLines}
@@ -119,10 +119,11 @@ pub record HasFed {S P Q : Type 0} (shows may_leave : S → List ℕ → Type 0)
   pub onward : old.publisher.publisher.sent ≤ new.publisher.publisher.sent
 
 -- The publisher ended with a fault: a call failed. Before that call it had fed the session as `HasFed` states. The call
--- that failed sent nothing, on the lines or to a request. If `stays_open` is true, the session was not closed.
+-- that failed sent nothing, on the lines or to a request. If the session was closed, or closing it failed, its journal
+-- satisfies `may_close`.
 pub record HasBroken {S P Q : Type 0} (shows may_leave : S → List ℕ → Type 0) (moment : S → ℕ)
-    (left_since : S → ℕ → List ℕ → Type 0) (modeled answers : Bool) (lines : FeedLines P) (stays_open : Bool)
-    (life : Life) (old new : FeedState S P Q) : Type 0 where
+    (left_since : S → ℕ → List ℕ → Type 0) (modeled answers : Bool) (lines : FeedLines P)
+    (may_close : JournalState → Type 0) (life : Life) (old new : FeedState S P Q) : Type 0 where
   -- the state before the call that failed
   pub mid : FeedState S P Q
   pub groups : List (List (List ℕ))
@@ -136,9 +137,28 @@ pub record HasBroken {S P Q : Type 0} (shows may_leave : S → List ℕ → Type
   -- A crash during that call leaves the committed messages, and all messages of its group or none.
   pub leaves : LeavesOnly moment left_since mid.publisher.durable.storage new.publisher.durable.storage
       (IsFileLeft closing (shut closes (grown life groups)) (last ∷ []))
-  pub kept_open : stays_open ≡ true → (closes ≡ false) × (closing ≡ false)
+  pub allowed : (closes ≡ true) ⊎ (closing ≡ true) → may_close mid.publisher.publisher.journal
   pub silent : modeled ≡ true → new.ports.sent ≡ mid.ports.sent
   pub unanswered : new.requests ≡ mid.requests
+
+-- A session may not be closed.
+abbrev pub MayNotClose : JournalState → Type 0
+MayNotClose journal = ⊥
+
+-- A session may be closed if it does not stay open and all entries of its input were published. `old` is the journal at
+-- the beginning, and `new` the one at the end.
+abbrev pub MayClose : FeedEnd → Bool → InputKind → JournalState → Option (List Entry) → JournalState → Type 0
+MayClose end appends kind old known new =
+    (end.stays_open ≡ false) × TakesInput appends kind old (reopened old new) known Ended
+
+-- The same for a session of whose input the first `begun` messages are not compared.
+abbrev pub MayCloseAfter : FeedEnd → InputKind → ℕ → JournalState → Option (List Entry) → JournalState → Type 0
+MayCloseAfter end kind begun old known new =
+    (end.stays_open ≡ false) × TakesAfter kind begun old (reopened old new) known Ended
+
+-- The same for a session whose messages were all published.
+abbrev pub MayCloseNow : FeedEnd → JournalState → JournalState → Type 0
+MayCloseNow end old new = (end.stays_open ≡ false) × (reopened old new ≡ old)
 
 -- Whether the session was closed, if the publisher stopped so.
 abbrev pub closes_at : FeedEnd → FeedStop → Bool

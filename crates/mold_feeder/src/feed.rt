@@ -6,7 +6,8 @@ ghost use Rattle.std.specs.Io.Iter.{u64_saturate};
 ghost use Rattle.std.specs.Io.KnownBytes.{Appends, IsAtEnd};
 ghost use Rattle.mold_durable.specs.Life.{Life};
 ghost use Rattle.mold_feeder.specs.FeedText.{fed_line, first_text, stop_text};
-ghost use Rattle.mold_feeder.specs.Feeding.{HasBroken, HasFed, IsAtRest, closes_at, state_of};
+ghost use Rattle.mold_feeder.specs.Feeding.{HasBroken, HasFed, IsAtRest, MayClose, MayCloseAfter, MayCloseNow};
+ghost use Rattle.mold_feeder.specs.Feeding.{MayNotClose, closes_at, state_of};
 ghost use Rattle.mold_feeder.specs.Input.{IsInput, KeepsRest, bytes_come, entries_after, entries_of_rest};
 ghost use Rattle.mold_feeder.specs.Gathering.{filled_for};
 ghost use Rattle.mold_feeder.specs.Taking.{AllSent, ComparesCome, IsStop, Takes, TakesAfter, TakesCome, TakesInput};
@@ -126,7 +127,7 @@ impl<
             × HasFed S.shows S.may_leave S.moment S.left_since L.modeled D.modeled lines.now life groups false
             (state_of L.state D.port self.old) (state_of L.state D.port self.new)) }
         ensures broken { (life : Life) → IsAtRest S.shows S.may_leave self.old.feeder.publisher life → OnErr result
-            (HasBroken S.shows S.may_leave S.moment S.left_since L.modeled D.modeled lines.now true life
+            (HasBroken S.shows S.may_leave S.moment S.left_since L.modeled D.modeled lines.now MayNotClose life
             (state_of L.state D.port self.old) (state_of L.state D.port self.new)) }
         ensures taken { (life : Life) → IsAtRest S.shows S.may_leave self.old.feeder.publisher life → IfOk result
             (TakesCome M.input_kind self.old.feeder.publisher.publisher.journal
@@ -178,7 +179,7 @@ impl<
             × HasFed S.shows S.may_leave S.moment S.left_since L.modeled D.modeled lines.now life groups false
             (state_of L.state D.port self.old) (state_of L.state D.port self.new)) }
         ensures broken { (life : Life) → IsAtRest S.shows S.may_leave self.old.feeder.publisher life → OnErr result
-            (HasBroken S.shows S.may_leave S.moment S.left_since L.modeled D.modeled lines.now true life
+            (HasBroken S.shows S.may_leave S.moment S.left_since L.modeled D.modeled lines.now MayNotClose life
             (state_of L.state D.port self.old) (state_of L.state D.port self.new)) }
         ensures taken { (life : Life) → IsAtRest S.shows S.may_leave self.old.feeder.publisher life → IfOk result
             (λ taken. Takes M.input_kind self.old.feeder.publisher.publisher.journal
@@ -232,7 +233,7 @@ impl<
             × HasFed S.shows S.may_leave S.moment S.left_since L.modeled D.modeled lines.now life groups false
             (state_of L.state D.port self.old) (state_of L.state D.port self.new)) }
         ensures broken { (life : Life) → IsAtRest S.shows S.may_leave self.old.feeder.publisher life → OnErr result
-            (HasBroken S.shows S.may_leave S.moment S.left_since L.modeled D.modeled lines.now true life
+            (HasBroken S.shows S.may_leave S.moment S.left_since L.modeled D.modeled lines.now MayNotClose life
             (state_of L.state D.port self.old) (state_of L.state D.port self.new)) }
         ensures taken { (life : Life) → IsAtRest S.shows S.may_leave self.old.feeder.publisher life → IfOk result
             (λ gathered. Takes M.input_kind self.old.feeder.publisher.publisher.journal
@@ -400,7 +401,8 @@ impl<
             (not options.now.end.stays_open) (state_of L.state D.port self.old) (state_of L.state D.port self.new)) }
         ensures broken { (life : Life) → IsAtRest S.shows S.may_leave self.old.feeder.publisher life → OnErr result
             (HasBroken S.shows S.may_leave S.moment S.left_since L.modeled D.modeled options.now.lines
-            options.now.end.stays_open life (state_of L.state D.port self.old) (state_of L.state D.port self.new)) }
+            (MayCloseNow options.now.end self.old.feeder.publisher.publisher.journal) life
+            (state_of L.state D.port self.old) (state_of L.state D.port self.new)) }
         ensures journal { OnOk result (self.new.feeder.publisher.publisher.journal
             ≡ (ended options.now.end self.old.feeder.publisher.publisher).journal) }
         ensures sent { OnOk result (length self.new.feeder.publisher.publisher.journal.messages
@@ -432,7 +434,9 @@ impl<
             (closes_at options.now.end stop) (state_of L.state D.port self.old) (state_of L.state D.port self.new)) }
         ensures broken { (life : Life) → IsAtRest S.shows S.may_leave self.old.feeder.publisher life → OnErr result
             (HasBroken S.shows S.may_leave S.moment S.left_since L.modeled D.modeled options.now.lines
-            options.now.end.stays_open life (state_of L.state D.port self.old) (state_of L.state D.port self.new)) }
+            (MayCloseAfter options.now.end M.input_kind begun self.old.feeder.publisher.publisher.journal
+            (entries_of_rest M.unread K.left M.entries self.old.input)) life
+            (state_of L.state D.port self.old) (state_of L.state D.port self.new)) }
         ensures taken { (life : Life) → IsAtRest S.shows S.may_leave self.old.feeder.publisher life → IfOk result
             (TakesAfter M.input_kind begun self.old.feeder.publisher.publisher.journal
             (reopened self.old.feeder.publisher.publisher.journal self.new.feeder.publisher.publisher.journal)
@@ -466,7 +470,9 @@ impl<
             (closes_at options.now.end stop) (state_of L.state D.port self.old) (state_of L.state D.port self.new)) }
         ensures broken { (life : Life) → IsAtRest S.shows S.may_leave self.old.feeder.publisher life → OnErr result
             (HasBroken S.shows S.may_leave S.moment S.left_since L.modeled D.modeled options.now.lines
-            options.now.end.stays_open life (state_of L.state D.port self.old) (state_of L.state D.port self.new)) }
+            (MayClose options.now.end options.now.appends M.input_kind self.old.feeder.publisher.publisher.journal
+            (entries_of_rest M.unread K.left M.entries self.old.input)) life
+            (state_of L.state D.port self.old) (state_of L.state D.port self.new)) }
         ensures taken { (life : Life) → IsAtRest S.shows S.may_leave self.old.feeder.publisher life → IfOk result
             (TakesInput options.now.appends M.input_kind self.old.feeder.publisher.publisher.journal
             (reopened self.old.feeder.publisher.publisher.journal self.new.feeder.publisher.publisher.journal)

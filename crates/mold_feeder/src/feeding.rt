@@ -4,7 +4,7 @@ ghost use Rattle.std.specs.Prelude.{◌≡◌, ◌≤◌, ◌+◌, length, IfOk,
 ghost use Rattle.std.specs.Io.Iter.{u64_saturate};
 ghost use Rattle.mold_durable.specs.Life.{Life};
 ghost use Rattle.mold_feeder.specs.FeedText.{fed_line, status_at};
-ghost use Rattle.mold_feeder.specs.Feeding.{HasBroken, HasFinished, IsAtRest, state_of};
+ghost use Rattle.mold_feeder.specs.Feeding.{HasBroken, HasFinished, IsAtRest, MayClose, state_of};
 ghost use Rattle.mold_feeder.specs.Input.{IsInput, entries_of_rest};
 
 use crate::feed::Feed;
@@ -74,7 +74,9 @@ pub fn feed_loop<
         (state_of L.state D.port feed.new) (O.held sink.old) (O.held sink.new)) }
     ensures broken { (life : Life) → IsAtRest S.shows S.may_leave feed.old.feeder.publisher life → OnErr result
         (HasBroken S.shows S.may_leave S.moment S.left_since L.modeled D.modeled options.now.lines
-        options.now.end.stays_open life (state_of L.state D.port feed.old) (state_of L.state D.port feed.new)) }
+        (MayClose options.now.end options.now.appends M.input_kind feed.old.feeder.publisher.publisher.journal
+        (entries_of_rest M.unread K.left M.entries feed.old.input)) life (state_of L.state D.port feed.old)
+        (state_of L.state D.port feed.new)) }
 {
     let mut buffer = vec![in alloc; 0; MAX_LIMIT]?;
     let mut text = Vec::new(alloc);

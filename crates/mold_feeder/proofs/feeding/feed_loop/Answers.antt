@@ -1,22 +1,20 @@
-use Rattle.std.proofs.Common.{[], false, refl, subst}
+use Rattle.std.proofs.Common.{[], ap}
 use Rattle.mold_devices.proofs.LineLemmas.{on_err}
-use Rattle.mold_session.specs.Journal.{JournalState}
-use Rattle.mold_feeder.specs.Feeding.{closes_at, grown, state_of}
+use Rattle.mold_feeder.specs.Feeding.{MayClose, closes_at, grown, state_of}
 use Rattle.mold_feeder.specs.Input.{entries_of_rest}
 use Rattle.mold_feeder.specs.Taking.{TakesInput, reopened}
+use Rattle.mold_feeder.specs.declared.feed_stop.FeedStop.TheVariants.{Ended}
 use Rattle.mold_feeder.specs.declared.piece_input.PieceInput.{PieceInput}
-use Rattle.mold_feeder.proofs.FeedingLemmas.{broken_after, broken_at, broken_then, fed_then, fed_yet, said_all}
+use Rattle.mold_feeder.proofs.FeedingLemmas.{broken_after, broken_now, broken_then, broken_weaker, ended_at, fed_then}
+use Rattle.mold_feeder.proofs.FeedingLemmas.{fed_yet, said_all}
+use Rattle.mold_feeder.proofs.TakingLemmas.{takes_same}
 use Rattle.mold_feeder.proofs.feeding.feed_loop.Goals as goal
 
 pub returns-clause-finished : goal.returns-clause-finished
 returns-clause-finished g c = λ life is.
     let begun = c.begin.ensures.fed life is in
     let ran = c.in_ok-stop.ensures.fed (grown life []) begun.rests in
-    let kind = g.M.MessageReader.input_kind in
     let stop = c.in_ok-stop.stop in
-    let appends = c.args.options.now.appends in
-    let before = c.begin.new.self.feeder.publisher.publisher.journal in
-    let after = c.run.new.self.feeder.publisher.publisher.journal in
     record {
       stop = stop;
       groups = ran.0;
@@ -25,13 +23,15 @@ returns-clause-finished g c = λ life is.
           (closes_at c.args.options.now.end stop) (state_of g.L.PortSet.state g.D.Datagrams.port c.args.feed.now)
           (state_of g.L.PortSet.state g.D.Datagrams.port c.begin.new.self)
           (state_of g.L.PortSet.state g.D.Datagrams.port c.run.new.self) begun ran.1;
-      taken = subst (λ (j : JournalState). TakesInput appends kind j (reopened j after)
-          (entries_of_rest g.M.InputReader.unread g.K.Source.left g.M.MessageReader.entries c.args.feed.now.input) stop)
+      taken = takes_same c.args.options.now.appends g.M.MessageReader.input_kind
+          c.begin.new.self.feeder.publisher.publisher.journal c.args.feed.now.feeder.publisher.publisher.journal
+          c.run.new.self.feeder.publisher.publisher.journal
+          (entries_of_rest g.M.InputReader.unread g.K.Source.left g.M.MessageReader.entries c.begin.new.self.input)
+          (entries_of_rest g.M.InputReader.unread g.K.Source.left g.M.MessageReader.entries c.args.feed.now.input) stop
           c.begin.ensures.journal
-          (subst (λ (i : PieceInput g.row.M.Denot g.row.K.Denot). TakesInput appends kind before
-          (reopened before after)
-          (entries_of_rest g.M.InputReader.unread g.K.Source.left g.M.MessageReader.entries i) stop)
-          c.begin.ensures.input (c.in_ok-stop.ensures.taken (grown life []) begun.rests));
+          (ap (λ (i : PieceInput g.row.M.Denot g.row.K.Denot).
+          entries_of_rest g.M.InputReader.unread g.K.Source.left g.M.MessageReader.entries i) c.begin.ensures.input)
+          (c.in_ok-stop.ensures.taken (grown life []) begun.rests);
       all = c.in_ok-stop.ensures.all;
       ends = c.status_of.ensures;
       said = said_all (g.O.Sink.held c.args.sink.now) (g.O.Sink.held c.begin.new.sink)
@@ -43,12 +43,13 @@ returns-clause-finished g c = λ life is.
 pub returns-in_err-buffer-clause-broken : goal.returns-in_err-buffer-clause-broken
 returns-in_err-buffer-clause-broken g c = λ life is.
     on_err _
-    (broken_at g.S.Storage.shows g.S.Storage.may_leave g.S.Storage.moment g.S.Storage.left_since g.L.PortSet.modeled
-    g.D.Datagrams.modeled c.args.options.now.lines g.met.S.Storage.only_now life c.args.options.now.end.stays_open []
-    false
+    (broken_now g.S.Storage.shows g.S.Storage.may_leave g.S.Storage.moment g.S.Storage.left_since g.L.PortSet.modeled
+    g.D.Datagrams.modeled c.args.options.now.lines g.met.S.Storage.only_now
+    (MayClose c.args.options.now.end c.args.options.now.appends g.M.MessageReader.input_kind
+    c.args.feed.now.feeder.publisher.publisher.journal
+    (entries_of_rest g.M.InputReader.unread g.K.Source.left g.M.MessageReader.entries c.args.feed.now.input)) life []
     (state_of g.L.PortSet.state g.D.Datagrams.port c.args.feed.now)
     (state_of g.L.PortSet.state g.D.Datagrams.port c.args.feed.now)
-    (λ _. refl)
     (fed_yet g.S.Storage.shows g.S.Storage.may_leave g.S.Storage.moment g.S.Storage.left_since g.L.PortSet.modeled
     g.D.Datagrams.modeled c.args.options.now.lines g.met.S.Storage.only_now life
     (state_of g.L.PortSet.state g.D.Datagrams.port c.args.feed.now) is))
@@ -56,42 +57,100 @@ returns-in_err-buffer-clause-broken g c = λ life is.
 pub returns-in_err-begin-clause-broken : goal.returns-in_err-begin-clause-broken
 returns-in_err-begin-clause-broken g c = λ life is.
     on_err _
-    (broken_at g.S.Storage.shows g.S.Storage.may_leave g.S.Storage.moment g.S.Storage.left_since g.L.PortSet.modeled
-    g.D.Datagrams.modeled c.args.options.now.lines g.met.S.Storage.only_now life c.args.options.now.end.stays_open []
-    false
+    (broken_now g.S.Storage.shows g.S.Storage.may_leave g.S.Storage.moment g.S.Storage.left_since g.L.PortSet.modeled
+    g.D.Datagrams.modeled c.args.options.now.lines g.met.S.Storage.only_now
+    (MayClose c.args.options.now.end c.args.options.now.appends g.M.MessageReader.input_kind
+    c.args.feed.now.feeder.publisher.publisher.journal
+    (entries_of_rest g.M.InputReader.unread g.K.Source.left g.M.MessageReader.entries c.args.feed.now.input)) life []
     (state_of g.L.PortSet.state g.D.Datagrams.port c.args.feed.now)
     (state_of g.L.PortSet.state g.D.Datagrams.port c.begin.new.self)
-    (λ _. refl) (c.begin.ensures.fed life is))
+    (c.begin.ensures.fed life is))
 
 pub returns-in_err-stop-clause-broken : goal.returns-in_err-stop-clause-broken
 returns-in_err-stop-clause-broken g c = λ life is.
     let begun = c.begin.ensures.fed life is in
     on_err _
     (broken_then g.S.Storage.shows g.S.Storage.may_leave g.S.Storage.moment g.S.Storage.left_since g.L.PortSet.modeled
-    g.D.Datagrams.modeled c.args.options.now.lines c.args.options.now.end.stays_open life []
+    g.D.Datagrams.modeled c.args.options.now.lines (MayClose c.args.options.now.end c.args.options.now.appends
+    g.M.MessageReader.input_kind
+    c.args.feed.now.feeder.publisher.publisher.journal
+    (entries_of_rest g.M.InputReader.unread g.K.Source.left g.M.MessageReader.entries c.args.feed.now.input)) life []
     (state_of g.L.PortSet.state g.D.Datagrams.port c.args.feed.now)
     (state_of g.L.PortSet.state g.D.Datagrams.port c.begin.new.self)
     (state_of g.L.PortSet.state g.D.Datagrams.port c.run.new.self) begun
-    (c.in_err-stop.ensures.broken (grown life []) begun.rests))
+    (broken_weaker g.S.Storage.shows g.S.Storage.may_leave g.S.Storage.moment g.S.Storage.left_since g.L.PortSet.modeled
+    g.D.Datagrams.modeled c.args.options.now.lines (MayClose c.args.options.now.end c.args.options.now.appends
+    g.M.MessageReader.input_kind
+    c.args.feed.now.feeder.publisher.publisher.journal
+    (entries_of_rest g.M.InputReader.unread g.K.Source.left g.M.MessageReader.entries c.args.feed.now.input))
+    (grown life [])
+    (MayClose c.args.options.now.end c.args.options.now.appends g.M.MessageReader.input_kind
+    c.begin.new.self.feeder.publisher.publisher.journal
+    (entries_of_rest g.M.InputReader.unread g.K.Source.left g.M.MessageReader.entries c.begin.new.self.input))
+    (state_of g.L.PortSet.state g.D.Datagrams.port c.begin.new.self)
+    (state_of g.L.PortSet.state g.D.Datagrams.port c.run.new.self)
+    (λ journal may. (
+      may.0,
+      takes_same c.args.options.now.appends g.M.MessageReader.input_kind
+          c.begin.new.self.feeder.publisher.publisher.journal c.args.feed.now.feeder.publisher.publisher.journal journal
+          (entries_of_rest g.M.InputReader.unread g.K.Source.left g.M.MessageReader.entries c.begin.new.self.input)
+          (entries_of_rest g.M.InputReader.unread g.K.Source.left g.M.MessageReader.entries c.args.feed.now.input) Ended
+          c.begin.ensures.journal
+          (ap (λ (i : PieceInput g.row.M.Denot g.row.K.Denot).
+          entries_of_rest g.M.InputReader.unread g.K.Source.left g.M.MessageReader.entries i) c.begin.ensures.input)
+          may.1,
+    )) (c.in_err-stop.ensures.broken (grown life []) begun.rests)))
 
 pub returns-in_err-push_stop-clause-broken : goal.returns-in_err-push_stop-clause-broken
 returns-in_err-push_stop-clause-broken g c = λ life is.
     let begun = c.begin.ensures.fed life is in
+    let old = c.args.feed.now.feeder.publisher.publisher.journal in
+    let new = c.run.new.self.feeder.publisher.publisher.journal in
+    let known = entries_of_rest g.M.InputReader.unread g.K.Source.left g.M.MessageReader.entries c.args.feed.now.input
+    in
     on_err _
     (broken_after g.S.Storage.shows g.S.Storage.may_leave g.S.Storage.moment g.S.Storage.left_since g.L.PortSet.modeled
-    g.D.Datagrams.modeled c.args.options.now.lines g.met.S.Storage.only_now life c.args.options.now.end
-    c.in_ok-stop.stop (state_of g.L.PortSet.state g.D.Datagrams.port c.args.feed.now)
+    g.D.Datagrams.modeled c.args.options.now.lines g.met.S.Storage.only_now
+    (MayClose c.args.options.now.end c.args.options.now.appends g.M.MessageReader.input_kind
+    c.args.feed.now.feeder.publisher.publisher.journal
+    (entries_of_rest g.M.InputReader.unread g.K.Source.left g.M.MessageReader.entries c.args.feed.now.input)) life
+    c.args.options.now.end c.in_ok-stop.stop (state_of g.L.PortSet.state g.D.Datagrams.port c.args.feed.now)
     (state_of g.L.PortSet.state g.D.Datagrams.port c.begin.new.self)
     (state_of g.L.PortSet.state g.D.Datagrams.port c.run.new.self)
+    (ended_at c.args.options.now.end c.in_ok-stop.stop
+    (TakesInput c.args.options.now.appends g.M.MessageReader.input_kind old (reopened old new) known)
+    (takes_same c.args.options.now.appends g.M.MessageReader.input_kind
+    c.begin.new.self.feeder.publisher.publisher.journal old new
+    (entries_of_rest g.M.InputReader.unread g.K.Source.left g.M.MessageReader.entries c.begin.new.self.input)
+    known c.in_ok-stop.stop c.begin.ensures.journal
+    (ap (λ (i : PieceInput g.row.M.Denot g.row.K.Denot).
+    entries_of_rest g.M.InputReader.unread g.K.Source.left g.M.MessageReader.entries i) c.begin.ensures.input)
+    (c.in_ok-stop.ensures.taken (grown life []) begun.rests)))
     begun (c.in_ok-stop.ensures.fed (grown life []) begun.rests))
 
 pub returns-in_err-send-clause-broken : goal.returns-in_err-send-clause-broken
 returns-in_err-send-clause-broken g c = λ life is.
     let begun = c.begin.ensures.fed life is in
+    let old = c.args.feed.now.feeder.publisher.publisher.journal in
+    let new = c.run.new.self.feeder.publisher.publisher.journal in
+    let known = entries_of_rest g.M.InputReader.unread g.K.Source.left g.M.MessageReader.entries c.args.feed.now.input
+    in
     on_err _
     (broken_after g.S.Storage.shows g.S.Storage.may_leave g.S.Storage.moment g.S.Storage.left_since g.L.PortSet.modeled
-    g.D.Datagrams.modeled c.args.options.now.lines g.met.S.Storage.only_now life c.args.options.now.end
-    c.in_ok-stop.stop (state_of g.L.PortSet.state g.D.Datagrams.port c.args.feed.now)
+    g.D.Datagrams.modeled c.args.options.now.lines g.met.S.Storage.only_now
+    (MayClose c.args.options.now.end c.args.options.now.appends g.M.MessageReader.input_kind
+    c.args.feed.now.feeder.publisher.publisher.journal
+    (entries_of_rest g.M.InputReader.unread g.K.Source.left g.M.MessageReader.entries c.args.feed.now.input)) life
+    c.args.options.now.end c.in_ok-stop.stop (state_of g.L.PortSet.state g.D.Datagrams.port c.args.feed.now)
     (state_of g.L.PortSet.state g.D.Datagrams.port c.begin.new.self)
     (state_of g.L.PortSet.state g.D.Datagrams.port c.run.new.self)
+    (ended_at c.args.options.now.end c.in_ok-stop.stop
+    (TakesInput c.args.options.now.appends g.M.MessageReader.input_kind old (reopened old new) known)
+    (takes_same c.args.options.now.appends g.M.MessageReader.input_kind
+    c.begin.new.self.feeder.publisher.publisher.journal old new
+    (entries_of_rest g.M.InputReader.unread g.K.Source.left g.M.MessageReader.entries c.begin.new.self.input)
+    known c.in_ok-stop.stop c.begin.ensures.journal
+    (ap (λ (i : PieceInput g.row.M.Denot g.row.K.Denot).
+    entries_of_rest g.M.InputReader.unread g.K.Source.left g.M.MessageReader.entries i) c.begin.ensures.input)
+    (c.in_ok-stop.ensures.taken (grown life []) begun.rests)))
     begun (c.in_ok-stop.ensures.fed (grown life []) begun.rests))

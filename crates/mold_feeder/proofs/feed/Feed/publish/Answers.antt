@@ -1,13 +1,13 @@
 use Rattle.std.proofs.Common.{◌∙◌, [], false, ◌++◌}
-use Rattle.std.proofs.Common.{◌&&◌, not, refl, subst, sym, true}
+use Rattle.std.proofs.Common.{◌&&◌, not, subst, sym}
 use Rattle.mold_publish.specs.declared.filling.Filled.{Filled}
 use Rattle.mold_publish.specs.declared.filling.Filled.TheVariants.{Full}
 use Rattle.mold_devices.proofs.LineLemmas.{on_err}
-use Rattle.mold_feeder.specs.Feeding.{grown, state_of}
+use Rattle.mold_feeder.specs.Feeding.{MayNotClose, grown, state_of}
 use Rattle.mold_feeder.specs.Input.{entries_of_rest}
 use Rattle.mold_feeder.specs.Taking.{Takes, filled_now}
 use Rattle.mold_feeder.proofs.TakingLemmas.{goes_on, is_stop, over_rest, stops, takes_then, takes_yet}
-use Rattle.mold_feeder.proofs.FeedingLemmas.{broken_at, broken_then, fed_then, fed_yet}
+use Rattle.mold_feeder.proofs.FeedingLemmas.{broken_now, broken_then, fed_then, fed_yet}
 use Rattle.mold_feeder.proofs.feed.Feed.publish.Goals as goal
 
 pub loop-init : goal.loop-init
@@ -95,7 +95,7 @@ returns-in_err-taken-clause-broken g c = λ life is.
     let start = c.loop.invariant.fed life is in
     on_err _
     (broken_then g.S.Storage.shows g.S.Storage.may_leave g.S.Storage.moment g.S.Storage.left_since g.L.PortSet.modeled
-    g.D.Datagrams.modeled c.args.lines.now true life start.0 (state_of g.L.PortSet.state g.D.Datagrams.port
+    g.D.Datagrams.modeled c.args.lines.now MayNotClose life start.0 (state_of g.L.PortSet.state g.D.Datagrams.port
     c.args.self.now)
     (state_of g.L.PortSet.state g.D.Datagrams.port c.loop.self)
     (state_of g.L.PortSet.state g.D.Datagrams.port c.turn.new.self) start.1
@@ -104,7 +104,7 @@ returns-in_err-taken-clause-broken g c = λ life is.
 pub returns-clause-broken : goal.returns-clause-broken
 returns-clause-broken g c = λ life is.
     let start = c.loop.invariant.fed life is in
-    broken_at g.S.Storage.shows g.S.Storage.may_leave g.S.Storage.moment g.S.Storage.left_since g.L.PortSet.modeled
-    g.D.Datagrams.modeled c.args.lines.now g.met.S.Storage.only_now life true start.0 false
+    broken_now g.S.Storage.shows g.S.Storage.may_leave g.S.Storage.moment g.S.Storage.left_since g.L.PortSet.modeled
+    g.D.Datagrams.modeled c.args.lines.now g.met.S.Storage.only_now MayNotClose life start.0
     (state_of g.L.PortSet.state g.D.Datagrams.port c.args.self.now)
-    (state_of g.L.PortSet.state g.D.Datagrams.port c.loop.self) (λ _. refl) start.1
+    (state_of g.L.PortSet.state g.D.Datagrams.port c.loop.self) start.1

@@ -3,48 +3,53 @@ use Rattle.mold_publish.specs.declared.filling.Filled.{Filled}
 use Rattle.mold_publish.specs.declared.filling.Filled.TheVariants as filled
 use Rattle.mold_session.specs.Journal.{JournalState}
 use Rattle.mold_devices.proofs.LineLemmas.{on_err}
-use Rattle.mold_feeder.specs.Feeding.{grown, state_of}
+use Rattle.mold_feeder.specs.Feeding.{MayCloseAfter, MayCloseNow, MayNotClose, grown, state_of}
 use Rattle.mold_feeder.specs.Input.{entries_of_rest}
 use Rattle.mold_feeder.specs.Taking.{Takes, reopened}
-use Rattle.mold_feeder.proofs.TakingLemmas.{not_refused, reopened_ended, reopened_same, was_refused}
-use Rattle.mold_feeder.proofs.FeedingLemmas.{broken_at, broken_open, broken_then, fed_serving, fed_then}
+use Rattle.mold_feeder.proofs.TakingLemmas.{reopened_ended, reopened_same, takes_ended, was_refused}
+use Rattle.mold_feeder.proofs.FeedingLemmas.{broken_now, broken_then, broken_weaker, fed_serving, fed_then}
 use Rattle.mold_feeder.proofs.feed.Feed.publish_all.Goals as goal
 
 pub returns-in_err-gathered-clause-broken : goal.returns-in_err-gathered-clause-broken
 returns-in_err-gathered-clause-broken g c = λ life is.
     on_err _
-    (broken_open g.S.Storage.shows g.S.Storage.may_leave g.S.Storage.moment g.S.Storage.left_since g.L.PortSet.modeled
-    g.D.Datagrams.modeled c.args.options.now.lines c.args.options.now.end.stays_open life
+    (broken_weaker g.S.Storage.shows g.S.Storage.may_leave g.S.Storage.moment g.S.Storage.left_since g.L.PortSet.modeled
+    g.D.Datagrams.modeled c.args.options.now.lines (MayCloseAfter c.args.options.now.end g.M.MessageReader.input_kind
+    c.args.begun
+    c.args.self.now.feeder.publisher.publisher.journal
+    (entries_of_rest g.M.InputReader.unread g.K.Source.left g.M.MessageReader.entries c.args.self.now.input)) life
+    MayNotClose
     (state_of g.L.PortSet.state g.D.Datagrams.port c.args.self.now)
-    (state_of g.L.PortSet.state g.D.Datagrams.port c.publish.new.self) (c.in_err-gathered.ensures.broken life is))
+    (state_of g.L.PortSet.state g.D.Datagrams.port c.publish.new.self)
+    (λ journal never. absurd never) (c.in_err-gathered.ensures.broken life is))
 
 pub returns-in_err-serve_until-clause-broken : goal.returns-in_err-serve_until-clause-broken
 returns-in_err-serve_until-clause-broken g c = λ life is.
     let one = c.in_ok-gathered.ensures.fed life is in
     on_err _
-    (broken_at g.S.Storage.shows g.S.Storage.may_leave g.S.Storage.moment g.S.Storage.left_since g.L.PortSet.modeled
-    g.D.Datagrams.modeled c.args.options.now.lines g.met.S.Storage.only_now life c.args.options.now.end.stays_open one.0
-    false
+    (broken_now g.S.Storage.shows g.S.Storage.may_leave g.S.Storage.moment g.S.Storage.left_since g.L.PortSet.modeled
+    g.D.Datagrams.modeled c.args.options.now.lines g.met.S.Storage.only_now
+    (MayCloseAfter c.args.options.now.end g.M.MessageReader.input_kind c.args.begun
+    c.args.self.now.feeder.publisher.publisher.journal
+    (entries_of_rest g.M.InputReader.unread g.K.Source.left g.M.MessageReader.entries c.args.self.now.input)) life one.0
     (state_of g.L.PortSet.state g.D.Datagrams.port c.args.self.now)
-    (state_of g.L.PortSet.state g.D.Datagrams.port c.serve_until.new.self) (λ _. refl)
+    (state_of g.L.PortSet.state g.D.Datagrams.port c.serve_until.new.self)
     (fed_serving g.S.Storage.shows g.S.Storage.may_leave g.S.Storage.moment g.S.Storage.left_since g.L.PortSet.modeled
     g.D.Datagrams.modeled c.args.options.now.lines life one.0 false
     (state_of g.L.PortSet.state g.D.Datagrams.port c.args.self.now)
     (state_of g.L.PortSet.state g.D.Datagrams.port c.publish.new.self)
-    (state_of g.L.PortSet.state g.D.Datagrams.port c.serve_until.new.self) one.1
-    c.serve_until.ensures.fed))
+    (state_of g.L.PortSet.state g.D.Datagrams.port c.serve_until.new.self) one.1 c.serve_until.ensures.fed))
 
 pub returns-in-Some-clause-fed : goal.returns-in-Some-clause-fed
 returns-in-Some-clause-fed g c = λ life is.
-    let one = c.in_ok-gathered.ensures.fed life is in (
-      one.0,
-      fed_serving g.S.Storage.shows g.S.Storage.may_leave g.S.Storage.moment g.S.Storage.left_since g.L.PortSet.modeled
-          g.D.Datagrams.modeled c.args.options.now.lines life one.0 false
-          (state_of g.L.PortSet.state g.D.Datagrams.port c.args.self.now)
-          (state_of g.L.PortSet.state g.D.Datagrams.port c.publish.new.self)
-          (state_of g.L.PortSet.state g.D.Datagrams.port c.serve_until.new.self) one.1
-          c.serve_until.ensures.fed,
-    )
+    let one = c.in_ok-gathered.ensures.fed life is in
+    let two = fed_serving g.S.Storage.shows g.S.Storage.may_leave g.S.Storage.moment g.S.Storage.left_since
+    g.L.PortSet.modeled
+    g.D.Datagrams.modeled c.args.options.now.lines life one.0 false
+    (state_of g.L.PortSet.state g.D.Datagrams.port c.args.self.now)
+    (state_of g.L.PortSet.state g.D.Datagrams.port c.publish.new.self)
+    (state_of g.L.PortSet.state g.D.Datagrams.port c.serve_until.new.self) one.1 c.serve_until.ensures.fed in
+    (one.0, two)
 
 pub returns-in_err-end-clause-broken : goal.returns-in_err-end-clause-broken
 returns-in_err-end-clause-broken g c = λ life is.
@@ -54,15 +59,38 @@ returns-in_err-end-clause-broken g c = λ life is.
     g.D.Datagrams.modeled c.args.options.now.lines life one.0 false
     (state_of g.L.PortSet.state g.D.Datagrams.port c.args.self.now)
     (state_of g.L.PortSet.state g.D.Datagrams.port c.publish.new.self)
-    (state_of g.L.PortSet.state g.D.Datagrams.port c.serve_until.new.self) one.1
-    c.serve_until.ensures.fed in
+    (state_of g.L.PortSet.state g.D.Datagrams.port c.serve_until.new.self) one.1 c.serve_until.ensures.fed in
+    let served = c.serve_until.new.self.feeder.publisher.publisher.journal in
     on_err _
     (broken_then g.S.Storage.shows g.S.Storage.may_leave g.S.Storage.moment g.S.Storage.left_since g.L.PortSet.modeled
-    g.D.Datagrams.modeled c.args.options.now.lines c.args.options.now.end.stays_open life one.0
+    g.D.Datagrams.modeled c.args.options.now.lines (MayCloseAfter c.args.options.now.end g.M.MessageReader.input_kind
+    c.args.begun
+    c.args.self.now.feeder.publisher.publisher.journal
+    (entries_of_rest g.M.InputReader.unread g.K.Source.left g.M.MessageReader.entries c.args.self.now.input)) life one.0
     (state_of g.L.PortSet.state g.D.Datagrams.port c.args.self.now)
     (state_of g.L.PortSet.state g.D.Datagrams.port c.serve_until.new.self)
     (state_of g.L.PortSet.state g.D.Datagrams.port c.end.new.self) two
-    (c.in_err-end.ensures.broken (grown life one.0) two.rests))
+    (broken_weaker g.S.Storage.shows g.S.Storage.may_leave g.S.Storage.moment g.S.Storage.left_since g.L.PortSet.modeled
+    g.D.Datagrams.modeled c.args.options.now.lines (MayCloseAfter c.args.options.now.end g.M.MessageReader.input_kind
+    c.args.begun
+    c.args.self.now.feeder.publisher.publisher.journal
+    (entries_of_rest g.M.InputReader.unread g.K.Source.left g.M.MessageReader.entries c.args.self.now.input))
+    (grown life one.0)
+    (MayCloseNow c.args.options.now.end served) (state_of g.L.PortSet.state g.D.Datagrams.port c.serve_until.new.self)
+    (state_of g.L.PortSet.state g.D.Datagrams.port c.end.new.self) (λ journal may. (
+      may.0,
+      takes_ended g.M.MessageReader.input_kind c.args.begun c.args.self.now.feeder.publisher.publisher.journal
+          c.publish.new.self.feeder.publisher.publisher.journal
+          c.serve_until.new.self.feeder.publisher.publisher.journal
+          journal
+          (entries_of_rest g.M.InputReader.unread g.K.Source.left g.M.MessageReader.entries c.args.self.now.input)
+          (entries_of_rest g.M.InputReader.unread g.K.Source.left g.M.MessageReader.entries c.publish.new.self.input)
+          c.in_ok-gathered.gathered c.in_ok-gathered.ensures.stops (sym c.refusal_of.ensures ∙ c.in_default.is)
+          (c.in_ok-gathered.ensures.taken life is) c.serve_until.ensures.journal
+          (ap (λ (j : JournalState). j.closed) c.serve_until.ensures.journal
+          ∙ (c.in_ok-gathered.ensures.fed life is).1.rests.publishes.closed ∙ sym is.publishes.closed)
+          may.1,
+    )) (c.in_err-end.ensures.broken (grown life one.0) two.rests)))
 
 pub returns-clause-fed : goal.returns-clause-fed
 returns-clause-fed g c = λ life is.
@@ -72,12 +100,12 @@ returns-clause-fed g c = λ life is.
     g.D.Datagrams.modeled c.args.options.now.lines life one.0 false
     (state_of g.L.PortSet.state g.D.Datagrams.port c.args.self.now)
     (state_of g.L.PortSet.state g.D.Datagrams.port c.publish.new.self)
-    (state_of g.L.PortSet.state g.D.Datagrams.port c.serve_until.new.self) one.1
-    c.serve_until.ensures.fed in (
+    (state_of g.L.PortSet.state g.D.Datagrams.port c.serve_until.new.self) one.1 c.serve_until.ensures.fed in (
       one.0 ++ [],
       fed_then g.S.Storage.shows g.S.Storage.may_leave g.S.Storage.moment g.S.Storage.left_since g.L.PortSet.modeled
           g.D.Datagrams.modeled c.args.options.now.lines life one.0 [] (not c.args.options.now.end.stays_open)
-          (state_of g.L.PortSet.state g.D.Datagrams.port c.args.self.now) (state_of g.L.PortSet.state g.D.Datagrams.port c.serve_until.new.self)
+          (state_of g.L.PortSet.state g.D.Datagrams.port c.args.self.now)
+          (state_of g.L.PortSet.state g.D.Datagrams.port c.serve_until.new.self)
           (state_of g.L.PortSet.state g.D.Datagrams.port c.end.new.self) two
           (c.in_ok-end.ensures.fed (grown life one.0) two.rests),
     )
@@ -85,8 +113,10 @@ returns-clause-fed g c = λ life is.
 pub returns-in-Some-clause-taken : goal.returns-in-Some-clause-taken
 returns-in-Some-clause-taken g c = λ life is.
     let kept = c.serve_until.ensures.journal in
-    let shut : c.serve_until.new.self.feeder.publisher.publisher.journal.closed ≡ c.args.self.now.feeder.publisher.publisher.journal.closed =
-    ap (λ (j : JournalState). j.closed) kept ∙ (c.in_ok-gathered.ensures.fed life is).1.rests.publishes.closed ∙ sym is.publishes.closed in (
+    let
+    shut : c.serve_until.new.self.feeder.publisher.publisher.journal.closed ≡ c.args.self.now.feeder.publisher.publisher.journal.closed =
+    ap
+    (λ (j : JournalState). j.closed) kept ∙ (c.in_ok-gathered.ensures.fed life is).1.rests.publishes.closed ∙ sym is.publishes.closed in (
       omega (
         arith,
         c.saturating_sub-number.ensures,
@@ -95,29 +125,34 @@ returns-in-Some-clause-taken g c = λ life is.
       ),
       (
         (entries_of_rest g.M.InputReader.unread g.K.Source.left g.M.MessageReader.entries c.publish.new.self.input),
-        subst (λ (j : JournalState). Takes g.M.MessageReader.input_kind c.args.self.now.feeder.publisher.publisher.journal j
+        subst
+            (λ (j : JournalState). Takes g.M.MessageReader.input_kind c.args.self.now.feeder.publisher.publisher.journal j
             (entries_of_rest g.M.InputReader.unread g.K.Source.left g.M.MessageReader.entries c.args.self.now.input)
-            (entries_of_rest g.M.InputReader.unread g.K.Source.left g.M.MessageReader.entries c.publish.new.self.input) (filled.Refused c.in-Some.refusal))
-            (sym (reopened_same c.args.self.now.feeder.publisher.publisher.journal c.serve_until.new.self.feeder.publisher.publisher.journal shut ∙ kept))
-            (subst (λ (f : Filled). Takes g.M.MessageReader.input_kind c.args.self.now.feeder.publisher.publisher.journal
-            c.publish.new.self.feeder.publisher.publisher.journal (entries_of_rest g.M.InputReader.unread g.K.Source.left g.M.MessageReader.entries c.args.self.now.input)
-            (entries_of_rest g.M.InputReader.unread g.K.Source.left g.M.MessageReader.entries c.publish.new.self.input) f) (was_refused c.in_ok-gathered.gathered c.in-Some.refusal (sym c.refusal_of.ensures ∙ c.in-Some.is))
+            (entries_of_rest
+            g.M.InputReader.unread g.K.Source.left g.M.MessageReader.entries c.publish.new.self.input) (filled.Refused c.in-Some.refusal))
+            (sym
+            (reopened_same c.args.self.now.feeder.publisher.publisher.journal c.serve_until.new.self.feeder.publisher.publisher.journal shut ∙ kept))
+            (subst
+            (λ (f : Filled). Takes g.M.MessageReader.input_kind c.args.self.now.feeder.publisher.publisher.journal
+            c.publish.new.self.feeder.publisher.publisher.journal
+            (entries_of_rest g.M.InputReader.unread g.K.Source.left g.M.MessageReader.entries c.args.self.now.input)
+            (entries_of_rest
+            g.M.InputReader.unread g.K.Source.left g.M.MessageReader.entries c.publish.new.self.input) f) (was_refused c.in_ok-gathered.gathered c.in-Some.refusal (sym c.refusal_of.ensures ∙ c.in-Some.is))
             (c.in_ok-gathered.ensures.taken life is)),
       ),
     )
 
 pub returns-clause-taken : goal.returns-clause-taken
 returns-clause-taken g c = λ life is.
-    let kept = c.serve_until.ensures.journal in
-    let shut : c.serve_until.new.self.feeder.publisher.publisher.journal.closed ≡ c.args.self.now.feeder.publisher.publisher.journal.closed =
-    ap (λ (j : JournalState). j.closed) kept ∙ (c.in_ok-gathered.ensures.fed life is).1.rests.publishes.closed ∙ sym is.publishes.closed in (
-      (entries_of_rest g.M.InputReader.unread g.K.Source.left g.M.MessageReader.entries c.publish.new.self.input),
-      subst (λ (j : JournalState). Takes g.M.MessageReader.input_kind c.args.self.now.feeder.publisher.publisher.journal j
-          (entries_of_rest g.M.InputReader.unread g.K.Source.left g.M.MessageReader.entries c.args.self.now.input)
-          (entries_of_rest g.M.InputReader.unread g.K.Source.left g.M.MessageReader.entries c.publish.new.self.input) filled.End)
-          (sym (ap (reopened c.args.self.now.feeder.publisher.publisher.journal) c.in_ok-end.ensures.journal ∙ reopened_ended c.args.options.now.end c.args.self.now.feeder.publisher.publisher.journal c.serve_until.new.self.feeder.publisher.publisher shut ∙ kept))
-          (subst (λ (f : Filled). Takes g.M.MessageReader.input_kind c.args.self.now.feeder.publisher.publisher.journal
-          c.publish.new.self.feeder.publisher.publisher.journal (entries_of_rest g.M.InputReader.unread g.K.Source.left g.M.MessageReader.entries c.args.self.now.input)
-          (entries_of_rest g.M.InputReader.unread g.K.Source.left g.M.MessageReader.entries c.publish.new.self.input) f) (not_refused c.in_ok-gathered.gathered c.in_ok-gathered.ensures.stops (sym c.refusal_of.ensures ∙ c.in_default.is))
-          (c.in_ok-gathered.ensures.taken life is)),
-    )
+    let served = c.serve_until.new.self.feeder.publisher.publisher in
+    takes_ended g.M.MessageReader.input_kind c.args.begun c.args.self.now.feeder.publisher.publisher.journal
+    c.publish.new.self.feeder.publisher.publisher.journal c.serve_until.new.self.feeder.publisher.publisher.journal
+    c.end.new.self.feeder.publisher.publisher.journal
+    (entries_of_rest g.M.InputReader.unread g.K.Source.left g.M.MessageReader.entries c.args.self.now.input)
+    (entries_of_rest g.M.InputReader.unread g.K.Source.left g.M.MessageReader.entries c.publish.new.self.input)
+    c.in_ok-gathered.gathered c.in_ok-gathered.ensures.stops (sym c.refusal_of.ensures ∙ c.in_default.is)
+    (c.in_ok-gathered.ensures.taken life is) c.serve_until.ensures.journal
+    (ap (λ (j : JournalState). j.closed) c.serve_until.ensures.journal
+    ∙ (c.in_ok-gathered.ensures.fed life is).1.rests.publishes.closed ∙ sym is.publishes.closed)
+    (ap (reopened served.journal) c.in_ok-end.ensures.journal
+    ∙ reopened_ended c.args.options.now.end served.journal served refl)

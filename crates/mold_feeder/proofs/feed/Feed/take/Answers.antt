@@ -1,3 +1,4 @@
+use Rattle.mold_feeder.specs.Feeding.{MayNotClose}
 use Rattle.mold_feeder.proofs.FeedingLemmas.{broken_turn, fed_turned, turned_err, turned_ok}
 use Rattle.mold_feeder.proofs.feed.Feed.take.Goals as goal
 
@@ -17,7 +18,8 @@ returns-clause-broken g c = λ life is.
     turned_err c.turn.result _ _ _
     (λ grows silent.
     broken_turn g.S.Storage.shows g.S.Storage.may_leave g.S.Storage.moment g.S.Storage.left_since g.L.PortSet.modeled
-    g.D.Datagrams.modeled c.args.lines.now g.met.S.Storage.only_now life g.L.PortSet.state c.args.self.now.feeder
+    g.D.Datagrams.modeled c.args.lines.now g.met.S.Storage.only_now MayNotClose life g.L.PortSet.state
+    c.args.self.now.feeder
     c.turn.new.self
     (g.D.Datagrams.port c.args.self.now.requests.port) (g.D.Datagrams.port c.turn.new.requests.port)
     c.args.self.now.requests.server c.turn.new.requests.server is grows

@@ -1,12 +1,12 @@
-use Rattle.std.proofs.Common.{◌∙◌, List, [], Option, ap, false, refl, subst, sym, true}
+use Rattle.std.proofs.Common.{◌∙◌, List, [], Option, ap, false, subst, sym}
 use Rattle.mold_input.specs.Entries.{Entry}
 use Rattle.mold_devices.proofs.LineLemmas.{on_err}
-use Rattle.mold_feeder.specs.Feeding.{IsAtRest, grown, state_of}
+use Rattle.mold_feeder.specs.Feeding.{IsAtRest, MayNotClose, grown, state_of}
 use Rattle.mold_feeder.specs.Input.{bytes_come, entries_after, entries_of_rest}
 use Rattle.mold_feeder.specs.Taking.{Takes, filled_now, left_of}
 use Rattle.mold_feeder.specs.declared.feeder.Feeder.{Feeder}
 use Rattle.mold_feeder.specs.declared.piece_input.PieceInput.{PieceInput}
-use Rattle.mold_feeder.proofs.FeedingLemmas.{broken_at, broken_then, fed_rested, fed_same, fed_then}
+use Rattle.mold_feeder.proofs.FeedingLemmas.{broken_now, broken_then, fed_rested, fed_same, fed_then}
 use Rattle.mold_feeder.proofs.TakingLemmas.{turn_takes}
 use Rattle.mold_feeder.proofs.feed.Feed.turn.Goals as goal
 
@@ -40,10 +40,10 @@ returns-clause-taken g c = λ life is.
 pub returns-in_err-pause-clause-broken : goal.returns-in_err-pause-clause-broken
 returns-in_err-pause-clause-broken g c = λ life is.
     on_err _
-    (broken_at g.S.Storage.shows g.S.Storage.may_leave g.S.Storage.moment g.S.Storage.left_since g.L.PortSet.modeled
-    g.D.Datagrams.modeled c.args.lines.now g.met.S.Storage.only_now life true [] false
+    (broken_now g.S.Storage.shows g.S.Storage.may_leave g.S.Storage.moment g.S.Storage.left_since g.L.PortSet.modeled
+    g.D.Datagrams.modeled c.args.lines.now g.met.S.Storage.only_now MayNotClose life []
     (state_of g.L.PortSet.state g.D.Datagrams.port c.args.self.now)
-    (state_of g.L.PortSet.state g.D.Datagrams.port c.pause.new.self) (λ _. refl)
+    (state_of g.L.PortSet.state g.D.Datagrams.port c.pause.new.self)
     (fed_rested g.S.Storage.shows g.S.Storage.may_leave g.S.Storage.moment g.S.Storage.left_since g.L.PortSet.modeled
     g.D.Datagrams.modeled c.args.lines.now g.met.S.Storage.only_now g.L.PortSet.state g.D.Datagrams.port life
     c.args.self.now c.pause.new.self is
@@ -60,7 +60,8 @@ returns-in_err-taken-clause-broken g c = λ life is.
     c.pause.ensures.requests in
     on_err _
     (broken_then g.S.Storage.shows g.S.Storage.may_leave g.S.Storage.moment g.S.Storage.left_since g.L.PortSet.modeled
-    g.D.Datagrams.modeled c.args.lines.now true life [] (state_of g.L.PortSet.state g.D.Datagrams.port c.args.self.now)
+    g.D.Datagrams.modeled c.args.lines.now MayNotClose life []
+    (state_of g.L.PortSet.state g.D.Datagrams.port c.args.self.now)
     (state_of g.L.PortSet.state g.D.Datagrams.port c.pause.new.self)
     (state_of g.L.PortSet.state g.D.Datagrams.port c.take.new.self) waited
     (c.in_err-taken.ensures.broken (grown life []) waited.rests))
@@ -75,10 +76,10 @@ returns-in_err-note-clause-broken g c = λ life is.
     c.pause.ensures.requests in
     let took = c.in_ok-taken.ensures.fed (grown life []) waited.rests in
     on_err _
-    (broken_at g.S.Storage.shows g.S.Storage.may_leave g.S.Storage.moment g.S.Storage.left_since g.L.PortSet.modeled
-    g.D.Datagrams.modeled c.args.lines.now g.met.S.Storage.only_now life true took.0 false
+    (broken_now g.S.Storage.shows g.S.Storage.may_leave g.S.Storage.moment g.S.Storage.left_since g.L.PortSet.modeled
+    g.D.Datagrams.modeled c.args.lines.now g.met.S.Storage.only_now MayNotClose life took.0
     (state_of g.L.PortSet.state g.D.Datagrams.port c.args.self.now)
-    (state_of g.L.PortSet.state g.D.Datagrams.port c.note.new.self) (λ _. refl)
+    (state_of g.L.PortSet.state g.D.Datagrams.port c.note.new.self)
     (fed_same g.S.Storage.shows g.S.Storage.may_leave g.S.Storage.moment g.S.Storage.left_since g.L.PortSet.modeled
     g.D.Datagrams.modeled c.args.lines.now g.met.S.Storage.only_now g.L.PortSet.state g.D.Datagrams.port life took.0
     false
