@@ -27,6 +27,7 @@ use Rattle.mold_wire.specs.declared.packet.Packet.{Packet}
 use Rattle.mold_wire.specs.declared.request.Request.{Request}
 use Rattle.mold_feeder.specs.FeedLines.{SendsOn}
 use Rattle.mold_input.specs.Entries.{InputEntries}
+use Rattle.mold_input.specs.declared.input_kind.InputKind.{InputKind}
 use Rattle.mold_session.specs.Publisher.{PublisherState, closed}
 use Rattle.mold_feeder.specs.Feeder.{HasBeaten, HasEnded, HasSent, HasTurned, IsFileAtEnd, sends_at, sends_at_end}
 use Rattle.mold_feeder.specs.Feeding.{FeedState, HasBroken, HasFed, HasReplied, IsAtRest, IsFileLeft, IsGroupFile}
@@ -221,6 +222,10 @@ replied_more answers one other less more server mine old mid new session first l
 shut_committed : (closes : Bool) (life : Life) → (shut closes life).committed ≡ life.committed
 shut_committed false life = refl
 shut_committed true life = refl
+
+shut_open : (closes : Bool) (life : Life) → closes ≡ false → (shut closes life).closed ≡ life.closed
+shut_open false life is = refl
+shut_open true life is = absurd (cc)
 
 shut_waiting : (closes : Bool) (life : Life) → (shut closes life).waiting ≡ life.waiting
 shut_waiting false life = refl
@@ -729,12 +734,12 @@ ended_at end (Other number compared) P so is = absurd (cc)
 
 module _ {S P Q : Type 0} (shows may_leave : S → List ℕ → Type 0) (moment : S → ℕ)
     (left_since : S → ℕ → List ℕ → Type 0) (modeled answers : Bool) (lines : FeedLines P)
-    (may_close : JournalState → Type 0) (life : Life) where
+    (taken may_close : JournalState → Type 0) (life : Life) where
   -- The publisher went on, and then ended with a fault.
   pub broken_then : (first : List (List (List ℕ))) (old mid new : FeedState S P Q) →
       HasFed shows may_leave moment left_since modeled answers lines life first false old mid →
-      HasBroken shows may_leave moment left_since modeled answers lines may_close (grown life first) mid new →
-      HasBroken shows may_leave moment left_since modeled answers lines may_close life old new
+      HasBroken shows may_leave moment left_since modeled answers lines taken may_close (grown life first) mid new →
+      HasBroken shows may_leave moment left_since modeled answers lines taken may_close life old new
   broken_then first old mid new one other = record {
     mid = other.mid;
     groups = first ++ other.groups;
@@ -748,16 +753,20 @@ module _ {S P Q : Type 0} (shows may_leave : S → List ℕ → Type 0) (moment 
         new.publisher.durable.storage (IsFileLeft other.closing l (other.last ∷ [])))
         (shut_grown other.closes life first other.groups) other.leaves;
     allowed = other.allowed;
+    journal = other.journal;
+    joined = other.joined;
+    so_far = other.so_far;
     silent = other.silent;
     unanswered = other.unanswered;
   }
 
-  -- The session may be closed in more cases.
-  pub broken_weaker : (less : JournalState → Type 0) (old new : FeedState S P Q) →
-      ((journal : JournalState) → less journal → may_close journal) →
-      HasBroken shows may_leave moment left_since modeled answers lines less life old new →
-      HasBroken shows may_leave moment left_since modeled answers lines may_close life old new
-  broken_weaker less old new follows broken = record {
+  -- What the journals satisfy is weaker.
+  pub broken_weaker : (less few : JournalState → Type 0) (old new : FeedState S P Q) →
+      ((journal : JournalState) → less journal → taken journal) →
+      ((journal : JournalState) → few journal → may_close journal) →
+      HasBroken shows may_leave moment left_since modeled answers lines less few life old new →
+      HasBroken shows may_leave moment left_since modeled answers lines taken may_close life old new
+  broken_weaker less few old new follows closes broken = record {
     mid = broken.mid;
     groups = broken.groups;
     closes = broken.closes;
@@ -766,7 +775,10 @@ module _ {S P Q : Type 0} (shows may_leave : S → List ℕ → Type 0) (moment 
     closing = broken.closing;
     alone = broken.alone;
     leaves = broken.leaves;
-    allowed = λ is. follows broken.mid.publisher.publisher.journal (broken.allowed is);
+    allowed = λ is. closes broken.mid.publisher.publisher.journal (broken.allowed is);
+    journal = broken.journal;
+    joined = broken.joined;
+    so_far = λ is. follows broken.journal (broken.so_far is);
     silent = broken.silent;
     unanswered = broken.unanswered;
   }
@@ -774,13 +786,14 @@ module _ {S P Q : Type 0} (shows may_leave : S → List ℕ → Type 0) (moment 
 module _ {S P Q : Type 0} (shows may_leave : S → List ℕ → Type 0) (moment : S → ℕ)
     (left_since : S → ℕ → List ℕ → Type 0) (modeled answers : Bool) (lines : FeedLines P)
     (only_now : (storage : S) (bytes : List ℕ) → left_since storage (moment storage) bytes → may_leave storage bytes)
-    (may_close : JournalState → Type 0) (life : Life) where
+    (taken may_close : JournalState → Type 0) (life : Life) where
   -- A call failed that changed nothing of the session.
   pub broken_at : (groups : List (List (List ℕ))) (closes : Bool) (old new : FeedState S P Q) →
+      (closes ≡ false → taken new.publisher.publisher.journal) →
       (closes ≡ true → may_close new.publisher.publisher.journal) →
       HasFed shows may_leave moment left_since modeled answers lines life groups closes old new →
-      HasBroken shows may_leave moment left_since modeled answers lines may_close life old new
-  broken_at groups closes old new allowed fed =
+      HasBroken shows may_leave moment left_since modeled answers lines taken may_close life old new
+  broken_at groups closes old new so_far allowed fed =
       let now = shut closes (grown life groups) in
       record {
         mid = new;
@@ -797,60 +810,76 @@ module _ {S P Q : Type 0} (shows may_leave : S → List ℕ → Type 0) (moment 
           | inl closed ↦ allowed closed
           | inr closing ↦ absurd (cc)
         ];
+        journal = new.publisher.publisher.journal;
+        joined = sym (append-nil new.publisher.publisher.journal.messages);
+        so_far = λ is. so_far is.0;
         silent = λ _. refl;
         unanswered = refl;
       }
 
   -- A call failed that changed nothing of a session that was not closed.
   pub broken_now : (groups : List (List (List ℕ))) (old new : FeedState S P Q) →
+      taken new.publisher.publisher.journal →
       HasFed shows may_leave moment left_since modeled answers lines life groups false old new →
-      HasBroken shows may_leave moment left_since modeled answers lines may_close life old new
-  broken_now groups old new fed = broken_at groups false old new (λ is. absurd (cc)) fed
+      HasBroken shows may_leave moment left_since modeled answers lines taken may_close life old new
+  broken_now groups old new so_far fed = broken_at groups false old new (λ _. so_far) (λ is. absurd (cc)) fed
 
   -- A call failed after the publisher stopped.
   pub broken_after : (end : FeedEnd) (stop : FeedStop) (old mid new : FeedState S P Q) →
+      IsAtRest shows may_leave old.publisher life →
+      (new.publisher.publisher.journal.closed ≡ old.publisher.publisher.journal.closed →
+      taken new.publisher.publisher.journal) →
       (closes_at end stop ≡ true → may_close new.publisher.publisher.journal) →
       HasFed shows may_leave moment left_since modeled answers lines life [] false old mid →
       (groups : List (List (List ℕ)))
       × HasFed shows may_leave moment left_since modeled answers lines (grown life []) groups (closes_at end stop) mid
-      new → HasBroken shows may_leave moment left_since modeled answers lines may_close life old new
-  broken_after end stop old mid new allowed begun ran =
-      broken_at ran.0 (closes_at end stop) old new allowed
+      new → HasBroken shows may_leave moment left_since modeled answers lines taken may_close life old new
+  broken_after end stop old mid new is so_far allowed begun ran =
+      broken_at ran.0 (closes_at end stop) old new
+      (λ kept. so_far (ran.1.rests.publishes.closed
+      ∙ shut_open (closes_at end stop) (grown (grown life []) ran.0) kept ∙ sym is.publishes.closed)) allowed
       (fed_then shows may_leave moment left_since modeled answers lines life [] ran.0 (closes_at end stop) old mid new
       begun ran.1)
 
   -- A turn failed to take a group, after it replied to a request.
-  pub broken_turn : {L : Type 0} (state : L → PortSetState P) (old new : Feeder S L) (asked replied : Port Q)
-      (server mine : ServerState) → IsAtRest shows may_leave old.publisher life → Grows old.publisher new.publisher →
+  pub broken_turn : {L : Type 0} (state : L → PortSetState P) (kind : InputKind) (known : Option InputEntries)
+      (old new : Feeder S L) (asked replied : Port Q) (server mine : ServerState) →
+      IsAtRest shows may_leave old.publisher life → Grows kind known old.publisher new.publisher →
+      taken new.publisher.publisher.journal →
       LeavesOnly moment left_since old.publisher.durable.storage new.publisher.durable.storage
       (IsFileUpTo life new.publisher) → new.ports ≡ old.ports →
       (answers ≡ true →
       RepliesTo (sent_journal old.publisher.publisher) server (cut MAX_LIMIT (next_of asked)) (received asked) replied)
       →
       mine ≡ record server { answered = mine.answered } →
-      HasBroken shows may_leave moment left_since modeled answers lines may_close life
+      HasBroken shows may_leave moment left_since modeled answers lines taken may_close life
       (record { publisher = old.publisher; ports = state old.ports; requests = asked; server = server })
       (record { publisher = new.publisher; ports = state new.ports; requests = replied; server = mine })
-  broken_turn {L} state old new asked replied server mine is grows crash ports replies limits =
-      let added = grows.1 ∙ ap (λ (ms : List (List ℕ)). ms ++ grows.0) (messages_now false life old.publisher is) in
+  broken_turn {L} state kind known old new asked replied server mine is grows so_far crash ports replies limits =
+      let messages = grows.messages in
+      let added =
+      grows.added ∙ ap (λ (ms : List (List ℕ)). ms ++ messages) (messages_now false life old.publisher is) in
       record {
         mid = record { publisher = old.publisher; ports = state old.ports; requests = replied; server = mine };
         groups = [];
         closes = false;
         fed = fed_served shows may_leave moment left_since modeled answers lines only_now state life old old [] asked
             replied server mine is (sent_nothing shows may_leave modeled state lines old) replies limits;
-        last = grows.0;
+        last = messages;
         closing = false;
         alone = λ is. absurd (cc);
         leaves = subst (λ (l : Life). LeavesOnly moment left_since old.publisher.durable.storage
-            new.publisher.durable.storage (IsFileLeft false l (grows.0 ∷ []))) (sym (grown_none life is.none))
+            new.publisher.durable.storage (IsFileLeft false l (messages ∷ []))) (sym (grown_none life is.none))
             (leaves_weaker moment left_since old.publisher.durable.storage new.publisher.durable.storage
-            (IsFileUpTo life new.publisher) (IsFileLeft false life (grows.0 ∷ []))
-            (λ bytes. up_to_left life grows.0 new.publisher bytes added) crash);
+            (IsFileUpTo life new.publisher) (IsFileLeft false life (messages ∷ []))
+            (λ bytes. up_to_left life messages new.publisher bytes added) crash);
         allowed = λ is. elim is [
           | inl closed ↦ absurd (cc)
           | inr closing ↦ absurd (cc)
         ];
+        journal = new.publisher.publisher.journal;
+        joined = grows.added;
+        so_far = λ _. so_far;
         silent = λ _. ap (λ (p : L). (state p).sent) ports;
         unanswered = refl;
       }
@@ -861,12 +890,13 @@ module _ {S P Q : Type 0} (shows may_leave : S → List ℕ → Type 0) (moment 
       HasBeaten shows may_leave modeled state lines end.beats old new →
       LeavesOnly moment left_since old.publisher.durable.storage new.publisher.durable.storage
       (IsFileAtEnd end.stays_open life) →
+      ((journal : JournalState) → journal ≡ old.publisher.publisher.journal → taken journal) →
       ((journal : JournalState) → end.stays_open ≡ false → journal ≡ old.publisher.publisher.journal →
       may_close journal) →
-      HasBroken shows may_leave moment left_since modeled answers lines may_close life
+      HasBroken shows may_leave moment left_since modeled answers lines taken may_close life
       (record { publisher = old.publisher; ports = state old.ports; requests = asked; server = server })
       (record { publisher = new.publisher; ports = state new.ports; requests = asked; server = server })
-  broken_end {L} state end old new asked server is beaten crash allowed =
+  broken_end {L} state end old new asked server is beaten crash so_far allowed =
       let left = IsFileLeft (not end.stays_open) life ([] ∷ []) in
       record {
         mid = record {
@@ -895,6 +925,9 @@ module _ {S P Q : Type 0} (shows may_leave : S → List ℕ → Type 0) (moment 
           | inr closing ↦ allowed beaten.mid.publisher.publisher.journal (not_open end.stays_open closing)
               beaten.sent.journal
         ];
+        journal = beaten.mid.publisher.publisher.journal;
+        joined = sym (append-nil beaten.mid.publisher.publisher.journal.messages);
+        so_far = λ _. so_far beaten.mid.publisher.publisher.journal beaten.sent.journal;
         silent = λ _. ap (λ (p : L). (state p).sent) beaten.silent;
         unanswered = refl;
       }

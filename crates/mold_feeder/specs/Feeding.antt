@@ -120,10 +120,10 @@ pub record HasFed {S P Q : Type 0} (shows may_leave : S → List ℕ → Type 0)
 
 -- The publisher ended with a fault: a call failed. Before that call it had fed the session as `HasFed` states. The call
 -- that failed sent nothing, on the lines or to a request. If the session was closed, or closing it failed, its journal
--- satisfies `may_close`.
+-- satisfies `may_close`. Otherwise its journal with the messages of the group at fault satisfies `taken`.
 pub record HasBroken {S P Q : Type 0} (shows may_leave : S → List ℕ → Type 0) (moment : S → ℕ)
     (left_since : S → ℕ → List ℕ → Type 0) (modeled answers : Bool) (lines : FeedLines P)
-    (may_close : JournalState → Type 0) (life : Life) (old new : FeedState S P Q) : Type 0 where
+    (taken may_close : JournalState → Type 0) (life : Life) (old new : FeedState S P Q) : Type 0 where
   -- the state before the call that failed
   pub mid : FeedState S P Q
   pub groups : List (List (List ℕ))
@@ -138,6 +138,10 @@ pub record HasBroken {S P Q : Type 0} (shows may_leave : S → List ℕ → Type
   pub leaves : LeavesOnly moment left_since mid.publisher.durable.storage new.publisher.durable.storage
       (IsFileLeft closing (shut closes (grown life groups)) (last ∷ []))
   pub allowed : (closes ≡ true) ⊎ (closing ≡ true) → may_close mid.publisher.publisher.journal
+  -- the journal with the messages of that group
+  pub journal : JournalState
+  pub joined : journal.messages ≡ mid.publisher.publisher.journal.messages ++ last
+  pub so_far : (closes ≡ false) × (closing ≡ false) → taken journal
   pub silent : modeled ≡ true → new.ports.sent ≡ mid.ports.sent
   pub unanswered : new.requests ≡ mid.requests
 
@@ -151,12 +155,12 @@ abbrev pub MayClose : FeedEnd → Bool → InputKind → JournalState → Option
 MayClose end appends kind old known new =
     (end.stays_open ≡ false) × TakesInput appends kind old (reopened old new) known Ended
 
--- The same for a session of whose input the first `begun` messages are not compared.
+-- The same, if `begun` messages came before the first entry of the input.
 abbrev pub MayCloseAfter : FeedEnd → InputKind → ℕ → JournalState → Option (List Entry) → JournalState → Type 0
 MayCloseAfter end kind begun old known new =
     (end.stays_open ≡ false) × TakesAfter kind begun old (reopened old new) known Ended
 
--- The same for a session whose messages were all published.
+-- The same, if all entries of the input had already been published.
 abbrev pub MayCloseNow : FeedEnd → JournalState → JournalState → Type 0
 MayCloseNow end old new = (end.stays_open ≡ false) × (reopened old new ≡ old)
 

@@ -12,7 +12,7 @@ ghost use Rattle.mold_feeder.specs.Input.{IsInput, KeepsRest, bytes_come, entrie
 ghost use Rattle.mold_feeder.specs.Gathering.{filled_for};
 ghost use Rattle.mold_feeder.specs.Taking.{AllSent, ComparesCome, IsStop, Takes, TakesAfter, TakesCome, TakesInput};
 ghost use Rattle.mold_feeder.specs.Taking.{filled_now, is_end, is_same, left_of, refusal_of, reopened, stop_at};
-ghost use Rattle.mold_feeder.specs.Taking.{taken_at};
+ghost use Rattle.mold_feeder.specs.Taking.{TakesNothing, TakesPart, TakesYet, taken_at};
 ghost use Rattle.mold_feeder.specs.Feeder.{ended};
 ghost use Rattle.mold_feeder.specs.Comparison.{ComparesAll};
 ghost use Rattle.mold_wire.specs.declared.limits.TheConstants.{MAX_LIMIT};
@@ -127,7 +127,9 @@ impl<
             × HasFed S.shows S.may_leave S.moment S.left_since L.modeled D.modeled lines.now life groups false
             (state_of L.state D.port self.old) (state_of L.state D.port self.new)) }
         ensures broken { (life : Life) → IsAtRest S.shows S.may_leave self.old.feeder.publisher life → OnErr result
-            (HasBroken S.shows S.may_leave S.moment S.left_since L.modeled D.modeled lines.now MayNotClose life
+            (HasBroken S.shows S.may_leave S.moment S.left_since L.modeled D.modeled lines.now
+            (TakesPart M.input_kind self.old.feeder.publisher.publisher.journal
+            (Some (M.entries (bytes_come M.unread self.old.input)))) MayNotClose life
             (state_of L.state D.port self.old) (state_of L.state D.port self.new)) }
         ensures taken { (life : Life) → IsAtRest S.shows S.may_leave self.old.feeder.publisher life → IfOk result
             (TakesCome M.input_kind self.old.feeder.publisher.publisher.journal
@@ -179,7 +181,9 @@ impl<
             × HasFed S.shows S.may_leave S.moment S.left_since L.modeled D.modeled lines.now life groups false
             (state_of L.state D.port self.old) (state_of L.state D.port self.new)) }
         ensures broken { (life : Life) → IsAtRest S.shows S.may_leave self.old.feeder.publisher life → OnErr result
-            (HasBroken S.shows S.may_leave S.moment S.left_since L.modeled D.modeled lines.now MayNotClose life
+            (HasBroken S.shows S.may_leave S.moment S.left_since L.modeled D.modeled lines.now
+            (TakesPart M.input_kind self.old.feeder.publisher.publisher.journal
+            (entries_of_rest M.unread K.left M.entries self.old.input)) MayNotClose life
             (state_of L.state D.port self.old) (state_of L.state D.port self.new)) }
         ensures taken { (life : Life) → IsAtRest S.shows S.may_leave self.old.feeder.publisher life → IfOk result
             (λ taken. Takes M.input_kind self.old.feeder.publisher.publisher.journal
@@ -233,7 +237,9 @@ impl<
             × HasFed S.shows S.may_leave S.moment S.left_since L.modeled D.modeled lines.now life groups false
             (state_of L.state D.port self.old) (state_of L.state D.port self.new)) }
         ensures broken { (life : Life) → IsAtRest S.shows S.may_leave self.old.feeder.publisher life → OnErr result
-            (HasBroken S.shows S.may_leave S.moment S.left_since L.modeled D.modeled lines.now MayNotClose life
+            (HasBroken S.shows S.may_leave S.moment S.left_since L.modeled D.modeled lines.now
+            (TakesPart M.input_kind self.old.feeder.publisher.publisher.journal
+            (entries_of_rest M.unread K.left M.entries self.old.input)) MayNotClose life
             (state_of L.state D.port self.old) (state_of L.state D.port self.new)) }
         ensures taken { (life : Life) → IsAtRest S.shows S.may_leave self.old.feeder.publisher life → IfOk result
             (λ gathered. Takes M.input_kind self.old.feeder.publisher.publisher.journal
@@ -320,8 +326,7 @@ impl<
         ensures compared { IfOk result (λ found. ComparesAll self.old.feeder.publisher.publisher.journal 1 found.0
             (entries_of_rest M.unread K.left M.entries self.old.input)
             (entries_of_rest M.unread K.left M.entries self.new.input) found.1) }
-        ensures journal { OnOk result (self.new.feeder.publisher.publisher.journal
-            ≡ self.old.feeder.publisher.publisher.journal) }
+        ensures journal { self.new.feeder.publisher.publisher.journal ≡ self.old.feeder.publisher.publisher.journal }
         ensures longest { OnOk result (self.new.feeder.publisher.publisher.journal.max_message
             ≤ self.new.requests.server.max_message) }
         ensures input { OnOk result (IsInput M.unread K.left self.new.input) }
@@ -401,6 +406,7 @@ impl<
             (not options.now.end.stays_open) (state_of L.state D.port self.old) (state_of L.state D.port self.new)) }
         ensures broken { (life : Life) → IsAtRest S.shows S.may_leave self.old.feeder.publisher life → OnErr result
             (HasBroken S.shows S.may_leave S.moment S.left_since L.modeled D.modeled options.now.lines
+            (TakesNothing self.old.feeder.publisher.publisher.journal)
             (MayCloseNow options.now.end self.old.feeder.publisher.publisher.journal) life
             (state_of L.state D.port self.old) (state_of L.state D.port self.new)) }
         ensures journal { OnOk result (self.new.feeder.publisher.publisher.journal
@@ -434,6 +440,8 @@ impl<
             (closes_at options.now.end stop) (state_of L.state D.port self.old) (state_of L.state D.port self.new)) }
         ensures broken { (life : Life) → IsAtRest S.shows S.may_leave self.old.feeder.publisher life → OnErr result
             (HasBroken S.shows S.may_leave S.moment S.left_since L.modeled D.modeled options.now.lines
+            (TakesPart M.input_kind self.old.feeder.publisher.publisher.journal
+            (entries_of_rest M.unread K.left M.entries self.old.input))
             (MayCloseAfter options.now.end M.input_kind begun self.old.feeder.publisher.publisher.journal
             (entries_of_rest M.unread K.left M.entries self.old.input)) life
             (state_of L.state D.port self.old) (state_of L.state D.port self.new)) }
@@ -470,6 +478,8 @@ impl<
             (closes_at options.now.end stop) (state_of L.state D.port self.old) (state_of L.state D.port self.new)) }
         ensures broken { (life : Life) → IsAtRest S.shows S.may_leave self.old.feeder.publisher life → OnErr result
             (HasBroken S.shows S.may_leave S.moment S.left_since L.modeled D.modeled options.now.lines
+            (TakesYet options.now.appends M.input_kind self.old.feeder.publisher.publisher.journal
+            (entries_of_rest M.unread K.left M.entries self.old.input))
             (MayClose options.now.end options.now.appends M.input_kind self.old.feeder.publisher.publisher.journal
             (entries_of_rest M.unread K.left M.entries self.old.input)) life
             (state_of L.state D.port self.old) (state_of L.state D.port self.new)) }

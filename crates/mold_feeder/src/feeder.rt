@@ -155,7 +155,8 @@ impl<S: Storage + Drop, L: PortSet + Drop> Feeder<S, L> {
             (entries_left M.input_kind M.entries M.unread K.left input.old)
             (entries_left M.input_kind M.entries M.unread K.left input.new)) }
         ensures grows { (life : Life) → Publishes S.shows S.may_leave self.old.publisher life → OnErr result
-            (Grows self.old.publisher self.new.publisher) }
+            (Grows M.input_kind (entries_left M.input_kind M.entries M.unread K.left input.old) self.old.publisher
+            self.new.publisher) }
         ensures when { IfOk result (λ taken. is_some taken ≡ takes_input self.old input.old) }
         ensures told { (life : Life) (datagram : List ℕ) → Publishes S.shows S.may_leave self.old.publisher life →
             IsTrueNow life datagram →
@@ -203,7 +204,8 @@ impl<S: Storage + Drop, L: PortSet + Drop> Feeder<S, L> {
             (entries_left M.input_kind M.entries M.unread K.left input.old)
             (entries_left M.input_kind M.entries M.unread K.left input.new)) }
         ensures grows { (life : Life) → Publishes S.shows S.may_leave self.old.publisher life → OnErr result
-            (Grows self.old.publisher self.new.publisher) }
+            (Grows M.input_kind (entries_left M.input_kind M.entries M.unread K.left input.old) self.old.publisher
+            self.new.publisher) }
         ensures when { IfOk result (λ taken. is_some taken ≡ takes_input self.old input.old) }
         ensures told { (life : Life) (datagram : List ℕ) → Publishes S.shows S.may_leave self.old.publisher life →
             IsTrueNow life datagram →

@@ -6,6 +6,7 @@ ghost use Rattle.mold_durable.specs.Life.{Life};
 ghost use Rattle.mold_feeder.specs.FeedText.{fed_line, status_at};
 ghost use Rattle.mold_feeder.specs.Feeding.{HasBroken, HasFinished, IsAtRest, MayClose, state_of};
 ghost use Rattle.mold_feeder.specs.Input.{IsInput, entries_of_rest};
+ghost use Rattle.mold_feeder.specs.Taking.{TakesYet};
 
 use crate::feed::Feed;
 use crate::feed_options::FeedOptions;
@@ -74,6 +75,8 @@ pub fn feed_loop<
         (state_of L.state D.port feed.new) (O.held sink.old) (O.held sink.new)) }
     ensures broken { (life : Life) → IsAtRest S.shows S.may_leave feed.old.feeder.publisher life → OnErr result
         (HasBroken S.shows S.may_leave S.moment S.left_since L.modeled D.modeled options.now.lines
+        (TakesYet options.now.appends M.input_kind feed.old.feeder.publisher.publisher.journal
+        (entries_of_rest M.unread K.left M.entries feed.old.input))
         (MayClose options.now.end options.now.appends M.input_kind feed.old.feeder.publisher.publisher.journal
         (entries_of_rest M.unread K.left M.entries feed.old.input)) life (state_of L.state D.port feed.old)
         (state_of L.state D.port feed.new)) }

@@ -58,7 +58,9 @@ pub fn gather<M: MessageReader, K: Source, S: Storage + Drop>(
         (known_input M.input_kind M.entries (prepend_known (M.unread messages.old) (K.left source.old)))
         (known_input M.input_kind M.entries (prepend_known (M.unread messages.new) (K.left source.new)))) }
     ensures grows { (life : Life) → Publishes S.shows S.may_leave publisher.old life → OnErr result
-        (Grows publisher.old publisher.new) }
+        (Grows M.input_kind
+        (known_input M.input_kind M.entries (prepend_known (M.unread messages.old) (K.left source.old)))
+        publisher.old publisher.new) }
     ensures storage { publisher.new.durable.storage ≡ publisher.old.durable.storage }
     ensures intact { publisher.new.durable.broken ≡ publisher.old.durable.broken }
     ensures longest { publisher.new.publisher.journal.max_message ≡ publisher.old.publisher.journal.max_message }
@@ -97,7 +99,9 @@ pub fn take_group<M: MessageReader, K: Source, S: Storage + Drop>(
         (known_input M.input_kind M.entries (prepend_known (M.unread messages.old) (K.left source.old)))
         (known_input M.input_kind M.entries (prepend_known (M.unread messages.new) (K.left source.new)))) }
     ensures grows { (life : Life) → Publishes S.shows S.may_leave publisher.old life → OnErr result
-        (Grows publisher.old publisher.new) }
+        (Grows M.input_kind
+        (known_input M.input_kind M.entries (prepend_known (M.unread messages.old) (K.left source.old)))
+        publisher.old publisher.new) }
     ensures told { (life : Life) (datagram : List ℕ) → Publishes S.shows S.may_leave publisher.old life →
         IsTrueNow life datagram →
         LeavesOnly S.moment S.left_since publisher.old.durable.storage publisher.new.durable.storage

@@ -131,3 +131,15 @@ returns-then-not-compares_on-clause-journal g c =
     ∙ (c.serve.ensures.journal
     ∙ ap (λ (f : Feeder g.row.S.Denot g.row.L.Denot). f.publisher.publisher.journal) c.in_ok-pause.ensures.feeder
     ∙ c.loop.invariant.journal)
+
+pub returns-in_err-at-clause-journal : goal.returns-in_err-at-clause-journal
+returns-in_err-at-clause-journal g c =
+    ap (λ (f : Feeder g.row.S.Denot g.row.L.Denot). f.publisher.publisher.journal) c.compare_some.ensures.feeder
+    ∙ (c.serve.ensures.journal
+    ∙ ap (λ (f : Feeder g.row.S.Denot g.row.L.Denot). f.publisher.publisher.journal) c.in_ok-pause.ensures.feeder
+    ∙ c.loop.invariant.journal)
+
+pub returns-in_err-pause-clause-journal : goal.returns-in_err-pause-clause-journal
+returns-in_err-pause-clause-journal g c =
+    ap (λ (f : Feeder g.row.S.Denot g.row.L.Denot). f.publisher.publisher.journal) c.pause.ensures.feeder
+    ∙ c.loop.invariant.journal

@@ -20,8 +20,7 @@ pub loop-preserved : goal.loop-preserved
 loop-preserved g c = record {
   fed = λ life is.
       fed_served_on g.S.Storage.shows g.S.Storage.may_leave g.S.Storage.moment g.S.Storage.left_since
-      g.L.PortSet.modeled
-      g.D.Datagrams.modeled c.args.lines.now g.met.S.Storage.only_now g.L.PortSet.state g.D.Datagrams.port life
+      g.L.PortSet.modeled g.D.Datagrams.modeled c.args.lines.now g.met.S.Storage.only_now g.L.PortSet.state g.D.Datagrams.port life
       (state_of g.L.PortSet.state g.D.Datagrams.port c.args.self.now) c.loop.self c.doze.new.self c.serve.new.self
       (c.loop.invariant.fed life is)
       (ap (λ (f : Feeder g.row.S.Denot g.row.L.Denot). f.publisher) c.doze.ensures.feeder) c.doze.ensures.sent
