@@ -126,10 +126,11 @@ pub record HasBroken {S P Q : Type 0} (shows may_leave : S → List ℕ → Type
     (taken may_close : JournalState → Type 0) (life : Life) (old new : FeedState S P Q) : Type 0 where
   -- the state before the call that failed
   pub mid : FeedState S P Q
+  -- the groups that were committed before, and whether the session was closed
   pub groups : List (List (List ℕ))
   pub closes : Bool
   pub fed : HasFed shows may_leave moment left_since modeled answers lines life groups closes old mid
-  -- the messages of the group whose commit failed, or `[]` if another call failed
+  -- the messages of the group that was not committed, if there was one
   pub last : List (List ℕ)
   -- whether the call that failed was the one that closes the session
   pub closing : Bool
