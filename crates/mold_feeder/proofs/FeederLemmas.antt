@@ -231,6 +231,19 @@ all_also P Q (x ∷ xs) follows all = (follows x all.0, all_also P Q xs follows 
 
 module _ {S L P : Type 0} (shows may_leave : S → List ℕ → Type 0) (modeled : Bool) (state : L → PortSetState P)
     (lines : FeedLines P) where
+  -- Nothing was sent.
+  pub sent_nothing : (feeder : Feeder S L) → HasSent shows may_leave modeled state lines [] feeder feeder
+  sent_nothing feeder = record {
+    sends = λ _. refl;
+    given = λ _. refl;
+    clock = refl;
+    storage = refl;
+    journal = refl;
+    onward = omega arith;
+    told = λ life is. record { now = tt; left = tt };
+    publishes = λ life is. is;
+  }
+
   -- A datagram was sent several times, and the publisher is the same.
   pub sent_often : (packet : Option Packet) (times : ℕ) (bytes : List ℕ) (old new : Feeder S L) →
       Lends packet (Some bytes) →

@@ -2,12 +2,12 @@
 use Rattle.std.proofs.Common.{arith, ◌≡◌, ◌∙◌, inl, inr, ℕ, ◌≤◌, Bool, cond, not, true, false, List, [], ◌∷◌, ◌++◌, length, take}
 use Rattle.std.proofs.Common.{Option, None, Some, Result, Ok, Err, ap, refl, sym, subst, append_assoc, append-nil}
 use Rattle.std.proofs.lemmas.List.{take-append-le}
-use Rattle.std.specs.Prelude.{IfOk, OnOk}
+use Rattle.std.specs.Prelude.{IfOk, OnErr, OnOk}
 use Rattle.std.specs.Io.KnownBytes.{Appends}
 use Rattle.std.proofs.KnownBytes.{Appends-trans}
 use Rattle.std.specs.List.{AllByRecursion}
 use Rattle.mold_durable.specs.DurableJournal.{DurableState}
-use Rattle.mold_durable.specs.Life.{Life, Moment, after as after_moment}
+use Rattle.mold_durable.specs.Life.{IsFileOf, Life, Moment, after as after_moment}
 use Rattle.mold_durable.specs.Life.Moment.{Close, Commit}
 use Rattle.mold_durable.specs.Storage.{LeavesOnly}
 use Rattle.mold_durable_publisher.specs.DurablePublisher.{Publishes}
@@ -27,17 +27,23 @@ use Rattle.mold_wire.specs.declared.packet.Packet.{Packet}
 use Rattle.mold_wire.specs.declared.request.Request.{Request}
 use Rattle.mold_feeder.specs.FeedLines.{SendsOn}
 use Rattle.mold_input.specs.Entries.{InputEntries}
+use Rattle.mold_input.specs.declared.input_kind.InputKind.{InputKind}
 use Rattle.mold_session.specs.Publisher.{PublisherState, closed}
-use Rattle.mold_feeder.specs.Feeder.{HasEnded, HasSent, HasTurned, IsFileAtEnd, sends_at, sends_at_end}
-use Rattle.mold_feeder.specs.Feeding.{FeedState, HasFed, HasReplied, IsAtRest, IsFileLeft, Replies}
-use Rattle.mold_feeder.specs.Feeding.{all_of, first_messages, grown, shut}
-use Rattle.mold_feeder.specs.Gathering.{IsFileUpTo, with_committed, with_waiting}
+use Rattle.mold_feeder.specs.Feeder.{HasEnded, HasSent, HasSentBeats, HasTurned, IsFileAtEnd, sends_at, sends_at_end}
+use Rattle.mold_feeder.specs.Feeding.{FeedState, HasBroken, HasFed, HasReplied, IsAtRest, IsFileLeft, IsGroupFile}
+use Rattle.mold_feeder.specs.Feeding.{Replies, all_of, closes_at, first_messages, grown, shut, state_of}
+use Rattle.mold_feeder.specs.Gathering.{Grows, IsFileUpTo, with_committed, with_waiting}
 use Rattle.mold_feeder.specs.Requests.{Offers, RepliesTo, responses, responses_to, sent_journal}
+use Rattle.mold_feeder.specs.declared.feed.Feed.{Feed}
 use Rattle.mold_feeder.specs.declared.feed_end.FeedEnd.{FeedEnd}
 use Rattle.mold_feeder.specs.declared.feed_lines.FeedLines.{FeedLines}
+use Rattle.mold_feeder.specs.declared.feed_stop.FeedStop.{FeedStop}
+use Rattle.mold_feeder.specs.declared.feed_stop.FeedStop.TheVariants.{Ended, Other, Refused}
 use Rattle.mold_feeder.specs.declared.feeder.Feeder.{Feeder}
 use Rattle.mold_feeder.specs.declared.gathered.Gathered.{Gathered}
-use Rattle.mold_feeder.proofs.GatheringLemmas.{file_now, leaves_both, leaves_weaker}
+use Rattle.mold_feeder.specs.declared.requests.Requests.{Requests}
+use Rattle.mold_feeder.proofs.GatheringLemmas.{file_now, leaves_both, leaves_still, leaves_weaker}
+use Rattle.mold_feeder.proofs.FeederLemmas.{sent_nothing}
 use Rattle.mold_feeder.proofs.LineLemmas.{sends_more}
 
 -- ---- groups
@@ -62,6 +68,17 @@ pub grown_more : (life : Life) (first second : List (List (List ℕ))) →
     grown (grown life first) second ≡ grown life (first ++ second)
 grown_more life first second =
     ap (λ (ms : List (List ℕ)). record life { committed = ms; waiting = [] }) (both_groups life first second)
+
+-- A file of the committed messages has the first of any groups: none.
+no_group : (life : Life) (groups : List (List (List ℕ))) (bytes : List ℕ) → IsFileOf life bytes →
+    IsGroupFile life groups bytes
+no_group life groups bytes file = record {
+  front = [];
+  rest = groups;
+  parts = refl;
+  file = subst (λ (ms : List (List ℕ)). SpellsJournal3 life.session ms life.closed bytes)
+      (sym (append-nil life.committed)) file;
+}
 
 left_first : (closes : Bool) (life : Life) (first second : List (List (List ℕ))) (bytes : List ℕ) →
     IsFileLeft false life first bytes → IsFileLeft closes life (first ++ second) bytes
@@ -88,6 +105,31 @@ left_second closes life first second bytes (inr file) =
     inr (
       file.0,
       subst (λ (ms : List (List ℕ)). SpellsJournal3 life.session ms true bytes) (both_groups life first second) file.1,
+    )
+
+none_before : (front rest : List (List (List ℕ))) → [] ≡ front ++ rest → front ≡ []
+none_before [] rest is = refl
+none_before (group ∷ groups) rest is = absurd (cc)
+
+-- Every file after the session was closed or not is one with all groups.
+left_after : (closes : Bool) (life : Life) (groups : List (List (List ℕ))) (bytes : List ℕ) →
+    IsFileLeft false (shut closes (grown life groups)) [] bytes → IsFileLeft closes life groups bytes
+left_after closes life groups bytes (inr file) = let e = file.0 in absurd (cc)
+left_after false life groups bytes (inl file) =
+    inl (record {
+      front = groups;
+      rest = [];
+      parts = sym (append-nil groups);
+      file = subst (λ (ms : List (List ℕ)). SpellsJournal3 life.session ms life.closed bytes)
+          (ap (λ (gs : List (List (List ℕ))). (life.committed ++ all_of groups) ++ all_of gs)
+          (none_before file.front file.rest file.parts) ∙ append-nil (life.committed ++ all_of groups)) file.file;
+    })
+left_after true life groups bytes (inl file) =
+    inr (
+      refl,
+      subst (λ (ms : List (List ℕ)). SpellsJournal3 life.session ms true bytes)
+          (ap (λ (gs : List (List (List ℕ))). (life.committed ++ all_of groups) ++ all_of gs)
+          (none_before file.front file.rest file.parts) ∙ append-nil (life.committed ++ all_of groups)) file.file,
     )
 
 -- ---- what is replied
@@ -181,6 +223,10 @@ shut_committed : (closes : Bool) (life : Life) → (shut closes life).committed 
 shut_committed false life = refl
 shut_committed true life = refl
 
+shut_open : (closes : Bool) (life : Life) → closes ≡ false → (shut closes life).closed ≡ life.closed
+shut_open false life is = refl
+shut_open true life is = absurd (cc)
+
 shut_waiting : (closes : Bool) (life : Life) → (shut closes life).waiting ≡ life.waiting
 shut_waiting false life = refl
 shut_waiting true life = refl
@@ -261,6 +307,62 @@ module _ {S P Q : Type 0} (shows may_leave : S → List ℕ → Type 0) (moment 
     onward = omega (arith, one.onward, other.onward);
   }
 
+  -- The publisher went on, and committed nothing more.
+  pub fed_after : (life : Life) (groups : List (List (List ℕ))) (closes : Bool) (old mid new : FeedState S P Q) →
+      HasFed shows may_leave moment left_since modeled answers lines life groups closes old mid →
+      HasFed shows may_leave moment left_since modeled answers lines (shut closes (grown life groups)) [] false mid new
+      →
+      HasFed shows may_leave moment left_since modeled answers lines life groups closes old new
+  fed_after life groups closes old mid new one other =
+      let last = shut closes (grown life groups) in
+      let same : grown last [] ≡ last = grown_none last one.rests.none in
+      let rests : IsAtRest shows may_leave new.publisher last =
+      subst (IsAtRest shows may_leave new.publisher) same other.rests in
+      record {
+        rests = rests;
+        leaves = leaves_both moment left_since old.publisher.durable.storage mid.publisher.durable.storage
+            new.publisher.durable.storage (IsFileLeft closes life groups) (IsFileLeft false last [])
+            (IsFileLeft closes life groups) (λ bytes file. file) (left_after closes life groups) one.leaves
+            other.leaves;
+        datagrams = one.datagrams ++ other.datagrams;
+        sends = λ is.
+            sends_more lines one.datagrams other.datagrams old.ports.sent mid.ports.sent new.ports.sent (one.sends is)
+            (other.sends is);
+        so = true_all (IsTrueNow last) (IsTrueNow last) one.datagrams other.datagrams (λ datagram is. is) one.so
+            (subst (λ (l : Life). AllByRecursion (IsTrueNow l) other.datagrams) same other.so);
+        later = one.later;
+        replied = replied_more answers mid.publisher.publisher.journal new.publisher.publisher.journal
+            mid.publisher.publisher.sent new.publisher.publisher.sent old.server mid.server old.requests mid.requests
+            new.requests
+            (session_now closes (grown life groups) mid.publisher one.rests
+            ∙ sym (session_now closes (grown life groups) new.publisher rests))
+            (λ count le.
+            ap (take count)
+            (messages_now closes (grown life groups) mid.publisher one.rests
+            ∙ sym (messages_now closes (grown life groups) new.publisher rests)))
+            (ap (λ (s : ServerState). s.limit) one.limits) (ap (λ (s : ServerState). s.burst) one.limits) other.onward
+            one.replied other.replied;
+        limits = other.limits ∙ ap (λ (s : ServerState). record s { answered = new.server.answered }) one.limits;
+        onward = omega (arith, one.onward, other.onward);
+      }
+
+  -- The publisher then served.
+  pub fed_serving : (life : Life) (groups : List (List (List ℕ))) (closes : Bool) (old mid new : FeedState S P Q) →
+      HasFed shows may_leave moment left_since modeled answers lines life groups closes old mid →
+      ((life : Life) → IsAtRest shows may_leave mid.publisher life →
+      HasFed shows may_leave moment left_since modeled answers lines life [] false mid new) →
+      HasFed shows may_leave moment left_since modeled answers lines life groups closes old new
+  fed_serving life groups closes old mid new one serves =
+      fed_after life groups closes old mid new one (serves (shut closes (grown life groups)) one.rests)
+
+-- What a crash leaves of a publisher at rest.
+file_at_rest : {S : Type 0} {shows may_leave : S → List ℕ → Type 0} (life : Life) (publisher : DurablePublisher S)
+    (groups : List (List (List ℕ))) (bytes : List ℕ) → IsAtRest shows may_leave publisher life →
+    may_leave publisher.durable.storage bytes → IsFileLeft false life groups bytes
+file_at_rest {shows = shows} {may_leave = may_leave} life publisher groups bytes is left =
+    inl (no_group life groups bytes
+    (file_now shows may_leave publisher life (is.publishes.lives is.intact) bytes left))
+
 module _ {S P Q : Type 0} (shows may_leave : S → List ℕ → Type 0) (moment : S → ℕ)
     (left_since : S → ℕ → List ℕ → Type 0) (modeled answers : Bool) (lines : FeedLines P)
     (only_now : (storage : S) (bytes : List ℕ) → left_since storage (moment storage) bytes → may_leave storage bytes) where
@@ -283,15 +385,8 @@ module _ {S P Q : Type 0} (shows may_leave : S → List ℕ → Type 0) (moment 
     leaves = subst (λ (d : DurableState S). LeavesOnly moment left_since old.publisher.durable.storage d.storage
         (IsFileLeft false life [])) (sym durable) (record {
           later = omega arith;
-          each = λ bytes left. inl (record {
-            front = [];
-            rest = [];
-            parts = refl;
-            file = subst (λ (ms : List (List ℕ)). SpellsJournal3 life.session ms life.closed bytes)
-                (sym (append-nil life.committed))
-                (file_now shows may_leave old.publisher life (is.publishes.lives is.intact) bytes
-                (only_now old.publisher.durable.storage bytes left));
-          });
+          each = λ bytes left.
+              file_at_rest life old.publisher [] bytes is (only_now old.publisher.durable.storage bytes left);
           before = λ earlier bytes le left. inl left;
         });
     datagrams = datagrams;
@@ -327,7 +422,8 @@ module _ {S P Q : Type 0} (shows may_leave : S → List ℕ → Type 0) (moment 
       (datagrams : List (List ℕ)) (asked replied : Port Q) (server mine : ServerState) →
       IsAtRest shows may_leave old.publisher life → HasSent shows may_leave modeled state lines datagrams old new →
       (answers ≡ true →
-      RepliesTo (sent_journal old.publisher.publisher) server (cut MAX_LIMIT (next_of asked)) (received asked) replied) →
+      RepliesTo (sent_journal old.publisher.publisher) server (cut MAX_LIMIT (next_of asked)) (received asked) replied)
+      →
       mine ≡ record server { answered = mine.answered } →
       HasFed shows may_leave moment left_since modeled answers lines life [] false
       (record { publisher = old.publisher; ports = state old.ports; requests = asked; server = server })
@@ -374,14 +470,7 @@ grown_group life messages none =
 up_to_left : {S : Type 0} (life : Life) (messages : List (List ℕ)) (publisher : DurablePublisher S) (bytes : List ℕ) →
     publisher.publisher.journal.messages ≡ life.committed ++ messages → IsFileUpTo life publisher bytes →
     IsFileLeft false life (messages ∷ []) bytes
-up_to_left life messages publisher bytes held (inl file) =
-    inl (record {
-      front = [];
-      rest = messages ∷ [];
-      parts = refl;
-      file = subst (λ (ms : List (List ℕ)). SpellsJournal3 life.session ms life.closed bytes)
-          (sym (append-nil life.committed)) file;
-    })
+up_to_left life messages publisher bytes held (inl file) = inl (no_group life (messages ∷ []) bytes file)
 up_to_left life messages publisher bytes held (inr file) =
     inl (record {
       front = messages ∷ [];
@@ -404,7 +493,8 @@ module _ {S P Q : Type 0} (shows may_leave : S → List ℕ → Type 0) (moment 
       LeavesOnly moment left_since old.publisher.durable.storage new.publisher.durable.storage
       (IsFileUpTo life new.publisher) → new.publisher.durable.broken ≡ old.publisher.durable.broken →
       (answers ≡ true →
-      RepliesTo (sent_journal old.publisher.publisher) server (cut MAX_LIMIT (next_of asked)) (received asked) replied) →
+      RepliesTo (sent_journal old.publisher.publisher) server (cut MAX_LIMIT (next_of asked)) (received asked) replied)
+      →
       mine ≡ record server { answered = mine.answered } →
       (groups : List (List (List ℕ)))
       × HasFed shows may_leave moment left_since modeled answers lines life groups false
@@ -483,51 +573,20 @@ ended_waiting : (stays : Bool) (life : Life) → life.waiting ≡ [] → (cond s
 ended_waiting true life none = none
 ended_waiting false life none = refl
 
-at_end_left : (stays : Bool) (life : Life) (bytes : List ℕ) → life.waiting ≡ [] → IsFileAtEnd stays life bytes →
-    IsFileLeft (not stays) life [] bytes
-at_end_left stays life bytes none (inl file) =
-    inl (record {
-      front = [];
-      rest = [];
-      parts = refl;
-      file = subst (λ (ms : List (List ℕ)). SpellsJournal3 life.session ms life.closed bytes)
-          (sym (append-nil life.committed)) file;
-    })
-at_end_left stays life bytes none (inr file) =
+at_end_left : (stays : Bool) (life : Life) (groups : List (List (List ℕ))) (bytes : List ℕ) → all_of groups ≡ [] →
+    life.waiting ≡ [] → IsFileAtEnd stays life bytes → IsFileLeft (not stays) life groups bytes
+at_end_left stays life groups bytes empty none (inl file) = inl (no_group life groups bytes file)
+at_end_left stays life groups bytes empty none (inr file) =
     inr (
       ap not file.0,
-      subst (λ (ms : List (List ℕ)). SpellsJournal3 life.session (life.committed ++ ms) true bytes) none file.1,
+      subst (λ (ms : List (List ℕ)). SpellsJournal3 life.session (life.committed ++ ms) true bytes) (none ∙ sym empty)
+          file.1,
     )
 
 ended_onward : (end : FeedEnd) (stays : Bool) (publisher : PublisherState) →
     publisher.sent ≤ (cond stays publisher (closed publisher)).sent
 ended_onward end true publisher = omega arith
 ended_onward end false publisher = omega arith
-
-none_before : (front rest : List (List (List ℕ))) → [] ≡ front ++ rest → front ≡ []
-none_before [] rest is = refl
-none_before (group ∷ groups) rest is = absurd (cc)
-
--- Every file after the session was closed or not is one with all groups.
-left_after : (closes : Bool) (life : Life) (groups : List (List (List ℕ))) (bytes : List ℕ) →
-    IsFileLeft false (shut closes (grown life groups)) [] bytes → IsFileLeft closes life groups bytes
-left_after closes life groups bytes (inr file) = let e = file.0 in absurd (cc)
-left_after false life groups bytes (inl file) =
-    inl (record {
-      front = groups;
-      rest = [];
-      parts = sym (append-nil groups);
-      file = subst (λ (ms : List (List ℕ)). SpellsJournal3 life.session ms life.closed bytes)
-          (ap (λ (gs : List (List (List ℕ))). (life.committed ++ all_of groups) ++ all_of gs)
-          (none_before file.front file.rest file.parts) ∙ append-nil (life.committed ++ all_of groups)) file.file;
-    })
-left_after true life groups bytes (inl file) =
-    inr (
-      refl,
-      subst (λ (ms : List (List ℕ)). SpellsJournal3 life.session ms true bytes)
-          (ap (λ (gs : List (List (List ℕ))). (life.committed ++ all_of groups) ++ all_of gs)
-          (none_before file.front file.rest file.parts) ∙ append-nil (life.committed ++ all_of groups)) file.file,
-    )
 
 module _ (stays : (life : Life) (event : Moment) (datagram : List ℕ) → IsLife life → IsTrueNow life datagram →
     IsTrueNow (after_moment life event) datagram) where
@@ -562,7 +621,7 @@ module _ {S P Q : Type 0} (shows may_leave : S → List ℕ → Type 0) (moment 
         });
         leaves = leaves_weaker moment left_since old.publisher.durable.storage new.publisher.durable.storage
             (IsFileAtEnd end.stays_open life) (IsFileLeft (not end.stays_open) life [])
-            (λ bytes. at_end_left end.stays_open life bytes is.none) crash;
+            (λ bytes. at_end_left end.stays_open life [] bytes refl is.none) crash;
         datagrams = sends_at_end end old.publisher.publisher;
         sends = ended.sends;
         so = subst (λ (l : Life). AllByRecursion (IsTrueNow l) (sends_at_end end old.publisher.publisher)) same
@@ -575,41 +634,302 @@ module _ {S P Q : Type 0} (shows may_leave : S → List ℕ → Type 0) (moment 
         onward = onward;
       }
 
-  -- The publisher went on, and committed nothing more.
-  pub fed_after : (life : Life) (groups : List (List (List ℕ))) (closes : Bool) (old mid new : FeedState S P Q) →
-      HasFed shows may_leave moment left_since modeled answers lines life groups closes old mid →
-      HasFed shows may_leave moment left_since modeled answers lines (shut closes (grown life groups)) [] false mid new →
-      HasFed shows may_leave moment left_since modeled answers lines life groups closes old new
-  fed_after life groups closes old mid new one other =
-      let last = shut closes (grown life groups) in
-      let same : grown last [] ≡ last = grown_none last one.rests.none in
-      let rests : IsAtRest shows may_leave new.publisher last =
-      subst (IsAtRest shows may_leave new.publisher) same other.rests in
+  -- The session was ended, and the publisher then served.
+  pub fed_ended_on : {L : Type 0} (state : L → PortSetState P) (end : FeedEnd) (life : Life) (old new : Feeder S L)
+      (asked : Port Q) (server : ServerState) (last : FeedState S P Q) → IsAtRest shows may_leave old.publisher life →
+      HasEnded shows may_leave modeled state lines end life old new →
+      LeavesOnly moment left_since old.publisher.durable.storage new.publisher.durable.storage
+      (IsFileAtEnd end.stays_open life) → new.publisher.durable.broken ≡ old.publisher.durable.broken →
+      ((life : Life) → IsAtRest shows may_leave new.publisher life →
+      HasFed shows may_leave moment left_since modeled answers lines life [] false
+      (record { publisher = new.publisher; ports = state new.ports; requests = asked; server = server }) last) →
+      HasFed shows may_leave moment left_since modeled answers lines life [] (not end.stays_open)
+      (record { publisher = old.publisher; ports = state old.ports; requests = asked; server = server }) last
+  fed_ended_on state end life old new asked server last is ended crash intact serves =
+      fed_serving shows may_leave moment left_since modeled answers lines life [] (not end.stays_open)
+      (record { publisher = old.publisher; ports = state old.ports; requests = asked; server = server })
+      (record { publisher = new.publisher; ports = state new.ports; requests = asked; server = server }) last
+      (fed_ended state end life old new asked server is ended crash intact) serves
+
+-- ---- a publisher that waits or reads
+
+module _ {S P Q : Type 0} (shows may_leave : S → List ℕ → Type 0) (moment : S → ℕ)
+    (left_since : S → ℕ → List ℕ → Type 0) (modeled answers : Bool) (lines : FeedLines P)
+    (only_now : (storage : S) (bytes : List ℕ) → left_since storage (moment storage) bytes → may_leave storage bytes)
+    {L D M K : Type 0} (state : L → PortSetState P) (port : D → Port Q) where
+  -- The publisher waited.
+  pub fed_rested : (life : Life) (old new : Feed S L D M K) → IsAtRest shows may_leave old.feeder.publisher life →
+      new.feeder.publisher ≡ old.feeder.publisher →
+      (modeled ≡ true → (state new.feeder.ports).sent ≡ (state old.feeder.ports).sent) → new.requests ≡ old.requests →
+      HasFed shows may_leave moment left_since modeled answers lines life [] false (state_of state port old)
+      (state_of state port new)
+  fed_rested life old new is same sent requests =
+      fed_waited shows may_leave moment left_since modeled answers lines only_now life (state_of state port old)
+      (state_of state port new) is same sent (ap (λ (r : Requests D). port r.port) requests)
+      (ap (λ (r : Requests D). r.server) requests)
+
+  -- The publisher then waited.
+  pub fed_paused : (life : Life) (groups : List (List (List ℕ))) (closes : Bool) (old : FeedState S P Q)
+      (mid new : Feed S L D M K) →
+      HasFed shows may_leave moment left_since modeled answers lines life groups closes old (state_of state port mid) →
+      new.feeder.publisher ≡ mid.feeder.publisher →
+      (modeled ≡ true → (state new.feeder.ports).sent ≡ (state mid.feeder.ports).sent) →
+      new.requests ≡ mid.requests →
+      HasFed shows may_leave moment left_since modeled answers lines life groups closes old (state_of state port new)
+  fed_paused life groups closes old mid new fed same sent requests =
+      fed_after shows may_leave moment left_since modeled answers lines life groups closes old (state_of state port mid)
+      (state_of state port new) fed
+      (fed_rested (shut closes (grown life groups)) mid new fed.rests same sent requests)
+
+  -- The publisher then changed its input only.
+  pub fed_same : (life : Life) (groups : List (List (List ℕ))) (closes : Bool) (old : FeedState S P Q)
+      (mid new : Feed S L D M K) →
+      HasFed shows may_leave moment left_since modeled answers lines life groups closes old (state_of state port mid) →
+      new.feeder ≡ mid.feeder → new.requests ≡ mid.requests →
+      HasFed shows may_leave moment left_since modeled answers lines life groups closes old (state_of state port new)
+  fed_same life groups closes old mid new fed feeder requests =
+      fed_paused life groups closes old mid new fed (ap (λ (f : Feeder S L). f.publisher) feeder)
+      (λ _. ap (λ (f : Feeder S L). (state f.ports).sent) feeder) requests
+
+  -- The publisher waited, and sent what was due.
+  pub fed_served_on : (life : Life) (old : FeedState S P Q) (mid paused new : Feed S L D M K) →
+      HasFed shows may_leave moment left_since modeled answers lines life [] false old (state_of state port mid) →
+      paused.feeder.publisher ≡ mid.feeder.publisher →
+      (modeled ≡ true → (state paused.feeder.ports).sent ≡ (state mid.feeder.ports).sent) →
+      paused.requests ≡ mid.requests →
+      ((life : Life) → IsAtRest shows may_leave paused.feeder.publisher life →
+      HasFed shows may_leave moment left_since modeled answers lines life [] false (state_of state port paused)
+      (state_of state port new)) →
+      HasFed shows may_leave moment left_since modeled answers lines life [] false old (state_of state port new)
+  fed_served_on life old mid paused new fed same sent requests serves =
+      fed_serving shows may_leave moment left_since modeled answers lines life [] false old (state_of state port paused)
+      (state_of state port new) (fed_paused life [] false old mid paused fed same sent requests) serves
+
+  -- The publisher waited, sent what was due, and then changed its input only.
+  pub fed_compared : (life : Life) (old : FeedState S P Q) (mid paused served new : Feed S L D M K) →
+      HasFed shows may_leave moment left_since modeled answers lines life [] false old (state_of state port mid) →
+      paused.feeder.publisher ≡ mid.feeder.publisher →
+      (modeled ≡ true → (state paused.feeder.ports).sent ≡ (state mid.feeder.ports).sent) →
+      paused.requests ≡ mid.requests →
+      ((life : Life) → IsAtRest shows may_leave paused.feeder.publisher life →
+      HasFed shows may_leave moment left_since modeled answers lines life [] false (state_of state port paused)
+      (state_of state port served)) → new.feeder ≡ served.feeder → new.requests ≡ served.requests →
+      HasFed shows may_leave moment left_since modeled answers lines life [] false old (state_of state port new)
+  fed_compared life old mid paused served new fed same sent requests serves feeder asked =
+      fed_same life [] false old served new
+      (fed_served_on life old mid paused served fed same sent requests serves) feeder asked
+
+-- ---- a fault
+
+pub not_open : (stays : Bool) → not stays ≡ true → stays ≡ false
+not_open false is = refl
+not_open true is = absurd (cc)
+
+-- If the session was closed, it does not stay open, and its input has ended.
+pub ended_at : (end : FeedEnd) (stop : FeedStop) (P : FeedStop → Type 0) → P stop → closes_at end stop ≡ true →
+    (end.stays_open ≡ false) × P Ended
+ended_at end Ended P so is = (not_open end.stays_open is, so)
+ended_at end (Refused number refusal) P so is = absurd (cc)
+ended_at end (Other number compared) P so is = absurd (cc)
+
+module _ {S P Q : Type 0} (shows may_leave : S → List ℕ → Type 0) (moment : S → ℕ)
+    (left_since : S → ℕ → List ℕ → Type 0) (modeled answers : Bool) (lines : FeedLines P)
+    (taken may_close : JournalState → Type 0) (life : Life) where
+  -- The publisher went on, and then ended with a fault.
+  pub broken_then : (first : List (List (List ℕ))) (old mid new : FeedState S P Q) →
+      HasFed shows may_leave moment left_since modeled answers lines life first false old mid →
+      HasBroken shows may_leave moment left_since modeled answers lines taken may_close (grown life first) mid new →
+      HasBroken shows may_leave moment left_since modeled answers lines taken may_close life old new
+  broken_then first old mid new one other = record {
+    mid = other.mid;
+    groups = first ++ other.groups;
+    closes = other.closes;
+    fed = fed_then shows may_leave moment left_since modeled answers lines life first other.groups other.closes old mid
+        other.mid one other.fed;
+    last = other.last;
+    closing = other.closing;
+    alone = other.alone;
+    leaves = subst (λ (l : Life). LeavesOnly moment left_since other.mid.publisher.durable.storage
+        new.publisher.durable.storage (IsFileLeft other.closing l (other.last ∷ [])))
+        (shut_grown other.closes life first other.groups) other.leaves;
+    allowed = other.allowed;
+    journal = other.journal;
+    joined = other.joined;
+    so_far = other.so_far;
+    silent = other.silent;
+    unanswered = other.unanswered;
+  }
+
+  -- What the journals satisfy is weaker.
+  pub broken_weaker : (less few : JournalState → Type 0) (old new : FeedState S P Q) →
+      ((journal : JournalState) → less journal → taken journal) →
+      ((journal : JournalState) → few journal → may_close journal) →
+      HasBroken shows may_leave moment left_since modeled answers lines less few life old new →
+      HasBroken shows may_leave moment left_since modeled answers lines taken may_close life old new
+  broken_weaker less few old new follows closes broken = record {
+    mid = broken.mid;
+    groups = broken.groups;
+    closes = broken.closes;
+    fed = broken.fed;
+    last = broken.last;
+    closing = broken.closing;
+    alone = broken.alone;
+    leaves = broken.leaves;
+    allowed = λ is. closes broken.mid.publisher.publisher.journal (broken.allowed is);
+    journal = broken.journal;
+    joined = broken.joined;
+    so_far = λ is. follows broken.journal (broken.so_far is);
+    silent = broken.silent;
+    unanswered = broken.unanswered;
+  }
+
+module _ {S P Q : Type 0} (shows may_leave : S → List ℕ → Type 0) (moment : S → ℕ)
+    (left_since : S → ℕ → List ℕ → Type 0) (modeled answers : Bool) (lines : FeedLines P)
+    (only_now : (storage : S) (bytes : List ℕ) → left_since storage (moment storage) bytes → may_leave storage bytes)
+    (taken may_close : JournalState → Type 0) (life : Life) where
+  -- A call failed that changed nothing of the session.
+  pub broken_at : (groups : List (List (List ℕ))) (closes : Bool) (old new : FeedState S P Q) →
+      (closes ≡ false → taken new.publisher.publisher.journal) →
+      (closes ≡ true → may_close new.publisher.publisher.journal) →
+      HasFed shows may_leave moment left_since modeled answers lines life groups closes old new →
+      HasBroken shows may_leave moment left_since modeled answers lines taken may_close life old new
+  broken_at groups closes old new so_far allowed fed =
+      let now = shut closes (grown life groups) in
       record {
-        rests = rests;
-        leaves = leaves_both moment left_since old.publisher.durable.storage mid.publisher.durable.storage
-            new.publisher.durable.storage (IsFileLeft closes life groups) (IsFileLeft false last [])
-            (IsFileLeft closes life groups) (λ bytes file. file) (left_after closes life groups) one.leaves other.leaves;
-        datagrams = one.datagrams ++ other.datagrams;
-        sends = λ is.
-            sends_more lines one.datagrams other.datagrams old.ports.sent mid.ports.sent new.ports.sent (one.sends is)
-            (other.sends is);
-        so = true_all (IsTrueNow last) (IsTrueNow last) one.datagrams other.datagrams (λ datagram is. is) one.so
-            (subst (λ (l : Life). AllByRecursion (IsTrueNow l) other.datagrams) same other.so);
-        later = one.later;
-        replied = replied_more answers mid.publisher.publisher.journal new.publisher.publisher.journal
-            mid.publisher.publisher.sent new.publisher.publisher.sent old.server mid.server old.requests mid.requests
-            new.requests
-            (session_now closes (grown life groups) mid.publisher one.rests
-            ∙ sym (session_now closes (grown life groups) new.publisher rests))
-            (λ count le.
-            ap (take count)
-            (messages_now closes (grown life groups) mid.publisher one.rests
-            ∙ sym (messages_now closes (grown life groups) new.publisher rests)))
-            (ap (λ (s : ServerState). s.limit) one.limits) (ap (λ (s : ServerState). s.burst) one.limits) other.onward
-            one.replied other.replied;
-        limits = other.limits ∙ ap (λ (s : ServerState). record s { answered = new.server.answered }) one.limits;
-        onward = omega (arith, one.onward, other.onward);
+        mid = new;
+        groups = groups;
+        closes = closes;
+        fed = fed;
+        last = [];
+        closing = false;
+        alone = λ _. refl;
+        leaves = leaves_still moment left_since may_leave only_now new.publisher.durable.storage
+            (IsFileLeft false now ([] ∷ []))
+            (λ bytes left. file_at_rest now new.publisher ([] ∷ []) bytes fed.rests left);
+        allowed = λ is. elim is [
+          | inl closed ↦ allowed closed
+          | inr closing ↦ absurd (cc)
+        ];
+        journal = new.publisher.publisher.journal;
+        joined = sym (append-nil new.publisher.publisher.journal.messages);
+        so_far = λ is. so_far is.0;
+        silent = λ _. refl;
+        unanswered = refl;
+      }
+
+  -- A call failed that changed nothing of a session that was not closed.
+  pub broken_now : (groups : List (List (List ℕ))) (old new : FeedState S P Q) →
+      taken new.publisher.publisher.journal →
+      HasFed shows may_leave moment left_since modeled answers lines life groups false old new →
+      HasBroken shows may_leave moment left_since modeled answers lines taken may_close life old new
+  broken_now groups old new so_far fed = broken_at groups false old new (λ _. so_far) (λ is. absurd (cc)) fed
+
+  -- A call failed after the publisher stopped.
+  pub broken_after : (end : FeedEnd) (stop : FeedStop) (old mid new : FeedState S P Q) →
+      IsAtRest shows may_leave old.publisher life →
+      (new.publisher.publisher.journal.closed ≡ old.publisher.publisher.journal.closed →
+      taken new.publisher.publisher.journal) →
+      (closes_at end stop ≡ true → may_close new.publisher.publisher.journal) →
+      HasFed shows may_leave moment left_since modeled answers lines life [] false old mid →
+      (groups : List (List (List ℕ)))
+      × HasFed shows may_leave moment left_since modeled answers lines (grown life []) groups (closes_at end stop) mid
+      new → HasBroken shows may_leave moment left_since modeled answers lines taken may_close life old new
+  broken_after end stop old mid new is so_far allowed begun ran =
+      broken_at ran.0 (closes_at end stop) old new
+      (λ kept. so_far (ran.1.rests.publishes.closed
+      ∙ shut_open (closes_at end stop) (grown (grown life []) ran.0) kept ∙ sym is.publishes.closed)) allowed
+      (fed_then shows may_leave moment left_since modeled answers lines life [] ran.0 (closes_at end stop) old mid new
+      begun ran.1)
+
+  -- A turn failed to take a group, after it replied to a request.
+  pub broken_turn : {L : Type 0} (state : L → PortSetState P) (kind : InputKind) (known : Option InputEntries)
+      (old new : Feeder S L) (asked replied : Port Q) (server mine : ServerState) →
+      IsAtRest shows may_leave old.publisher life → Grows kind known old.publisher new.publisher →
+      taken new.publisher.publisher.journal →
+      LeavesOnly moment left_since old.publisher.durable.storage new.publisher.durable.storage
+      (IsFileUpTo life new.publisher) → new.ports ≡ old.ports →
+      (answers ≡ true →
+      RepliesTo (sent_journal old.publisher.publisher) server (cut MAX_LIMIT (next_of asked)) (received asked) replied)
+      →
+      mine ≡ record server { answered = mine.answered } →
+      HasBroken shows may_leave moment left_since modeled answers lines taken may_close life
+      (record { publisher = old.publisher; ports = state old.ports; requests = asked; server = server })
+      (record { publisher = new.publisher; ports = state new.ports; requests = replied; server = mine })
+  broken_turn {L} state kind known old new asked replied server mine is grows so_far crash ports replies limits =
+      let messages = grows.messages in
+      let added =
+      grows.added ∙ ap (λ (ms : List (List ℕ)). ms ++ messages) (messages_now false life old.publisher is) in
+      record {
+        mid = record { publisher = old.publisher; ports = state old.ports; requests = replied; server = mine };
+        groups = [];
+        closes = false;
+        fed = fed_served shows may_leave moment left_since modeled answers lines only_now state life old old [] asked
+            replied server mine is (sent_nothing shows may_leave modeled state lines old) replies limits;
+        last = messages;
+        closing = false;
+        alone = λ is. absurd (cc);
+        leaves = subst (λ (l : Life). LeavesOnly moment left_since old.publisher.durable.storage
+            new.publisher.durable.storage (IsFileLeft false l (messages ∷ []))) (sym (grown_none life is.none))
+            (leaves_weaker moment left_since old.publisher.durable.storage new.publisher.durable.storage
+            (IsFileUpTo life new.publisher) (IsFileLeft false life (messages ∷ []))
+            (λ bytes. up_to_left life messages new.publisher bytes added) crash);
+        allowed = λ is. elim is [
+          | inl closed ↦ absurd (cc)
+          | inr closing ↦ absurd (cc)
+        ];
+        journal = new.publisher.publisher.journal;
+        joined = grows.added;
+        so_far = λ _. so_far;
+        silent = λ _. ap (λ (p : L). (state p).sent) ports;
+        unanswered = refl;
+      }
+
+  -- The session was to be closed after heartbeats, and the closing failed.
+  pub broken_end : {L : Type 0} (state : L → PortSetState P) (end : FeedEnd) (old new : Feeder S L) (asked : Port Q)
+      (server : ServerState) → IsAtRest shows may_leave old.publisher life →
+      HasSentBeats shows may_leave modeled state lines end.beats old new →
+      LeavesOnly moment left_since old.publisher.durable.storage new.publisher.durable.storage
+      (IsFileAtEnd end.stays_open life) →
+      ((journal : JournalState) → journal ≡ old.publisher.publisher.journal → taken journal) →
+      ((journal : JournalState) → end.stays_open ≡ false → journal ≡ old.publisher.publisher.journal →
+      may_close journal) →
+      HasBroken shows may_leave moment left_since modeled answers lines taken may_close life
+      (record { publisher = old.publisher; ports = state old.ports; requests = asked; server = server })
+      (record { publisher = new.publisher; ports = state new.ports; requests = asked; server = server })
+  broken_end {L} state end old new asked server is beats_sent crash so_far allowed =
+      let left = IsFileLeft (not end.stays_open) life ([] ∷ []) in
+      record {
+        mid = record {
+          publisher = beats_sent.mid.publisher;
+          ports = state beats_sent.mid.ports;
+          requests = asked;
+          server =
+              server;
+        };
+        groups = [];
+        closes = false;
+        fed = fed_beaten shows may_leave moment left_since modeled answers lines only_now state life old beats_sent.mid
+            _ asked server is beats_sent.sent;
+        last = [];
+        closing = not end.stays_open;
+        alone = λ _. refl;
+        leaves = subst (λ (d : DurableState S). LeavesOnly moment left_since d.storage new.publisher.durable.storage
+            (IsFileLeft (not end.stays_open) (grown life []) ([] ∷ []))) (sym beats_sent.sent.storage)
+            (subst (λ (l : Life). LeavesOnly moment left_since old.publisher.durable.storage
+            new.publisher.durable.storage (IsFileLeft (not end.stays_open) l ([] ∷ []))) (sym (grown_none life is.none))
+            (leaves_weaker moment left_since old.publisher.durable.storage new.publisher.durable.storage
+            (IsFileAtEnd end.stays_open life) left
+            (λ bytes. at_end_left end.stays_open life ([] ∷ []) bytes refl is.none) crash));
+        allowed = λ is. elim is [
+          | inl closed ↦ absurd (cc)
+          | inr closing ↦ allowed beats_sent.mid.publisher.publisher.journal (not_open end.stays_open closing)
+              beats_sent.sent.journal
+        ];
+        journal = beats_sent.mid.publisher.publisher.journal;
+        joined = sym (append-nil beats_sent.mid.publisher.publisher.journal.messages);
+        so_far = λ _. so_far beats_sent.mid.publisher.publisher.journal beats_sent.sent.journal;
+        silent = λ _. ap (λ (p : L). (state p).sent) beats_sent.silent;
+        unanswered = refl;
       }
 
 -- ---- results
@@ -618,6 +938,11 @@ pub turned_ok : {T E : Type 0} (result : Result T E) (P : T → Type 0) (A Q : T
     IfOk result P → OnOk result A → OnOk result Q
 turned_ok (Ok x) P A Q follows is also = follows x is also
 turned_ok (Err why) P A Q follows is also = tt
+
+pub turned_err : {T E : Type 0} (result : Result T E) (A B Q : Type 0) → (A → B → Q) → OnErr result A → OnErr result B →
+    OnErr result Q
+turned_err (Ok x) A B Q follows is also = tt
+turned_err (Err why) A B Q follows is also = follows is also
 
 pub ok_always : {T E : Type 0} (result : Result T E) (Q : Type 0) → Q → OnOk result Q
 ok_always (Ok x) Q is = is

@@ -20,7 +20,7 @@ use Rattle.mold_session.specs.Publisher.{PublisherState}
 use Rattle.mold_session.specs.Records.{SpellsJournal3}
 use Rattle.mold_wire.specs.declared.session.Session.{Session}
 use Rattle.mold_feeder.specs.Feeder.{IsFileAtEnd}
-use Rattle.mold_feeder.specs.Gathering.{Gathers, IsFileUpTo, JoinsWaiting, TakesGroup, filled_for, with_waiting}
+use Rattle.mold_feeder.specs.Gathering.{Gathers, Grows, IsFileUpTo, JoinsWaiting, TakesGroup, filled_for, with_waiting}
 use Rattle.mold_feeder.specs.declared.gathered.Gathered.{Gathered}
 use Rattle.mold_feeder.specs.declared.gathered.Gathered.TheVariants.{Full, End, Refused}
 
@@ -62,6 +62,18 @@ module _ {S : Type 0} (shows may_leave : S → List ℕ → Type 0) (kind : Inpu
     input = published_more kind old.publisher.journal mid.publisher.journal new.publisher.journal known left behind read
         joins.message so_far.input gives joins.is joins.journal;
   }
+
+  -- The messages so far.
+  pub grown_so_far : (most : ℕ) (old mid new : DurablePublisher S) (known left : Option (List Entry)) →
+      SoFar most old mid known left → new ≡ mid → Grows kind (with_kind kind known) old new
+  grown_so_far most old mid new known left so_far same =
+      subst (Grows kind (with_kind kind known) old) (sym same) (record {
+        messages = so_far.messages;
+        added = so_far.added;
+        left = left;
+        filled = filled_for Full;
+        input = so_far.input;
+      })
 
   -- The group ends here.
   stopped : (most all : ℕ) (old now : DurablePublisher S) (known left behind : Option (List Entry)) (gathered : Gathered) →
@@ -231,6 +243,20 @@ module _ {S : Type 0} (shows may_leave : S → List ℕ → Type 0) (moment : S 
       subst (λ (s : S). LeavesOnly moment left_since s now.durable.storage (IsFileUpTo life now)) same
       (leaves_weaker moment left_since mid.durable.storage now.durable.storage (IsFileAround (with_waiting life messages) Commit)
       (IsFileUpTo life now) (λ bytes. around_up_to life mid now messages bytes is kept) leaves)
+
+  -- A group was not committed.
+  pub group_failed : (kind : InputKind) (life : Life) (most : ℕ) (old mid new : DurablePublisher S)
+      (known : Option InputEntries) (left : Option (List Entry)) (gathered : Gathered) →
+      Gathers shows may_leave life most old mid known (with_kind kind left) gathered → new.publisher ≡ mid.publisher →
+      Grows kind known old new
+  group_failed kind life most old mid new known left gathered so_far same = record {
+    messages = so_far.messages;
+    added = ap (λ (p : PublisherState). p.journal.messages) same ∙ so_far.added;
+    left = left;
+    filled = filled_for gathered;
+    input = subst (λ (p : PublisherState). InputPublished old.publisher.journal p.journal known (with_kind kind left)
+        (filled_for gathered)) (sym same) so_far.input;
+  }
 
   -- A group was committed.
   pub group_taken : (life : Life) (most : ℕ) (old mid new : DurablePublisher S) (known left : Option InputEntries)

@@ -1,6 +1,6 @@
 -- What is taken of an input that comes in pieces.
 use Rattle.std.proofs.Common.{◌≡◌, ◌∙◌, ◌&&◌, ◌-◌, cond, length, map, nat_lt, take, ℕ, Bool, not, true, false, List, [], ◌∷◌, ◌++◌, Option, None, Some, Result, Ok, Err}
-use Rattle.std.proofs.Common.{ap, refl, sym, subst, append_assoc, append-nil}
+use Rattle.std.proofs.Common.{ap, inl, inr, refl, sym, subst, append_assoc, append-nil}
 use Rattle.std.specs.Io.KnownBytes.{IsAtEnd}
 use Rattle.std.specs.Prelude.{⊤}
 use Rattle.mold_input.specs.Entries.{Entry}
@@ -26,8 +26,9 @@ use Rattle.mold_feeder.specs.declared.compared.Compared.{Compared}
 use Rattle.mold_feeder.specs.declared.compared.Compared.TheVariants as compared
 use Rattle.mold_feeder.specs.declared.compared.Compared.TheVariants.{Differs, Same}
 use Rattle.mold_feeder.specs.Input.{IsInput, KeepsRest, entries_after, entries_of_rest}
-use Rattle.mold_feeder.specs.Taking.{ComparesCome, IsSameTo, IsStop, Takes, TakesAfter, TakesCome, TakesInput, filled_now}
-use Rattle.mold_feeder.specs.Taking.{is_end, is_same, left_of, refusal_of, reopened, stop_at, taken_at}
+use Rattle.mold_feeder.specs.Taking.{ComparesCome, IsSameTo, IsStop, Takes, TakesAfter, TakesCome, TakesInput}
+use Rattle.mold_feeder.specs.Taking.{TakesPart, TakesYet, filled_now, is_end, is_same, left_of, refusal_of, reopened}
+use Rattle.mold_feeder.specs.Taking.{stop_at, taken_at}
 use Rattle.mold_feeder.specs.declared.gathered.Gathered.{Gathered}
 use Rattle.mold_feeder.specs.declared.gathered.Gathered.TheVariants.{Full, End, Refused}
 use Rattle.mold_feeder.specs.declared.piece_input.PieceInput.{PieceInput}
@@ -117,6 +118,51 @@ takes_then kind old mid new None behind left last first second = tt
 takes_then kind old mid new (Some all) None left last first second = absurd first
 takes_then kind old mid new (Some all) (Some entries) None last first second = absurd second
 takes_then kind old mid new (Some all) (Some entries) (Some others) last first second = first ∙ second
+
+-- ---- a fault
+
+-- Since these messages were published, the journal has not changed.
+pub part_at : (kind : InputKind) (old published now : JournalState) (known left : Option (List Entry))
+    (filled : Filled) → now ≡ published → Takes kind old published known left filled → TakesPart kind old known now
+part_at kind old published now known left filled same takes =
+    (left, (filled, subst (λ (j : JournalState). Takes kind old j known left filled) (sym same) takes))
+
+pub part_none : (kind : InputKind) (old new : JournalState) (known : Option (List Entry)) → new ≡ old →
+    TakesPart kind old known new
+part_none kind old new known same = part_at kind old old new known known filled.Full same (takes_yet kind old known)
+
+-- More was taken.
+pub part_then : (kind : InputKind) (old mid new : JournalState) (known behind : Option (List Entry)) →
+    Takes kind old mid known behind filled.Full → TakesPart kind mid behind new → TakesPart kind old known new
+part_then kind old mid new known behind first part =
+    (part.0, (part.1.0, takes_then kind old mid new known behind part.0 part.1.0 first part.1.1))
+
+part_filled : (kind : InputKind) (old new : JournalState) (all come left later : List Entry) (last : Filled) →
+    come ++ later ≡ all → Takes kind old new (Some come) (Some left) last → TakesPart kind old (Some all) new
+part_filled kind old new all come left later filled.Full same takes =
+    (Some (left ++ later), (filled.Full, come_taken kind old new all come left later (Some Full) same takes))
+part_filled kind old new all come left later filled.End same takes =
+    (Some later, (filled.Full, come_taken kind old new all come left later (Some End) same takes))
+part_filled kind old new all come left later (filled.Refused why) same takes = (
+  Some (left ++ later),
+  (filled.Refused why, come_taken kind old new all come left later (Some (Refused why)) same takes),
+)
+
+part_known : (kind : InputKind) (old new : JournalState) (all come later : List Entry) (left : Option (List Entry))
+    (last : Filled) → come ++ later ≡ all → Takes kind old new (Some come) left last → TakesPart kind old (Some all) new
+part_known kind old new all come later None last same takes = absurd takes
+part_known kind old new all come later (Some left) last same takes =
+    part_filled kind old new all come left later last same takes
+
+-- What was taken of what has come was taken of the input.
+pub part_of_rest : (kind : InputKind) (old new : JournalState) (known : Option (List Entry))
+    (entries : List ℕ → List Entry) (come : List Entry) (part : List ℕ) (bytes : Option (List ℕ)) →
+    KeepsRest known (entries_after entries come part bytes) → TakesPart kind old (Some come) new →
+    TakesPart kind old known new
+part_of_rest kind old new None entries come part bytes keeps takes = (None, (filled.Full, tt))
+part_of_rest kind old new (Some all) entries come part None keeps takes = absurd keeps
+part_of_rest kind old new (Some all) entries come part (Some bytes) keeps takes =
+    part_known kind old new all come (entries (part ++ bytes)) takes.0 takes.1.0 keeps takes.1.1
 
 -- ---- the end
 
@@ -372,6 +418,82 @@ ended_cases false old publisher = refl
 pub reopened_ended : (end : FeedEnd) (old : JournalState) (publisher : PublisherState) →
     publisher.journal.closed ≡ old.closed → reopened old (ended end publisher).journal ≡ publisher.journal
 reopened_ended end old publisher same = ended_cases end.stays_open old publisher ∙ reopened_same old publisher.journal same
+
+-- All entries were published, and since then the session was closed or not.
+pub takes_ended : (kind : InputKind) (begun : ℕ) (old published served last : JournalState)
+    (known left : Option (List Entry)) (gathered : Gathered) → IsStop gathered → refusal_of gathered ≡ None →
+    Takes kind old published known left (filled_for gathered) → served ≡ published → served.closed ≡ old.closed →
+    reopened served last ≡ served → TakesAfter kind begun old (reopened old last) known stop.Ended
+takes_ended kind begun old published served last known left gathered is none takes kept shut same = (
+  left,
+  subst (λ (j : JournalState). Takes kind old j known left filled.End)
+      (sym (ap (λ (c : Bool). record last { closed = c }) (sym shut) ∙ same ∙ kept))
+      (subst (Takes kind old published known left) (not_refused gathered is none) takes),
+)
+
+-- The same, if the journal and the entries are the same.
+pub takes_same : (appends : Bool) (kind : InputKind) (one other new : JournalState) (known mine : Option (List Entry))
+    (last : FeedStop) → one ≡ other → known ≡ mine → TakesInput appends kind one (reopened one new) known last →
+    TakesInput appends kind other (reopened other new) mine last
+takes_same appends kind one other new known mine last journal entries takes =
+    subst (λ (es : Option (List Entry)). TakesInput appends kind other (reopened other new) es last) entries
+    (subst (λ (j : JournalState). TakesInput appends kind j (reopened j new) known last) journal takes)
+
+pub yet_none : (appends : Bool) (kind : InputKind) (old new : JournalState) (known : Option (List Entry)) →
+    new ≡ old → TakesYet appends kind old known new
+yet_none true kind old new known same = part_none kind old new known same
+yet_none false kind old new known same = inl same
+
+-- The same, if the journal and the entries are the same.
+pub yet_same : (appends : Bool) (kind : InputKind) (one other new : JournalState) (known mine : Option (List Entry)) →
+    one ≡ other → known ≡ mine → TakesYet appends kind one known new → TakesYet appends kind other mine new
+yet_same appends kind one other new known mine journal entries takes =
+    subst (λ (es : Option (List Entry)). TakesYet appends kind other es new) entries
+    (subst (λ (j : JournalState). TakesYet appends kind j known new) journal takes)
+
+after_yet : (kind : InputKind) (begun : ℕ) (old new : JournalState) (known : Option (List Entry)) (last : FeedStop) →
+    TakesAfter kind begun old new known last → TakesPart kind old known new
+after_yet kind begun old new known (stop.Other number found) takes = absurd takes
+after_yet kind begun old new known (stop.Refused number refusal) takes =
+    (takes.1.0, (filled.Refused refusal, takes.1.1))
+after_yet kind begun old new known stop.Ended takes = (takes.0, (filled.End, takes.1))
+
+behind_yet : (kind : InputKind) (old new : JournalState) (known : Option (List Entry)) (last : FeedStop) →
+    TakesInput false kind old new known last → TakesYet false kind old known new
+behind_yet kind old new known (stop.Other number found) takes = inl takes.0
+behind_yet kind old new known (stop.Refused number refusal) takes =
+    inr (
+      takes.0,
+      (
+        takes.1.0,
+        (
+          takes.1.1.0,
+          after_yet kind 0 old new takes.1.0 (stop.Refused number refusal)
+              takes.1.1.1,
+        ),
+      ),
+    )
+behind_yet kind old new known stop.Ended takes =
+    inr (takes.0, (takes.1.0, (takes.1.1.0, after_yet kind 0 old new takes.1.0 stop.Ended takes.1.1.1)))
+
+input_yet : (appends : Bool) (kind : InputKind) (old new : JournalState) (known : Option (List Entry))
+    (last : FeedStop) → TakesInput appends kind old new known last → TakesYet appends kind old known new
+input_yet true kind old new known last takes = after_yet kind (length old.messages) old new known last takes
+input_yet false kind old new known last takes = behind_yet kind old new known last takes
+
+-- What was taken until the publisher stopped, if the session was not closed.
+pub stop_yet : (appends : Bool) (kind : InputKind) (old new : JournalState) (known : Option (List Entry))
+    (last : FeedStop) → new.closed ≡ old.closed → TakesInput appends kind old (reopened old new) known last →
+    TakesYet appends kind old known new
+stop_yet appends kind old new known last same takes =
+    input_yet appends kind old new known last
+    (subst (λ (j : JournalState). TakesInput appends kind old j known last) (reopened_same old new same) takes)
+
+-- The journal after the end, if the session stays open.
+pub ended_open : (stays : Bool) (publisher : PublisherState) → not stays ≡ false →
+    (cond stays publisher (closed publisher)).journal ≡ publisher.journal
+ended_open true publisher is = refl
+ended_open false publisher is = absurd (cc)
 
 -- The first entries are the messages of the journal.
 pub takes_behind : (kind : InputKind) (old new : JournalState) (known mid : Option (List Entry)) (number : ℕ)

@@ -115,8 +115,8 @@ ended end publisher = if end.stays_open then publisher else closed publisher
 abbrev pub ended_life : FeedEnd → Life → Life
 ended_life end life = if end.stays_open then life else after_moment life Close
 
--- The bytes are a file of the committed messages of this life. If the session does not stay open, they may be the closed
--- file.
+-- The bytes are a file of the committed messages of this life. If the session does not stay open, they may be the
+-- closed file.
 abbrev pub IsFileAtEnd : Bool → Life → List ℕ → Type 0
 IsFileAtEnd stays_open life bytes =
     IsFileOf life bytes ⊎ ((stays_open ≡ false) × IsFileOf (after_moment life Close) bytes)
@@ -137,3 +137,12 @@ pub record HasEnded {S L P : Type 0} (shows may_leave : S → List ℕ → Type 
   pub sends : modeled ≡ true →
       SendsOn lines (sends_at_end end old.publisher.publisher) (sent_of state old) (sent_of state new)
   pub told : AreTold may_leave new.publisher (ended_life end life) (sends_at_end end old.publisher.publisher)
+
+-- The publisher sent heartbeats if its session was open, and nothing else.
+pub record HasSentBeats {S L P : Type 0} (shows may_leave : S → List ℕ → Type 0) (modeled : Bool)
+    (state : L → PortSetState P) (lines : FeedLines P) (beats : ℕ) (old new : Feeder S L) : Type 0 where
+  -- the publisher after the heartbeats
+  pub mid : Feeder S L
+  pub sent : HasSent shows may_leave modeled state lines (repeated beats (next_heartbeat old.publisher.publisher)) old
+      mid
+  pub silent : new.ports ≡ mid.ports

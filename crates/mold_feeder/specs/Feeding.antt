@@ -18,7 +18,7 @@ use Rattle.mold_wire.specs.declared.limits.TheConstants.{MAX_LIMIT}
 use Rattle.mold_feeder.specs.FeedLines.{SendsOn}
 use Rattle.mold_feeder.specs.FeedText.{first_text, status_at, stop_text}
 use Rattle.mold_feeder.specs.Requests.{RepliesTo}
-use Rattle.mold_feeder.specs.Taking.{AllSent, TakesInput, reopened}
+use Rattle.mold_feeder.specs.Taking.{AllSent, TakesAfter, TakesInput, reopened}
 use Rattle.mold_feeder.specs.declared.feed.Feed.{Feed}
 use Rattle.mold_feeder.specs.declared.feed_end.FeedEnd.{FeedEnd}
 use Rattle.mold_feeder.specs.declared.feed_lines.FeedLines.{FeedLines}
@@ -43,8 +43,8 @@ state_of state port feed = record {
 }
 
 -- The session has this life, no message waits to be committed, and no write has failed.
-pub record IsAtRest {S : Type 0} (shows may_leave : S → List ℕ → Type 0) (publisher : DurablePublisher S) (life : Life) :
-    Type 0 where
+pub record IsAtRest {S : Type 0} (shows may_leave : S → List ℕ → Type 0) (publisher : DurablePublisher S)
+    (life : Life) : Type 0 where
   pub publishes : Publishes shows may_leave publisher life
   pub none : life.waiting ≡ []
   pub intact : publisher.durable.broken ≡ false
@@ -118,6 +118,53 @@ pub record HasFed {S P Q : Type 0} (shows may_leave : S → List ℕ → Type 0)
   pub limits : new.server ≡ record old.server { answered = new.server.answered }
   pub onward : old.publisher.publisher.sent ≤ new.publisher.publisher.sent
 
+-- The publisher ended with a fault: a call failed. Before that call it had fed the session as `HasFed` states. The call
+-- that failed sent nothing, on the lines or to a request. If the session was closed, or closing it failed, its journal
+-- satisfies `may_close`. Otherwise its journal with the messages of the group at fault satisfies `taken`.
+pub record HasBroken {S P Q : Type 0} (shows may_leave : S → List ℕ → Type 0) (moment : S → ℕ)
+    (left_since : S → ℕ → List ℕ → Type 0) (modeled answers : Bool) (lines : FeedLines P)
+    (taken may_close : JournalState → Type 0) (life : Life) (old new : FeedState S P Q) : Type 0 where
+  -- the state before the call that failed
+  pub mid : FeedState S P Q
+  -- the groups that were committed before, and whether the session was closed
+  pub groups : List (List (List ℕ))
+  pub closes : Bool
+  pub fed : HasFed shows may_leave moment left_since modeled answers lines life groups closes old mid
+  -- the messages of the group that was not committed, if there was one
+  pub last : List (List ℕ)
+  -- whether the call that failed was the one that closes the session
+  pub closing : Bool
+  pub alone : closing ≡ true → last ≡ []
+  -- A crash during that call leaves the committed messages, and all messages of its group or none.
+  pub leaves : LeavesOnly moment left_since mid.publisher.durable.storage new.publisher.durable.storage
+      (IsFileLeft closing (shut closes (grown life groups)) (last ∷ []))
+  pub allowed : (closes ≡ true) ⊎ (closing ≡ true) → may_close mid.publisher.publisher.journal
+  -- the journal with the messages of that group
+  pub journal : JournalState
+  pub joined : journal.messages ≡ mid.publisher.publisher.journal.messages ++ last
+  pub so_far : (closes ≡ false) × (closing ≡ false) → taken journal
+  pub silent : modeled ≡ true → new.ports.sent ≡ mid.ports.sent
+  pub unanswered : new.requests ≡ mid.requests
+
+-- A session may not be closed.
+abbrev pub MayNotClose : JournalState → Type 0
+MayNotClose journal = ⊥
+
+-- A session may be closed if it does not stay open and all entries of its input were published. `old` is the journal at
+-- the beginning, and `new` the one at the end.
+abbrev pub MayClose : FeedEnd → Bool → InputKind → JournalState → Option (List Entry) → JournalState → Type 0
+MayClose end appends kind old known new =
+    (end.stays_open ≡ false) × TakesInput appends kind old (reopened old new) known Ended
+
+-- The same, if `begun` messages came before the first entry of the input.
+abbrev pub MayCloseAfter : FeedEnd → InputKind → ℕ → JournalState → Option (List Entry) → JournalState → Type 0
+MayCloseAfter end kind begun old known new =
+    (end.stays_open ≡ false) × TakesAfter kind begun old (reopened old new) known Ended
+
+-- The same, if all entries of the input had already been published.
+abbrev pub MayCloseNow : FeedEnd → JournalState → JournalState → Type 0
+MayCloseNow end old new = (end.stays_open ≡ false) × (reopened old new ≡ old)
+
 -- Whether the session was closed, if the publisher stopped so.
 abbrev pub closes_at : FeedEnd → FeedStop → Bool
 closes_at end Ended = not end.stays_open
@@ -125,12 +172,12 @@ closes_at end (Refused number refusal) = false
 closes_at end (Other number compared) = false
 
 -- The loop has ended with this status. `known` are the entries of its input, if they are known, and `last` is the last
--- line of a session whose input ended. The text was written: the
--- number of messages that the journal had, if it existed, and why the loop stopped.
+-- line of a session whose input ended. The text was written: the number of messages that the journal had, if it
+-- existed, and why the loop stopped.
 pub record HasFinished {S P Q : Type 0} (shows may_leave : S → List ℕ → Type 0) (moment : S → ℕ)
     (left_since : S → ℕ → List ℕ → Type 0) (modeled answers : Bool) (kind : InputKind) (options : FeedOptions P)
-    (last : List ℕ) (known : Option (List Entry)) (life : Life) (old new : FeedState S P Q) (held_old held_new : Option (List ℕ)) (status : ℕ) :
-    Type 0 where
+    (last : List ℕ) (known : Option (List Entry)) (life : Life) (old new : FeedState S P Q)
+    (held_old held_new : Option (List ℕ)) (status : ℕ) : Type 0 where
   -- why the loop stopped
   pub stop : FeedStop
   pub groups : List (List (List ℕ))

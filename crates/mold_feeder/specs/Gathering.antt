@@ -4,7 +4,8 @@ use Rattle.mold_durable.specs.Life.{IsFileOf, Life}
 use Rattle.mold_durable_publisher.specs.DurablePublisher.{Publishes}
 use Rattle.mold_durable_publisher.specs.Told.{IsLife}
 use Rattle.mold_durable_publisher.specs.declared.durable_publisher.DurablePublisher.{DurablePublisher}
-use Rattle.mold_input.specs.Entries.{InputEntries}
+use Rattle.mold_input.specs.Entries.{Entry, InputEntries, with_kind}
+use Rattle.mold_input.specs.declared.input_kind.InputKind.{InputKind}
 use Rattle.mold_publish.specs.Publishing.{InputPublished}
 use Rattle.mold_publish.specs.declared.filling.Filled.{Filled}
 use Rattle.mold_publish.specs.declared.filling.Filled.TheVariants as filled
@@ -23,6 +24,16 @@ abbrev pub filled_for : Gathered → Filled
 filled_for Full = filled.Full
 filled_for End = filled.End
 filled_for (Refused refusal) = filled.Refused refusal
+
+-- The publisher has the messages that it had, and after them messages of the input before its rest, or none.
+pub record Grows {S : Type 0} (kind : InputKind) (known : Option InputEntries) (old new : DurablePublisher S) :
+    Type 0 where
+  pub messages : List (List ℕ)
+  pub added : new.publisher.journal.messages ≡ old.publisher.journal.messages ++ messages
+  -- the entries after these messages
+  pub left : Option (List Entry)
+  pub filled : Filled
+  pub input : InputPublished old.publisher.journal new.publisher.journal known (with_kind kind left) filled
 
 -- The message of the entry joined those that wait.
 pub record JoinsWaiting {S : Type 0} (shows may_leave : S → List ℕ → Type 0) (life : Life)

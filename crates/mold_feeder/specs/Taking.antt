@@ -1,5 +1,6 @@
 -- What a publisher over ports takes of an input that comes in pieces.
-use Rattle.std.specs.Prelude.{◌≡◌, ◌≤◌, ◌+◌, ◌-◌, ℕ, Bool, true, false, List, [], ◌++◌, length, map, take, Option, None, Some, ⊤, Ok}
+use Rattle.std.specs.Prelude.{◌≡◌, ◌⊎◌, ◌≤◌, ◌+◌, ◌-◌, ℕ, Bool, true, false, List, [], ◌++◌, length, map, take}
+use Rattle.std.specs.Prelude.{Option, None, Some, ⊤, Ok}
 use Rattle.mold_input.specs.Entries.{Entry, with_kind}
 use Rattle.mold_input.specs.declared.input_kind.InputKind.{InputKind}
 use Rattle.mold_publish.specs.Publishing.{InputPublished}
@@ -127,6 +128,24 @@ TakesInput false kind old new known (stop.Other number found) =
 TakesInput false kind old new known (stop.Refused number refusal) =
     TakesBehind kind old new known (stop.Refused number refusal)
 TakesInput false kind old new known stop.Ended = TakesBehind kind old new known stop.Ended
+
+-- Nothing was published.
+abbrev pub TakesNothing : JournalState → JournalState → Type 0
+TakesNothing old new = new ≡ old
+
+-- The messages of the input before its rest were published.
+abbrev pub TakesPart : InputKind → JournalState → Option (List Entry) → JournalState → Type 0
+TakesPart kind old known new =
+    (left : Option (List Entry)) × ((filled : Filled) × Takes kind old new known left filled)
+
+-- What the loop took of its input before a fault. Nothing was published before all messages of the journal were
+-- compared, unless the input continues after them.
+abbrev pub TakesYet : Bool → InputKind → JournalState → Option (List Entry) → JournalState → Type 0
+TakesYet true kind old known new = TakesPart kind old known new
+TakesYet false kind old known new =
+    TakesNothing old new
+    ⊎ ((number : ℕ)
+    × ((mid : Option (List Entry)) × (ComparesAll old 1 number known mid compared.Same × TakesPart kind old mid new)))
 
 -- After the input was published, all messages were sent on the lines.
 abbrev pub AllSent : PublisherState → FeedStop → Type 0

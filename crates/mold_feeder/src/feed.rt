@@ -1,15 +1,18 @@
 //! A publisher over ports with its requests and its input: what it does in a turn.
 
-ghost use Rattle.std.specs.Prelude.{◌≡◌, ◌≤◌, ◌+◌, ◌++◌, ◌&&◌, [], Some, ℕ, false, true, IfOk, length, List, not, OnOk};
+ghost use Rattle.std.specs.Prelude.{◌≡◌, ◌≤◌, ◌+◌, ◌++◌, ◌&&◌, [], Some, ℕ, false, true, IfOk, length, List, not};
+ghost use Rattle.std.specs.Prelude.{OnErr, OnOk};
 ghost use Rattle.std.specs.Io.Iter.{u64_saturate};
 ghost use Rattle.std.specs.Io.KnownBytes.{Appends, IsAtEnd};
 ghost use Rattle.mold_durable.specs.Life.{Life};
 ghost use Rattle.mold_feeder.specs.FeedText.{fed_line, first_text, stop_text};
-ghost use Rattle.mold_feeder.specs.Feeding.{HasFed, IsAtRest, closes_at, state_of};
+ghost use Rattle.mold_feeder.specs.Feeding.{HasBroken, HasFed, IsAtRest, MayClose, MayCloseAfter, MayCloseNow};
+ghost use Rattle.mold_feeder.specs.Feeding.{MayNotClose, closes_at, state_of};
 ghost use Rattle.mold_feeder.specs.Input.{IsInput, KeepsRest, bytes_come, entries_after, entries_of_rest};
 ghost use Rattle.mold_feeder.specs.Gathering.{filled_for};
-ghost use Rattle.mold_feeder.specs.Taking.{ComparesCome, Takes, TakesCome, filled_now, is_end, left_of, stop_at};
-ghost use Rattle.mold_feeder.specs.Taking.{AllSent, IsStop, TakesAfter, TakesInput, is_same, refusal_of, reopened, taken_at};
+ghost use Rattle.mold_feeder.specs.Taking.{AllSent, ComparesCome, IsStop, Takes, TakesAfter, TakesCome, TakesInput};
+ghost use Rattle.mold_feeder.specs.Taking.{filled_now, is_end, is_same, left_of, refusal_of, reopened, stop_at};
+ghost use Rattle.mold_feeder.specs.Taking.{TakesNothing, TakesPart, TakesYet, taken_at};
 ghost use Rattle.mold_feeder.specs.Feeder.{ended};
 ghost use Rattle.mold_feeder.specs.Comparison.{ComparesAll};
 ghost use Rattle.mold_wire.specs.declared.limits.TheConstants.{MAX_LIMIT};
@@ -123,8 +126,14 @@ impl<
             ((groups : List (List (List ℕ)))
             × HasFed S.shows S.may_leave S.moment S.left_since L.modeled D.modeled lines.now life groups false
             (state_of L.state D.port self.old) (state_of L.state D.port self.new)) }
+        ensures broken { (life : Life) → IsAtRest S.shows S.may_leave self.old.feeder.publisher life → OnErr result
+            (HasBroken S.shows S.may_leave S.moment S.left_since L.modeled D.modeled lines.now
+            (TakesPart M.input_kind self.old.feeder.publisher.publisher.journal
+            (Some (M.entries (bytes_come M.unread self.old.input)))) MayNotClose life
+            (state_of L.state D.port self.old) (state_of L.state D.port self.new)) }
         ensures taken { (life : Life) → IsAtRest S.shows S.may_leave self.old.feeder.publisher life → IfOk result
-            (TakesCome M.input_kind self.old.feeder.publisher.publisher.journal self.new.feeder.publisher.publisher.journal
+            (TakesCome M.input_kind self.old.feeder.publisher.publisher.journal
+            self.new.feeder.publisher.publisher.journal
             (M.entries (bytes_come M.unread self.old.input))
             (M.entries (bytes_come M.unread self.new.input))) }
         ensures longest { self.new.feeder.publisher.publisher.journal.max_message
@@ -171,8 +180,14 @@ impl<
             ((groups : List (List (List ℕ)))
             × HasFed S.shows S.may_leave S.moment S.left_since L.modeled D.modeled lines.now life groups false
             (state_of L.state D.port self.old) (state_of L.state D.port self.new)) }
+        ensures broken { (life : Life) → IsAtRest S.shows S.may_leave self.old.feeder.publisher life → OnErr result
+            (HasBroken S.shows S.may_leave S.moment S.left_since L.modeled D.modeled lines.now
+            (TakesPart M.input_kind self.old.feeder.publisher.publisher.journal
+            (entries_of_rest M.unread K.left M.entries self.old.input)) MayNotClose life
+            (state_of L.state D.port self.old) (state_of L.state D.port self.new)) }
         ensures taken { (life : Life) → IsAtRest S.shows S.may_leave self.old.feeder.publisher life → IfOk result
-            (λ taken. Takes M.input_kind self.old.feeder.publisher.publisher.journal self.new.feeder.publisher.publisher.journal
+            (λ taken. Takes M.input_kind self.old.feeder.publisher.publisher.journal
+            self.new.feeder.publisher.publisher.journal
             (entries_of_rest M.unread K.left M.entries self.old.input)
             (entries_of_rest M.unread K.left M.entries self.new.input) (filled_now taken)) }
         ensures longest { OnOk result (self.new.feeder.publisher.publisher.journal.max_message
@@ -221,8 +236,14 @@ impl<
             ((groups : List (List (List ℕ)))
             × HasFed S.shows S.may_leave S.moment S.left_since L.modeled D.modeled lines.now life groups false
             (state_of L.state D.port self.old) (state_of L.state D.port self.new)) }
+        ensures broken { (life : Life) → IsAtRest S.shows S.may_leave self.old.feeder.publisher life → OnErr result
+            (HasBroken S.shows S.may_leave S.moment S.left_since L.modeled D.modeled lines.now
+            (TakesPart M.input_kind self.old.feeder.publisher.publisher.journal
+            (entries_of_rest M.unread K.left M.entries self.old.input)) MayNotClose life
+            (state_of L.state D.port self.old) (state_of L.state D.port self.new)) }
         ensures taken { (life : Life) → IsAtRest S.shows S.may_leave self.old.feeder.publisher life → IfOk result
-            (λ gathered. Takes M.input_kind self.old.feeder.publisher.publisher.journal self.new.feeder.publisher.publisher.journal
+            (λ gathered. Takes M.input_kind self.old.feeder.publisher.publisher.journal
+            self.new.feeder.publisher.publisher.journal
             (entries_of_rest M.unread K.left M.entries self.old.input)
             (entries_of_rest M.unread K.left M.entries self.new.input) (filled_for gathered)) }
         ensures stops { IfOk result IsStop }
@@ -299,13 +320,13 @@ impl<
             ≤ self.old.requests.server.max_message }
         requires input { IsInput M.unread K.left self.old.input }
         requires buffer { length buffer.old ≡ MAX_LIMIT }
-        ensures fed { (life : Life) → IsAtRest S.shows S.may_leave self.old.feeder.publisher life → OnOk result
-            (HasFed S.shows S.may_leave S.moment S.left_since L.modeled D.modeled lines.now life [] false
-            (state_of L.state D.port self.old) (state_of L.state D.port self.new)) }
+        ensures fed { (life : Life) → IsAtRest S.shows S.may_leave self.old.feeder.publisher life →
+            HasFed S.shows S.may_leave S.moment S.left_since L.modeled D.modeled lines.now life [] false
+            (state_of L.state D.port self.old) (state_of L.state D.port self.new) }
         ensures compared { IfOk result (λ found. ComparesAll self.old.feeder.publisher.publisher.journal 1 found.0
             (entries_of_rest M.unread K.left M.entries self.old.input)
             (entries_of_rest M.unread K.left M.entries self.new.input) found.1) }
-        ensures journal { OnOk result (self.new.feeder.publisher.publisher.journal ≡ self.old.feeder.publisher.publisher.journal) }
+        ensures journal { self.new.feeder.publisher.publisher.journal ≡ self.old.feeder.publisher.publisher.journal }
         ensures longest { OnOk result (self.new.feeder.publisher.publisher.journal.max_message
             ≤ self.new.requests.server.max_message) }
         ensures input { OnOk result (IsInput M.unread K.left self.new.input) }
@@ -383,9 +404,15 @@ impl<
         ensures fed { (life : Life) → IsAtRest S.shows S.may_leave self.old.feeder.publisher life → OnOk result
             (HasFed S.shows S.may_leave S.moment S.left_since L.modeled D.modeled options.now.lines life []
             (not options.now.end.stays_open) (state_of L.state D.port self.old) (state_of L.state D.port self.new)) }
+        ensures broken { (life : Life) → IsAtRest S.shows S.may_leave self.old.feeder.publisher life → OnErr result
+            (HasBroken S.shows S.may_leave S.moment S.left_since L.modeled D.modeled options.now.lines
+            (TakesNothing self.old.feeder.publisher.publisher.journal)
+            (MayCloseNow options.now.end self.old.feeder.publisher.publisher.journal) life
+            (state_of L.state D.port self.old) (state_of L.state D.port self.new)) }
         ensures journal { OnOk result (self.new.feeder.publisher.publisher.journal
             ≡ (ended options.now.end self.old.feeder.publisher.publisher).journal) }
-        ensures sent { OnOk result (length self.new.feeder.publisher.publisher.journal.messages ≤ self.new.feeder.publisher.publisher.sent) }
+        ensures sent { OnOk result (length self.new.feeder.publisher.publisher.journal.messages
+            ≤ self.new.feeder.publisher.publisher.sent) }
     {
         told_law();
         self.feeder.end(&options.lines, options.end)?;
@@ -411,8 +438,16 @@ impl<
             (groups : List (List (List ℕ)))
             × HasFed S.shows S.may_leave S.moment S.left_since L.modeled D.modeled options.now.lines life groups
             (closes_at options.now.end stop) (state_of L.state D.port self.old) (state_of L.state D.port self.new)) }
+        ensures broken { (life : Life) → IsAtRest S.shows S.may_leave self.old.feeder.publisher life → OnErr result
+            (HasBroken S.shows S.may_leave S.moment S.left_since L.modeled D.modeled options.now.lines
+            (TakesPart M.input_kind self.old.feeder.publisher.publisher.journal
+            (entries_of_rest M.unread K.left M.entries self.old.input))
+            (MayCloseAfter options.now.end M.input_kind begun self.old.feeder.publisher.publisher.journal
+            (entries_of_rest M.unread K.left M.entries self.old.input)) life
+            (state_of L.state D.port self.old) (state_of L.state D.port self.new)) }
         ensures taken { (life : Life) → IsAtRest S.shows S.may_leave self.old.feeder.publisher life → IfOk result
-            (TakesAfter M.input_kind begun self.old.feeder.publisher.publisher.journal (reopened self.old.feeder.publisher.publisher.journal self.new.feeder.publisher.publisher.journal)
+            (TakesAfter M.input_kind begun self.old.feeder.publisher.publisher.journal
+            (reopened self.old.feeder.publisher.publisher.journal self.new.feeder.publisher.publisher.journal)
             (entries_of_rest M.unread K.left M.entries self.old.input)) }
         ensures all { IfOk result (AllSent self.new.feeder.publisher.publisher) }
     {
@@ -441,8 +476,16 @@ impl<
             (groups : List (List (List ℕ)))
             × HasFed S.shows S.may_leave S.moment S.left_since L.modeled D.modeled options.now.lines life groups
             (closes_at options.now.end stop) (state_of L.state D.port self.old) (state_of L.state D.port self.new)) }
+        ensures broken { (life : Life) → IsAtRest S.shows S.may_leave self.old.feeder.publisher life → OnErr result
+            (HasBroken S.shows S.may_leave S.moment S.left_since L.modeled D.modeled options.now.lines
+            (TakesYet options.now.appends M.input_kind self.old.feeder.publisher.publisher.journal
+            (entries_of_rest M.unread K.left M.entries self.old.input))
+            (MayClose options.now.end options.now.appends M.input_kind self.old.feeder.publisher.publisher.journal
+            (entries_of_rest M.unread K.left M.entries self.old.input)) life
+            (state_of L.state D.port self.old) (state_of L.state D.port self.new)) }
         ensures taken { (life : Life) → IsAtRest S.shows S.may_leave self.old.feeder.publisher life → IfOk result
-            (TakesInput options.now.appends M.input_kind self.old.feeder.publisher.publisher.journal (reopened self.old.feeder.publisher.publisher.journal self.new.feeder.publisher.publisher.journal)
+            (TakesInput options.now.appends M.input_kind self.old.feeder.publisher.publisher.journal
+            (reopened self.old.feeder.publisher.publisher.journal self.new.feeder.publisher.publisher.journal)
             (entries_of_rest M.unread K.left M.entries self.old.input)) }
         ensures all { IfOk result (AllSent self.new.feeder.publisher.publisher) }
     {
@@ -495,9 +538,9 @@ impl<
         requires empty { text.old.items ≡ [] }
         requires longest { self.old.feeder.publisher.publisher.journal.max_message
             ≤ self.old.requests.server.max_message }
-        ensures fed { (life : Life) → IsAtRest S.shows S.may_leave self.old.feeder.publisher life → OnOk result
-            (HasFed S.shows S.may_leave S.moment S.left_since L.modeled D.modeled options.now.lines life [] false
-            (state_of L.state D.port self.old) (state_of L.state D.port self.new)) }
+        ensures fed { (life : Life) → IsAtRest S.shows S.may_leave self.old.feeder.publisher life →
+            HasFed S.shows S.may_leave S.moment S.left_since L.modeled D.modeled options.now.lines life [] false
+            (state_of L.state D.port self.old) (state_of L.state D.port self.new) }
         ensures said { OnOk result (Appends (O.held sink.old) (O.held sink.new)
             (first_text options.now.resumed (length self.old.feeder.publisher.publisher.journal.messages))) }
         ensures empty { OnOk result (text.new.items ≡ []) }

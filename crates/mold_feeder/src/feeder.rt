@@ -10,10 +10,9 @@ ghost use Rattle.mold_durable_publisher.specs.Told.{IsTold, IsTrueNow};
 ghost use Rattle.mold_devices.specs.declared.fault.CommandFault.{CommandFault};
 ghost use Rattle.mold_feeder.specs.FeedLines.{datagram_of, repeated};
 ghost use Rattle.mold_session.specs.Publisher.{closed, next_end, next_heartbeat};
-ghost use Rattle.mold_feeder.specs.Feeder.{HasEnded, HasPaced, HasSent, HasTurned, IsFileAtEnd, TakesSome, ended};
-ghost use Rattle.mold_feeder.specs.Feeder.{entries_left};
-ghost use Rattle.mold_feeder.specs.Feeder.{next_beat, sends_at, takes_input};
-ghost use Rattle.mold_feeder.specs.Gathering.{IsFileUpTo};
+ghost use Rattle.mold_feeder.specs.Feeder.{HasEnded, HasPaced, HasSent, HasSentBeats, HasTurned, IsFileAtEnd};
+ghost use Rattle.mold_feeder.specs.Feeder.{TakesSome, ended, entries_left, next_beat, sends_at, takes_input};
+ghost use Rattle.mold_feeder.specs.Gathering.{Grows, IsFileUpTo};
 ghost use Rattle.mold_feeder.specs.IdleClock.{due_after};
 ghost use Rattle.mold_feeder.specs.Requests.{RepliesTo, sent_journal};
 ghost use Rattle.mold_ports.specs.Ports.{cut, next_of, received};
@@ -52,8 +51,8 @@ pub struct Feeder<S, L> {
 }
 
 impl<S: Storage + Drop, L: PortSet + Drop> Feeder<S, L> {
-    /// Returns a publisher that has sent nothing. It sends at most `rate` messages a second, or without a bound if `rate`
-    /// is 0. A heartbeat is due after `idle` milliseconds, or never if `idle` is 0.
+    /// Returns a publisher that has sent nothing. It sends at most `rate` messages a second, or without a bound if
+    /// `rate` is 0. A heartbeat is due after `idle` milliseconds, or never if `idle` is 0.
     pub fn new(publisher: DurablePublisher<S>, ports: L, rate: u32, idle: u32) -> Feeder<S, L>
         ensures { result ≡ record {
           publisher = publisher;
@@ -155,6 +154,9 @@ impl<S: Storage + Drop, L: PortSet + Drop> Feeder<S, L> {
             IfOk result (TakesSome S.shows S.may_leave life self.old self.new
             (entries_left M.input_kind M.entries M.unread K.left input.old)
             (entries_left M.input_kind M.entries M.unread K.left input.new)) }
+        ensures grows { (life : Life) → Publishes S.shows S.may_leave self.old.publisher life → OnErr result
+            (Grows M.input_kind (entries_left M.input_kind M.entries M.unread K.left input.old) self.old.publisher
+            self.new.publisher) }
         ensures when { IfOk result (λ taken. is_some taken ≡ takes_input self.old input.old) }
         ensures told { (life : Life) (datagram : List ℕ) → Publishes S.shows S.may_leave self.old.publisher life →
             IsTrueNow life datagram →
@@ -201,6 +203,9 @@ impl<S: Storage + Drop, L: PortSet + Drop> Feeder<S, L> {
             IfOk result (HasTurned S.shows S.may_leave L.modeled L.state lines.now life self.old self.new
             (entries_left M.input_kind M.entries M.unread K.left input.old)
             (entries_left M.input_kind M.entries M.unread K.left input.new)) }
+        ensures grows { (life : Life) → Publishes S.shows S.may_leave self.old.publisher life → OnErr result
+            (Grows M.input_kind (entries_left M.input_kind M.entries M.unread K.left input.old) self.old.publisher
+            self.new.publisher) }
         ensures when { IfOk result (λ taken. is_some taken ≡ takes_input self.old input.old) }
         ensures told { (life : Life) (datagram : List ℕ) → Publishes S.shows S.may_leave self.old.publisher life →
             IsTrueNow life datagram →
@@ -286,6 +291,8 @@ impl<S: Storage + Drop, L: PortSet + Drop> Feeder<S, L> {
         requires { length self.old.publisher.publisher.journal.messages ≤ self.old.publisher.publisher.sent }
         ensures ended { (life : Life) → Publishes S.shows S.may_leave self.old.publisher life → OnOk result
             (HasEnded S.shows S.may_leave L.modeled L.state lines.now end life self.old self.new) }
+        ensures beats_sent { OnErr result
+            (HasSentBeats S.shows S.may_leave L.modeled L.state lines.now end.beats self.old self.new) }
         ensures told { (life : Life) (datagram : List ℕ) → Publishes S.shows S.may_leave self.old.publisher life →
             IsTrueNow life datagram →
             LeavesOnly S.moment S.left_since self.old.publisher.durable.storage self.new.publisher.durable.storage

@@ -1,11 +1,12 @@
 //! The loop of a publisher over ports.
 
-ghost use Rattle.std.specs.Prelude.{◌≡◌, ◌≤◌, ◌+◌, length, IfOk};
+ghost use Rattle.std.specs.Prelude.{◌≡◌, ◌≤◌, ◌+◌, length, IfOk, OnErr};
 ghost use Rattle.std.specs.Io.Iter.{u64_saturate};
 ghost use Rattle.mold_durable.specs.Life.{Life};
 ghost use Rattle.mold_feeder.specs.FeedText.{fed_line, status_at};
-ghost use Rattle.mold_feeder.specs.Feeding.{HasFinished, IsAtRest, state_of};
+ghost use Rattle.mold_feeder.specs.Feeding.{HasBroken, HasFinished, IsAtRest, MayClose, state_of};
 ghost use Rattle.mold_feeder.specs.Input.{IsInput, entries_of_rest};
+ghost use Rattle.mold_feeder.specs.Taking.{TakesYet};
 
 use crate::feed::Feed;
 use crate::feed_options::FeedOptions;
@@ -48,7 +49,7 @@ fn status_of(stop: FeedStop) -> u8
 ///
 /// If a wait fails, it reads the input without waiting for it first, if it lacks entries. The fault is `Read` if a read
 /// of the input failed, or after 18446744073709551615 turns. It is `Write` if the journal or `sink` could not be
-/// written.
+/// written. If a group could not be committed, none of its messages is sent, and a crash leaves all of them or none.
 pub fn feed_loop<
     S: Storage + Drop,
     L: FeedPorts + Drop,
@@ -70,7 +71,15 @@ pub fn feed_loop<
         (fed_line (length feed.new.feeder.publisher.publisher.journal.messages) feed.new.feeder.datagrams
         feed.new.requests.answered
         (u64_saturate ((L.state feed.new.feeder.ports).failures + (D.port feed.new.requests.port).failures)))
-        (entries_of_rest M.unread K.left M.entries feed.old.input) life (state_of L.state D.port feed.old) (state_of L.state D.port feed.new) (O.held sink.old) (O.held sink.new)) }
+        (entries_of_rest M.unread K.left M.entries feed.old.input) life (state_of L.state D.port feed.old)
+        (state_of L.state D.port feed.new) (O.held sink.old) (O.held sink.new)) }
+    ensures broken { (life : Life) → IsAtRest S.shows S.may_leave feed.old.feeder.publisher life → OnErr result
+        (HasBroken S.shows S.may_leave S.moment S.left_since L.modeled D.modeled options.now.lines
+        (TakesYet options.now.appends M.input_kind feed.old.feeder.publisher.publisher.journal
+        (entries_of_rest M.unread K.left M.entries feed.old.input))
+        (MayClose options.now.end options.now.appends M.input_kind feed.old.feeder.publisher.publisher.journal
+        (entries_of_rest M.unread K.left M.entries feed.old.input)) life (state_of L.state D.port feed.old)
+        (state_of L.state D.port feed.new)) }
 {
     let mut buffer = vec![in alloc; 0; MAX_LIMIT]?;
     let mut text = Vec::new(alloc);

@@ -6,7 +6,7 @@ ghost use Rattle.mold_durable.specs.Life.{Life};
 ghost use Rattle.mold_durable_publisher.specs.DurablePublisher.{Publishes};
 ghost use Rattle.mold_durable.specs.Storage.{LeavesOnly};
 ghost use Rattle.mold_durable_publisher.specs.Told.{IsTold, IsTrueNow};
-ghost use Rattle.mold_feeder.specs.Gathering.{Gathers, IsFileUpTo, JoinsOrRefuses, TakesGroup};
+ghost use Rattle.mold_feeder.specs.Gathering.{Gathers, Grows, IsFileUpTo, JoinsOrRefuses, TakesGroup};
 ghost use Rattle.mold_input.specs.Entries.{known_input};
 ghost use Rattle.mold_publish.specs.Publishing.{entry_outcome};
 
@@ -57,6 +57,10 @@ pub fn gather<M: MessageReader, K: Source, S: Storage + Drop>(
         (Gathers S.shows S.may_leave life most publisher.old publisher.new
         (known_input M.input_kind M.entries (prepend_known (M.unread messages.old) (K.left source.old)))
         (known_input M.input_kind M.entries (prepend_known (M.unread messages.new) (K.left source.new)))) }
+    ensures grows { (life : Life) → Publishes S.shows S.may_leave publisher.old life → OnErr result
+        (Grows M.input_kind
+        (known_input M.input_kind M.entries (prepend_known (M.unread messages.old) (K.left source.old)))
+        publisher.old publisher.new) }
     ensures storage { publisher.new.durable.storage ≡ publisher.old.durable.storage }
     ensures intact { publisher.new.durable.broken ≡ publisher.old.durable.broken }
     ensures longest { publisher.new.publisher.journal.max_message ≡ publisher.old.publisher.journal.max_message }
@@ -94,6 +98,10 @@ pub fn take_group<M: MessageReader, K: Source, S: Storage + Drop>(
         (TakesGroup S.shows S.may_leave life most publisher.old publisher.new
         (known_input M.input_kind M.entries (prepend_known (M.unread messages.old) (K.left source.old)))
         (known_input M.input_kind M.entries (prepend_known (M.unread messages.new) (K.left source.new)))) }
+    ensures grows { (life : Life) → Publishes S.shows S.may_leave publisher.old life → OnErr result
+        (Grows M.input_kind
+        (known_input M.input_kind M.entries (prepend_known (M.unread messages.old) (K.left source.old)))
+        publisher.old publisher.new) }
     ensures told { (life : Life) (datagram : List ℕ) → Publishes S.shows S.may_leave publisher.old life →
         IsTrueNow life datagram →
         LeavesOnly S.moment S.left_since publisher.old.durable.storage publisher.new.durable.storage

@@ -1,7 +1,8 @@
 use Rattle.std.proofs.Common.{arith, refl, ◌∙◌}
+use Rattle.mold_devices.proofs.LineLemmas.{on_err}
 use Rattle.mold_feeder.specs.Gathering.{with_waiting}
 use Rattle.mold_feeder.proofs.GatheringLemmas.{gathered_end, gathered_fault, gathered_more, gathered_nothing}
-use Rattle.mold_feeder.proofs.GatheringLemmas.{gathered_refused}
+use Rattle.mold_feeder.proofs.GatheringLemmas.{gathered_refused, grown_so_far}
 use Rattle.mold_feeder.proofs.gathering.gather.Goals as goal
 
 pub loop-message-init : goal.loop-message-init
@@ -52,3 +53,17 @@ loop-message-preserved g c = record {
   intact = c.join_waiting.ensures.intact ∙ c.loop-message.invariant.intact;
   longest = c.join_waiting.ensures.longest ∙ c.loop-message.invariant.longest;
 }
+
+pub returns-in_err-advance-clause-grows : goal.returns-in_err-advance-clause-grows
+returns-in_err-advance-clause-grows g c = λ life is.
+    on_err _
+    (grown_so_far g.S.Storage.shows g.S.Storage.may_leave g.M.MessageReader.input_kind life c.loop-message._message
+    c.args.publisher.now c.loop-message.publisher c.loop-message.publisher _ _
+    (c.loop-message.invariant.gathered life is) refl)
+
+pub returns-in_err-refusal-clause-grows : goal.returns-in_err-refusal-clause-grows
+returns-in_err-refusal-clause-grows g c = λ life is.
+    on_err _
+    (grown_so_far g.S.Storage.shows g.S.Storage.may_leave g.M.MessageReader.input_kind life c.loop-message._message
+    c.args.publisher.now c.loop-message.publisher c.join_waiting.new.publisher _ _
+    (c.loop-message.invariant.gathered life is) c.in_err-refusal.ensures.same)

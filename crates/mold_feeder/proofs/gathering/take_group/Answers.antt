@@ -3,7 +3,7 @@ use Rattle.mold_durable.specs.Storage.{LeavesOnly}
 use Rattle.mold_durable_publisher.specs.Told.{IsTold}
 use Rattle.mold_durable_publisher.specs.declared.durable_publisher.DurablePublisher.{DurablePublisher}
 use Rattle.mold_feeder.specs.Gathering.{with_waiting}
-use Rattle.mold_feeder.proofs.GatheringLemmas.{crash_commit, crash_unused, group_taken, told_unused}
+use Rattle.mold_feeder.proofs.GatheringLemmas.{crash_commit, crash_unused, group_failed, group_taken, told_unused}
 use Rattle.mold_feeder.proofs.gathering.take_group.Goals as goal
 
 pub returns-in_err-gathered-clause-told : goal.returns-in_err-gathered-clause-told
@@ -56,3 +56,10 @@ returns-in-Err-clause-crash g c = λ life is intact.
     c.gather.ensures.storage (ap (λ (p : DurablePublisher g.row.S.Denot). p.publisher) c.in-Err.ensures.after)
     (c.commit.ensures.any_moment (with_waiting life so_far.messages)
     (so_far.publishes.lives (c.gather.ensures.intact ∙ intact)))
+
+pub returns-in-Err-clause-grows : goal.returns-in-Err-clause-grows
+returns-in-Err-clause-grows g c = λ life is.
+    group_failed g.S.Storage.shows g.S.Storage.may_leave g.S.Storage.moment g.S.Storage.left_since
+    g.M.MessageReader.input_kind life c.args.most c.args.publisher.now c.gather.new.publisher c.commit.new.self _ _
+    c.in_ok-gathered.gathered (c.in_ok-gathered.ensures.gathered life is)
+    (ap (λ (p : DurablePublisher g.row.S.Denot). p.publisher) c.in-Err.ensures.after)

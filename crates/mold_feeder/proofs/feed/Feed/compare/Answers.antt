@@ -1,14 +1,14 @@
 use Rattle.std.proofs.Common.{◌∙◌, ◌≤◌, ◌+◌, length, subst, sym, [], ap, arith, false, refl}
 use Rattle.std.proofs.Common.{◌&&◌, not}
 use Rattle.mold_session.specs.Journal.{JournalState}
-use Rattle.mold_feeder.specs.Feeding.{grown, state_of}
+use Rattle.mold_feeder.specs.Feeding.{state_of}
 use Rattle.mold_feeder.specs.Input.{KeepsRest, entries_of_rest}
 use Rattle.mold_feeder.specs.Taking.{ComparesCome}
 use Rattle.mold_feeder.specs.declared.piece_input.PieceInput.{PieceInput}
 use Rattle.mold_feeder.proofs.TakingLemmas.{compare_on, compare_stops, over_rest, same_kept, same_yet}
 use Rattle.mold_feeder.specs.declared.feeder.Feeder.{Feeder}
 use Rattle.mold_feeder.specs.declared.requests.Requests.{Requests}
-use Rattle.mold_feeder.proofs.FeedingLemmas.{fed_then, fed_waited, fed_yet}
+use Rattle.mold_feeder.proofs.FeedingLemmas.{fed_compared, fed_paused, fed_yet}
 use Rattle.mold_feeder.proofs.feed.Feed.compare.Goals as goal
 
 pub loop-init : goal.loop-init
@@ -27,58 +27,42 @@ loop-init g c = record {
   within = omega arith;
 }
 
+pub returns-in_err-pause-clause-fed : goal.returns-in_err-pause-clause-fed
+returns-in_err-pause-clause-fed g c = λ life is.
+    fed_paused g.S.Storage.shows g.S.Storage.may_leave g.S.Storage.moment g.S.Storage.left_since g.L.PortSet.modeled
+    g.D.Datagrams.modeled c.args.lines.now g.met.S.Storage.only_now g.L.PortSet.state g.D.Datagrams.port life [] false
+    (state_of g.L.PortSet.state g.D.Datagrams.port c.args.self.now) c.loop.self c.pause.new.self
+    (c.loop.invariant.fed life is)
+    (ap (λ (f : Feeder g.row.S.Denot g.row.L.Denot). f.publisher) c.pause.ensures.feeder) c.pause.ensures.sent
+    c.pause.ensures.requests
+
+pub returns-in_err-at-clause-fed : goal.returns-in_err-at-clause-fed
+returns-in_err-at-clause-fed g c = λ life is.
+    fed_compared g.S.Storage.shows g.S.Storage.may_leave g.S.Storage.moment g.S.Storage.left_since g.L.PortSet.modeled
+    g.D.Datagrams.modeled c.args.lines.now g.met.S.Storage.only_now g.L.PortSet.state g.D.Datagrams.port life
+    (state_of g.L.PortSet.state g.D.Datagrams.port c.args.self.now) c.loop.self c.pause.new.self c.serve.new.self
+    c.compare_some.new.self (c.loop.invariant.fed life is)
+    (ap (λ (f : Feeder g.row.S.Denot g.row.L.Denot). f.publisher) c.pause.ensures.feeder) c.pause.ensures.sent
+    c.pause.ensures.requests c.serve.ensures.fed c.compare_some.ensures.feeder c.compare_some.ensures.requests
+
 pub returns-then-not-compares_on-clause-fed : goal.returns-then-not-compares_on-clause-fed
 returns-then-not-compares_on-clause-fed g c = λ life is.
-    let start = c.loop.invariant.fed life is in
-    let waited = fed_then g.S.Storage.shows g.S.Storage.may_leave g.S.Storage.moment g.S.Storage.left_since g.L.PortSet.modeled
-    g.D.Datagrams.modeled c.args.lines.now life [] [] false
-    (state_of g.L.PortSet.state g.D.Datagrams.port c.args.self.now) (state_of g.L.PortSet.state g.D.Datagrams.port c.loop.self)
-    (state_of g.L.PortSet.state g.D.Datagrams.port c.pause.new.self) start (fed_waited g.S.Storage.shows g.S.Storage.may_leave g.S.Storage.moment g.S.Storage.left_since g.L.PortSet.modeled
-    g.D.Datagrams.modeled c.args.lines.now g.met.S.Storage.only_now (grown life [])
-    (state_of g.L.PortSet.state g.D.Datagrams.port c.loop.self) (state_of g.L.PortSet.state g.D.Datagrams.port c.pause.new.self)
-    start.rests (ap (λ (f : Feeder g.row.S.Denot g.row.L.Denot). f.publisher) c.in_ok-pause.ensures.feeder) c.in_ok-pause.ensures.sent
-    (ap (λ (r : Requests g.row.D.Denot). g.D.Datagrams.port r.port) c.in_ok-pause.ensures.requests)
-    (ap (λ (r : Requests g.row.D.Denot). r.server) c.in_ok-pause.ensures.requests)) in
-    let served = fed_then g.S.Storage.shows g.S.Storage.may_leave g.S.Storage.moment g.S.Storage.left_since g.L.PortSet.modeled
-    g.D.Datagrams.modeled c.args.lines.now life [] [] false
-    (state_of g.L.PortSet.state g.D.Datagrams.port c.args.self.now) (state_of g.L.PortSet.state g.D.Datagrams.port c.pause.new.self)
-    (state_of g.L.PortSet.state g.D.Datagrams.port c.serve.new.self) waited (c.serve.ensures.fed (grown life []) waited.rests) in
-    fed_then g.S.Storage.shows g.S.Storage.may_leave g.S.Storage.moment g.S.Storage.left_since g.L.PortSet.modeled
-    g.D.Datagrams.modeled c.args.lines.now life [] [] false
-    (state_of g.L.PortSet.state g.D.Datagrams.port c.args.self.now) (state_of g.L.PortSet.state g.D.Datagrams.port c.serve.new.self)
-    (state_of g.L.PortSet.state g.D.Datagrams.port c.compare_some.new.self) served (fed_waited g.S.Storage.shows g.S.Storage.may_leave g.S.Storage.moment g.S.Storage.left_since g.L.PortSet.modeled
-    g.D.Datagrams.modeled c.args.lines.now g.met.S.Storage.only_now (grown life [])
-    (state_of g.L.PortSet.state g.D.Datagrams.port c.serve.new.self) (state_of g.L.PortSet.state g.D.Datagrams.port c.compare_some.new.self)
-    served.rests (ap (λ (f : Feeder g.row.S.Denot g.row.L.Denot). f.publisher) c.compare_some.ensures.feeder) (λ _. ap (λ (f : Feeder g.row.S.Denot g.row.L.Denot). (g.L.PortSet.state f.ports).sent) c.compare_some.ensures.feeder)
-    (ap (λ (r : Requests g.row.D.Denot). g.D.Datagrams.port r.port) c.compare_some.ensures.requests)
-    (ap (λ (r : Requests g.row.D.Denot). r.server) c.compare_some.ensures.requests))
+    fed_compared g.S.Storage.shows g.S.Storage.may_leave g.S.Storage.moment g.S.Storage.left_since g.L.PortSet.modeled
+    g.D.Datagrams.modeled c.args.lines.now g.met.S.Storage.only_now g.L.PortSet.state g.D.Datagrams.port life
+    (state_of g.L.PortSet.state g.D.Datagrams.port c.args.self.now) c.loop.self c.pause.new.self c.serve.new.self
+    c.compare_some.new.self (c.loop.invariant.fed life is)
+    (ap (λ (f : Feeder g.row.S.Denot g.row.L.Denot). f.publisher) c.pause.ensures.feeder) c.pause.ensures.sent
+    c.pause.ensures.requests c.serve.ensures.fed c.compare_some.ensures.feeder c.compare_some.ensures.requests
 
 pub loop-preserved : goal.loop-preserved
 loop-preserved g c = record {
   fed = λ life is.
-      let start = c.loop.invariant.fed life is in
-      let waited = fed_then g.S.Storage.shows g.S.Storage.may_leave g.S.Storage.moment g.S.Storage.left_since g.L.PortSet.modeled
-      g.D.Datagrams.modeled c.args.lines.now life [] [] false
-      (state_of g.L.PortSet.state g.D.Datagrams.port c.args.self.now) (state_of g.L.PortSet.state g.D.Datagrams.port c.loop.self)
-      (state_of g.L.PortSet.state g.D.Datagrams.port c.pause.new.self) start (fed_waited g.S.Storage.shows g.S.Storage.may_leave g.S.Storage.moment g.S.Storage.left_since g.L.PortSet.modeled
-      g.D.Datagrams.modeled c.args.lines.now g.met.S.Storage.only_now (grown life [])
-      (state_of g.L.PortSet.state g.D.Datagrams.port c.loop.self) (state_of g.L.PortSet.state g.D.Datagrams.port c.pause.new.self)
-      start.rests (ap (λ (f : Feeder g.row.S.Denot g.row.L.Denot). f.publisher) c.in_ok-pause.ensures.feeder) c.in_ok-pause.ensures.sent
-      (ap (λ (r : Requests g.row.D.Denot). g.D.Datagrams.port r.port) c.in_ok-pause.ensures.requests)
-      (ap (λ (r : Requests g.row.D.Denot). r.server) c.in_ok-pause.ensures.requests)) in
-      let served = fed_then g.S.Storage.shows g.S.Storage.may_leave g.S.Storage.moment g.S.Storage.left_since g.L.PortSet.modeled
-      g.D.Datagrams.modeled c.args.lines.now life [] [] false
-      (state_of g.L.PortSet.state g.D.Datagrams.port c.args.self.now) (state_of g.L.PortSet.state g.D.Datagrams.port c.pause.new.self)
-      (state_of g.L.PortSet.state g.D.Datagrams.port c.serve.new.self) waited (c.serve.ensures.fed (grown life []) waited.rests) in
-      fed_then g.S.Storage.shows g.S.Storage.may_leave g.S.Storage.moment g.S.Storage.left_since g.L.PortSet.modeled
-      g.D.Datagrams.modeled c.args.lines.now life [] [] false
-      (state_of g.L.PortSet.state g.D.Datagrams.port c.args.self.now) (state_of g.L.PortSet.state g.D.Datagrams.port c.serve.new.self)
-      (state_of g.L.PortSet.state g.D.Datagrams.port c.compare_some.new.self) served (fed_waited g.S.Storage.shows g.S.Storage.may_leave g.S.Storage.moment g.S.Storage.left_since g.L.PortSet.modeled
-      g.D.Datagrams.modeled c.args.lines.now g.met.S.Storage.only_now (grown life [])
-      (state_of g.L.PortSet.state g.D.Datagrams.port c.serve.new.self) (state_of g.L.PortSet.state g.D.Datagrams.port c.compare_some.new.self)
-      served.rests (ap (λ (f : Feeder g.row.S.Denot g.row.L.Denot). f.publisher) c.compare_some.ensures.feeder) (λ _. ap (λ (f : Feeder g.row.S.Denot g.row.L.Denot). (g.L.PortSet.state f.ports).sent) c.compare_some.ensures.feeder)
-      (ap (λ (r : Requests g.row.D.Denot). g.D.Datagrams.port r.port) c.compare_some.ensures.requests)
-      (ap (λ (r : Requests g.row.D.Denot). r.server) c.compare_some.ensures.requests));
+      fed_compared g.S.Storage.shows g.S.Storage.may_leave g.S.Storage.moment g.S.Storage.left_since g.L.PortSet.modeled
+      g.D.Datagrams.modeled c.args.lines.now g.met.S.Storage.only_now g.L.PortSet.state g.D.Datagrams.port life
+      (state_of g.L.PortSet.state g.D.Datagrams.port c.args.self.now) c.loop.self c.pause.new.self c.serve.new.self
+      c.compare_some.new.self (c.loop.invariant.fed life is)
+      (ap (λ (f : Feeder g.row.S.Denot g.row.L.Denot). f.publisher) c.pause.ensures.feeder) c.pause.ensures.sent
+      c.pause.ensures.requests c.serve.ensures.fed c.compare_some.ensures.feeder c.compare_some.ensures.requests;
   longest = subst (λ (f : Feeder g.row.S.Denot g.row.L.Denot). f.publisher.publisher.journal.max_message
       ≤ c.compare_some.new.self.requests.server.max_message) (sym c.compare_some.ensures.feeder)
       (subst (λ (r : Requests g.row.D.Denot). c.serve.new.self.feeder.publisher.publisher.journal.max_message
@@ -147,3 +131,15 @@ returns-then-not-compares_on-clause-journal g c =
     ∙ (c.serve.ensures.journal
     ∙ ap (λ (f : Feeder g.row.S.Denot g.row.L.Denot). f.publisher.publisher.journal) c.in_ok-pause.ensures.feeder
     ∙ c.loop.invariant.journal)
+
+pub returns-in_err-at-clause-journal : goal.returns-in_err-at-clause-journal
+returns-in_err-at-clause-journal g c =
+    ap (λ (f : Feeder g.row.S.Denot g.row.L.Denot). f.publisher.publisher.journal) c.compare_some.ensures.feeder
+    ∙ (c.serve.ensures.journal
+    ∙ ap (λ (f : Feeder g.row.S.Denot g.row.L.Denot). f.publisher.publisher.journal) c.in_ok-pause.ensures.feeder
+    ∙ c.loop.invariant.journal)
+
+pub returns-in_err-pause-clause-journal : goal.returns-in_err-pause-clause-journal
+returns-in_err-pause-clause-journal g c =
+    ap (λ (f : Feeder g.row.S.Denot g.row.L.Denot). f.publisher.publisher.journal) c.pause.ensures.feeder
+    ∙ c.loop.invariant.journal

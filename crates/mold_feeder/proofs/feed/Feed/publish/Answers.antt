@@ -2,11 +2,12 @@ use Rattle.std.proofs.Common.{◌∙◌, [], false, ◌++◌}
 use Rattle.std.proofs.Common.{◌&&◌, not, subst, sym}
 use Rattle.mold_publish.specs.declared.filling.Filled.{Filled}
 use Rattle.mold_publish.specs.declared.filling.Filled.TheVariants.{Full}
-use Rattle.mold_feeder.specs.Feeding.{grown, state_of}
+use Rattle.mold_devices.proofs.LineLemmas.{on_err}
+use Rattle.mold_feeder.specs.Feeding.{MayNotClose, grown, state_of}
 use Rattle.mold_feeder.specs.Input.{entries_of_rest}
-use Rattle.mold_feeder.specs.Taking.{Takes, filled_now}
-use Rattle.mold_feeder.proofs.TakingLemmas.{goes_on, is_stop, over_rest, stops, takes_then, takes_yet}
-use Rattle.mold_feeder.proofs.FeedingLemmas.{fed_then, fed_yet}
+use Rattle.mold_feeder.specs.Taking.{Takes, TakesPart, filled_now}
+use Rattle.mold_feeder.proofs.TakingLemmas.{goes_on, is_stop, over_rest, part_then, stops, takes_then, takes_yet}
+use Rattle.mold_feeder.proofs.FeedingLemmas.{broken_now, broken_then, broken_weaker, fed_then, fed_yet}
 use Rattle.mold_feeder.proofs.feed.Feed.publish.Goals as goal
 
 pub loop-init : goal.loop-init
@@ -88,3 +89,46 @@ pub returns-in-Some-clause-stops : goal.returns-in-Some-clause-stops
 returns-in-Some-clause-stops g c =
     is_stop c.in_ok-taken.taken (not c.turn.new.self.input.ready && c.turn.new.self.input.ended) c.in-Some.gathered
     (sym c.stop_of.ensures ∙ c.in-Some.is)
+
+pub returns-in_err-taken-clause-broken : goal.returns-in_err-taken-clause-broken
+returns-in_err-taken-clause-broken g c = λ life is.
+    let start = c.loop.invariant.fed life is in
+    let known =
+    entries_of_rest g.M.InputReader.unread g.K.Source.left g.M.MessageReader.entries c.args.self.now.input in
+    let behind = entries_of_rest g.M.InputReader.unread g.K.Source.left g.M.MessageReader.entries c.loop.self.input in
+    on_err _
+    (broken_then g.S.Storage.shows g.S.Storage.may_leave g.S.Storage.moment g.S.Storage.left_since g.L.PortSet.modeled
+    g.D.Datagrams.modeled c.args.lines.now (TakesPart g.M.MessageReader.input_kind
+    c.args.self.now.feeder.publisher.publisher.journal
+    (entries_of_rest g.M.InputReader.unread g.K.Source.left g.M.MessageReader.entries c.args.self.now.input))
+    MayNotClose life start.0
+    (state_of g.L.PortSet.state g.D.Datagrams.port c.args.self.now)
+    (state_of g.L.PortSet.state g.D.Datagrams.port c.loop.self)
+    (state_of g.L.PortSet.state g.D.Datagrams.port c.turn.new.self) start.1
+    (broken_weaker g.S.Storage.shows g.S.Storage.may_leave g.S.Storage.moment g.S.Storage.left_since g.L.PortSet.modeled
+    g.D.Datagrams.modeled c.args.lines.now (TakesPart g.M.MessageReader.input_kind
+    c.args.self.now.feeder.publisher.publisher.journal
+    (entries_of_rest g.M.InputReader.unread g.K.Source.left g.M.MessageReader.entries c.args.self.now.input))
+    MayNotClose (grown life start.0)
+    (TakesPart g.M.MessageReader.input_kind c.loop.self.feeder.publisher.publisher.journal behind) MayNotClose
+    (state_of g.L.PortSet.state g.D.Datagrams.port c.loop.self)
+    (state_of g.L.PortSet.state g.D.Datagrams.port c.turn.new.self)
+    (λ journal part.
+    part_then g.M.MessageReader.input_kind c.args.self.now.feeder.publisher.publisher.journal
+    c.loop.self.feeder.publisher.publisher.journal journal known behind
+    (c.loop.invariant.taken life is) part)
+    (λ journal never. never) (c.in_err-taken.ensures.broken (grown life start.0) start.1.rests)))
+
+pub returns-clause-broken : goal.returns-clause-broken
+returns-clause-broken g c = λ life is.
+    let start = c.loop.invariant.fed life is in
+    broken_now g.S.Storage.shows g.S.Storage.may_leave g.S.Storage.moment g.S.Storage.left_since g.L.PortSet.modeled
+    g.D.Datagrams.modeled c.args.lines.now g.met.S.Storage.only_now
+    (TakesPart g.M.MessageReader.input_kind c.args.self.now.feeder.publisher.publisher.journal
+    (entries_of_rest g.M.InputReader.unread g.K.Source.left g.M.MessageReader.entries c.args.self.now.input))
+    MayNotClose life start.0
+    (state_of g.L.PortSet.state g.D.Datagrams.port c.args.self.now)
+    (state_of g.L.PortSet.state g.D.Datagrams.port c.loop.self) (
+      entries_of_rest g.M.InputReader.unread g.K.Source.left g.M.MessageReader.entries c.loop.self.input,
+      (Full, c.loop.invariant.taken life is),
+    ) start.1

@@ -32,3 +32,10 @@ returns-in-Ok-clause-told g c = λ life datagram is so.
     (subst (λ (d : DurableState g.row.S.Denot). LeavesOnly g.S.Storage.moment g.S.Storage.left_since d.storage
     c.close.new.self.publisher.durable.storage (IsTold datagram)) c.send_beats.ensures.sent.storage
     (c.close.ensures.told life datagram (c.send_beats.ensures.sent.publishes life is) so))
+
+pub returns-in-Err-clause-beats_sent : goal.returns-in-Err-clause-beats_sent
+returns-in-Err-clause-beats_sent g c = record {
+  mid = c.send_beats.new.self;
+  sent = c.send_beats.ensures.sent;
+  silent = ap (λ (f : Feeder g.row.S.Denot g.row.L.Denot). f.ports) c.close.ensures.rest;
+}
