@@ -6,7 +6,7 @@ use Rattle.std.proofs.lemmas.Option.{none-some}
 use Rattle.std.specs.List.{AllByRecursion}
 use Rattle.std.specs.Prelude.{None, Option, Some, slice_get}
 use Rattle.mold_day_law.specs.Recorders.{HasBegun, HasRecorded, HaveRecorded, IsRecordOf, MayAllArrive, MayArrive}
-use Rattle.mold_day_law.specs.Recorders.{Recorder}
+use Rattle.mold_day_law.specs.Recorders.{RecorderLife}
 use Rattle.mold_durable.specs.DurableJournal.{DurableState}
 use Rattle.mold_durable.specs.Life.{Life, MayHappen as MayHappenTo, Moment, after as after_moment, born}
 use Rattle.mold_durable.specs.Life.Moment.{Append, Close as CloseJournal, Commit, Crash}
@@ -56,7 +56,8 @@ pub record DayLaws : Type 0 where
   pub moved : (history : History) (moment : Moment) →
       life_of (after_event history (Writes moment)) ≡ after_moment (life_of history) moment
   pub anew : (session : Session) (next window : ℕ) (published : List Message) (closed : Bool) → 1 ≤ next →
-      next ≤ length published + 1 → length published < MAX_NUMBER → IsHonest (fresh session next window) published closed
+      next ≤ length published + 1 → length published < MAX_NUMBER →
+      IsHonest (fresh session next window) published closed
   pub taken : TakenLaw
   pub honest : (old new : Repairer) (steps : List RepairStep) (outcomes : List Outcome)
       (ran : IsRepaired old new steps outcomes) (published : List Message) (closed : Bool) →
@@ -398,8 +399,8 @@ module _ (laws : DayLaws) (history : History) (kept : IsKept history.machine)
 
   file_recorded : (found messages left : List Message) (closed : Bool) (new : Repairer) (file : List ℕ) →
       IsRecorded history.machine found messages new →
-      IsFileLeft (record { session = history.machine.session; committed = found; closed = false; waiting = [] }) messages
-      (is_finished new) file →
+      IsFileLeft (record { session = history.machine.session; committed = found; closed = false; waiting = [] })
+      messages (is_finished new) file →
       SpellsJournal3 history.machine.session left closed file → IsRecordOf (life_of history) left closed
   file_recorded found messages left closed new file is (inl part) spelled =
       let same = laws.one_file history.machine.session history.machine.session (found ++ part.front) left false closed
@@ -426,35 +427,35 @@ module _ (laws : DayLaws) (history : History) (kept : IsKept history.machine)
       (each_rest May first since arrive)
 
   pub life_recorded : {P S : Type 0} (shows may_leave : S → List ℕ → Type 0) (moment : S → ℕ)
-      (left_since : S → ℕ → List ℕ → Type 0) (recorder : Recorder) →
-      HasRecorded P shows may_leave moment left_since history.machine recorder → IsPrefix recorder.found published →
-      IsRecordOf (life_of history) recorder.left recorder.closed
-  life_recorded shows may_leave moment left_since recorder has prefix =
+      (left_since : S → ℕ → List ℕ → Type 0) (life : RecorderLife) →
+      HasRecorded P shows may_leave moment left_since history.machine life → IsPrefix life.found published →
+      IsRecordOf (life_of history) life.left life.closed
+  life_recorded shows may_leave moment left_since life has prefix =
       let ran = has.ran in
-      let is : IsRecorded history.machine recorder.found ran.messages ran.end.repairer =
+      let is : IsRecorded history.machine life.found ran.messages ran.end.repairer =
       recorded laws history.machine kept few shows may_leave has.lines has.servers ran.took has.start ran.end has.before
-      recorder.found ran.messages has.begun ran.delivered
+      life.found ran.messages has.begun ran.delivered
       (took_arrived ran.took has.first ran.delivered.since ran.part has.arrived) prefix in
       let left = (ran.leaves (record {
         session = history.machine.session;
-        committed = recorder.found;
+        committed = life.found;
         closed = false;
         waiting = [];
       }) has.begun.lives).each has.file has.crash in
-      file_recorded recorder.found ran.messages recorder.left recorder.closed ran.end.repairer has.file is left
+      file_recorded life.found ran.messages life.left life.closed ran.end.repairer has.file is left
       has.spelled
 
   pub lives_recorded : (P : Type 0) {S : Type 0} (shows may_leave : S → List ℕ → Type 0) (moment : S → ℕ)
-      (left_since : S → ℕ → List ℕ → Type 0) (messages : List Message) (closed : Bool) (recorders : List Recorder) →
-      HaveRecorded P shows may_leave moment left_since history.machine messages closed recorders →
+      (left_since : S → ℕ → List ℕ → Type 0) (messages : List Message) (closed : Bool) (lives : List RecorderLife) →
+      HaveRecorded P shows may_leave moment left_since history.machine messages closed lives →
       IsPrefix messages published →
-      AllByRecursion (λ (recorder : Recorder). IsRecordOf (life_of history) recorder.left recorder.closed) recorders
+      AllByRecursion (λ (life : RecorderLife). IsRecordOf (life_of history) life.left life.closed) lives
   lives_recorded P shows may_leave moment left_since messages closed [] have prefix = tt
-  lives_recorded P shows may_leave moment left_since messages closed (recorder ∷ recorders) have prefix =
-      let one : IsRecordOf (life_of history) recorder.left recorder.closed =
-      life_recorded shows may_leave moment left_since recorder have.2
+  lives_recorded P shows may_leave moment left_since messages closed (life ∷ lives) have prefix =
+      let one : IsRecordOf (life_of history) life.left life.closed =
+      life_recorded shows may_leave moment left_since life have.2
       (subst (λ (l : List Message). IsPrefix l published) (sym have.1) prefix) in (
         one,
-        lives_recorded P shows may_leave moment left_since recorder.left recorder.closed recorders have.3
+        lives_recorded P shows may_leave moment left_since life.left life.closed lives have.3
             one.prefix,
       )

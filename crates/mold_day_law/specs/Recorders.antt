@@ -39,7 +39,7 @@ pub record HasBegun {S : Type 0} (shows may_leave : S → List ℕ → Type 0) (
       (record { session = session; committed = messages; closed = false; waiting = [] })
 
 -- One life of a recorder, from when it opened its file to when it died or ended.
-pub record Recorder : Type 0 where
+pub record RecorderLife : Type 0 where
   -- the messages of the file when it was opened
   pub found : List (List ℕ)
   -- the messages of the file that the life has left
@@ -50,7 +50,7 @@ pub record Recorder : Type 0 where
 -- The recorder had this life. It took only datagrams that may arrive, and a crash at any moment of the life left its
 -- file. An end without a crash counts as a crash after it.
 pub record HasRecorded (P : Type 0) {S : Type 0} (shows may_leave : S → List ℕ → Type 0) (moment : S → ℕ)
-    (left_since : S → ℕ → List ℕ → Type 0) (machine : Machine) (recorder : Recorder) : Type 0 where
+    (left_since : S → ℕ → List ℕ → Type 0) (machine : Machine) (life : RecorderLife) : Type 0 where
   pub lines : ℕ
   pub servers : List P
   -- the datagram by which the recorder learned the session, if it took one
@@ -58,19 +58,19 @@ pub record HasRecorded (P : Type 0) {S : Type 0} (shows may_leave : S → List �
   pub start : RecorderState P
   pub before : DurableState S
   pub after : DurableState S
-  pub begun : HasBegun shows may_leave machine.session recorder.found start.repairer before
+  pub begun : HasBegun shows may_leave machine.session life.found start.repairer before
   pub ran : HasBroken lines servers true shows may_leave moment left_since first start before after
   pub arrived : MayAllArrive machine (first ++ ran.delivered.since)
   pub file : List ℕ
   pub crash : left_since after.storage (moment before.storage) file
-  pub spelled : SpellsJournal3 machine.session recorder.left recorder.closed file
+  pub spelled : SpellsJournal3 machine.session life.left life.closed file
 
 -- The lives of a recorder, one after the other. The file that a life has left is the one that the next life opens. The
 -- first life opens a file with these messages. A closed file is not opened again.
 abbrev pub HaveRecorded : (P : Type 0) → {S : Type 0} → (shows may_leave : S → List ℕ → Type 0) (moment : S → ℕ)
-    (left_since : S → ℕ → List ℕ → Type 0) → Machine → List (List ℕ) → Bool → List Recorder → Type 0
+    (left_since : S → ℕ → List ℕ → Type 0) → Machine → List (List ℕ) → Bool → List RecorderLife → Type 0
 HaveRecorded P shows may_leave moment left_since machine messages closed [] = Unit {0}
-HaveRecorded P shows may_leave moment left_since machine messages closed (recorder ∷ recorders) =
-    (closed ≡ false) × (recorder.found ≡ messages)
-    × HasRecorded P shows may_leave moment left_since machine recorder
-    × HaveRecorded P shows may_leave moment left_since machine recorder.left recorder.closed recorders
+HaveRecorded P shows may_leave moment left_since machine messages closed (life ∷ lives) =
+    (closed ≡ false) × (life.found ≡ messages)
+    × HasRecorded P shows may_leave moment left_since machine life
+    × HaveRecorded P shows may_leave moment left_since machine life.left life.closed lives

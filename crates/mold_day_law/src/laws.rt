@@ -3,7 +3,8 @@
 
 ghost use Rattle.std.specs.Prelude.{◌≡◌, ◌++◌, [], Bool, List, Some, false, true, ℕ, slice_get};
 ghost use Rattle.std.specs.List.{AllByRecursion};
-ghost use Rattle.mold_day_law.specs.Recorders.{HasBegun, HasRecorded, HaveRecorded, IsRecordOf, MayAllArrive, Recorder};
+ghost use Rattle.mold_day_law.specs.Recorders.{HasBegun, HasRecorded, HaveRecorded, IsRecordOf, MayAllArrive};
+ghost use Rattle.mold_day_law.specs.Recorders.{RecorderLife};
 ghost use Rattle.mold_durable.specs.DurableJournal.{DurableState};
 ghost use Rattle.mold_durable.specs.Life.{IsFileOf};
 ghost use Rattle.mold_durable_law.specs.History.{AllMayHappen, Event, MayHappen, after_all, begun, life_of};
@@ -67,11 +68,11 @@ pub fn day_law<D: PortSet, S: Storage>()
         (before after : DurableState S) →
         HasEnded lines servers true S.shows S.may_leave S.moment S.left_since first old new before after →
         HasBroken lines servers true S.shows S.may_leave S.moment S.left_since first old before after }
-    ensures recorded { (session : Session) (events : List Event) (recorder : Recorder) →
+    ensures recorded { (session : Session) (events : List Event) (life : RecorderLife) →
         AllMayHappen (begun session) events →
         HasRecorded D.Peer S.shows S.may_leave S.moment S.left_since (after_all (begun session) events).machine
-        recorder → IsPrefix recorder.found (life_of (after_all (begun session) events)).committed →
-        IsRecordOf (life_of (after_all (begun session) events)) recorder.left recorder.closed }
+        life → IsPrefix life.found (life_of (after_all (begun session) events)).committed →
+        IsRecordOf (life_of (after_all (begun session) events)) life.left life.closed }
     ensures finished { (session : Session) (events : List Event) (messages : List (List ℕ)) (lines : ℕ)
         (servers : List D.Peer) (first : List Given) (old new : RecorderState D.Peer) (before after : DurableState S) →
         AllMayHappen (begun session) events →
@@ -80,11 +81,11 @@ pub fn day_law<D: PortSet, S: Storage>()
         MayAllArrive (after_all (begun session) events).machine (first ++ is.delivered.since) →
         IsPrefix messages (life_of (after_all (begun session) events)).committed →
         IsRecordOf (life_of (after_all (begun session) events)) (messages ++ is.messages) (is_finished new.repairer) }
-    ensures lives { (session : Session) (events : List Event) (recorders : List Recorder) →
+    ensures lives { (session : Session) (events : List Event) (lives : List RecorderLife) →
         AllMayHappen (begun session) events →
-        HaveRecorded D.Peer S.shows S.may_leave S.moment S.left_since (after_all (begun session) events).machine [] false
-        recorders → AllByRecursion (λ recorder. IsRecordOf (life_of (after_all (begun session) events)) recorder.left
-        recorder.closed) recorders }
+        HaveRecorded D.Peer S.shows S.may_leave S.moment S.left_since (after_all (begun session) events).machine []
+        false lives →
+        AllByRecursion (λ life. IsRecordOf (life_of (after_all (begun session) events)) life.left life.closed) lives }
 {
     durable_law();
     told_law();

@@ -57,21 +57,23 @@ returns-clause-ends g c lines servers first old new before after ended = record 
 }
 
 pub returns-clause-recorded : goal.returns-clause-recorded
-returns-clause-recorded g c session events recorder may has prefix =
+returns-clause-recorded g c session events life may has prefix =
     life_recorded (laws g c) (after_all (begun session) events) (kept_all (laws g c) session events may)
-    (few_committed (laws g c) session events may) g.S.Storage.shows g.S.Storage.may_leave g.S.Storage.moment g.S.Storage.left_since recorder has prefix
+    (few_committed (laws g c) session events may) g.S.Storage.shows g.S.Storage.may_leave g.S.Storage.moment
+    g.S.Storage.left_since life has prefix
 
 pub returns-clause-finished : goal.returns-clause-finished
 returns-clause-finished g c session events messages lines servers first old new before after may started is arrived
     prefix =
     let has = recorded (laws g c) (after_all (begun session) events).machine (kept_all (laws g c) session events may)
-    (few_committed (laws g c) session events may) g.S.Storage.shows g.S.Storage.may_leave lines servers first old new before messages
-    is.messages (subst (λ (s : Session). HasBegun g.S.Storage.shows g.S.Storage.may_leave s messages old.repairer before)
+    (few_committed (laws g c) session events may) g.S.Storage.shows g.S.Storage.may_leave lines servers first old new
+    before messages is.messages
+    (subst (λ (s : Session). HasBegun g.S.Storage.shows g.S.Storage.may_leave s messages old.repairer before)
     (sym (session_after (begun session) events)) started) is.delivered arrived prefix in
     record { prefix = has.prefix; whole = has.whole }
 
 pub returns-clause-lives : goal.returns-clause-lives
-returns-clause-lives g c session events recorders may have =
+returns-clause-lives g c session events lives may have =
     lives_recorded (laws g c) (after_all (begun session) events) (kept_all (laws g c) session events may)
-    (few_committed (laws g c) session events may) _ g.S.Storage.shows g.S.Storage.may_leave g.S.Storage.moment g.S.Storage.left_since [] false recorders
-    have (record { behind = (after_all (begun session) events).machine.published; parts = refl })
+    (few_committed (laws g c) session events may) _ g.S.Storage.shows g.S.Storage.may_leave g.S.Storage.moment
+    g.S.Storage.left_since [] false lives have (record { behind = (after_all (begun session) events).machine.published; parts = refl })
