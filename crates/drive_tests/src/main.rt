@@ -17,17 +17,39 @@ mod writer;
 
 use driver::Driver;
 use mold_devices::{FromRead, IntoWrite, Lines, send};
+use mold_durable::Storage;
 use mold_repair::Repairer;
 use opened::open_journal;
 use options::{WriterOptions, read_options};
 use problem::Problem;
 use setup::make_repairer;
-use std::io::Stdin;
+use std::io::{Stdin, Stdout};
 use std::process::ExitCode;
 use words::Words;
 use writer::Writer;
 
 // Applies the steps of all other lines. The text is written at each empty line, and at the end.
+fn apply_steps(
+    driver: &mut Driver,
+    source: &mut FromRead<Stdin>,
+    lines: &mut Lines,
+    text: &mut Vec<u8>,
+    sink: &mut IntoWrite<Stdout>,
+) -> Result<(), Problem> {
+    for _ in 0..u64::MAX {
+        if !lines.advance(source)? {
+            break;
+        }
+        if lines.line().is_empty() {
+            send(sink, text)?;
+        } else {
+            driver.apply(lines.line(), text)?;
+        }
+    }
+    Ok(send(sink, text)?)
+}
+
+// Applies the steps of all other lines to a repairer, and prints what its calls return.
 fn run_steps(
     rt: &HostRuntime,
     repairer: Repairer,
@@ -35,22 +57,29 @@ fn run_steps(
     lines: &mut Lines,
 ) -> Result<(), Problem> {
     let mut driver = Driver::new(rt.alloc(), repairer);
-    let mut sink = IntoWrite::new(rt.stdout());
     let mut text = Vec::new(rt.alloc());
+    let mut sink = IntoWrite::new(rt.stdout());
+    apply_steps(&mut driver, source, lines, &mut text, &mut sink)
+}
+
+// Writes the messages of all other lines.
+fn append_lines<S: Storage + Drop>(
+    writer: &mut Writer<S>,
+    source: &mut FromRead<Stdin>,
+    lines: &mut Lines,
+    sink: &mut IntoWrite<Stdout>,
+) -> Result<(), Problem> {
+    writer.report(sink)?;
     for _ in 0..u64::MAX {
         if !lines.advance(source)? {
             break;
         }
-        if lines.line().is_empty() {
-            send(&mut sink, &mut text)?;
-        } else {
-            driver.apply(lines.line(), &mut text)?;
-        }
+        writer.append(lines.line(), sink)?;
     }
-    Ok(send(&mut sink, &mut text)?)
+    writer.finish(sink)
 }
 
-// Writes the messages of all other lines.
+// Writes the messages of all other lines to the file at a path.
 fn write_lines(
     rt: &HostRuntime,
     options: WriterOptions,
@@ -61,14 +90,7 @@ fn write_lines(
     let journal = open_journal(rt, path)?;
     let mut writer = Writer::new(rt.alloc(), journal, options);
     let mut sink = IntoWrite::new(rt.stdout());
-    writer.report(&mut sink)?;
-    for _ in 0..u64::MAX {
-        if !lines.advance(source)? {
-            break;
-        }
-        writer.append(lines.line(), &mut sink)?;
-    }
-    writer.finish(&mut sink)
+    append_lines(&mut writer, source, lines, &mut sink)
 }
 
 // Writes a journal with the options of the current line.

@@ -1,18 +1,22 @@
 //! The command `feed`: it opens the journal file and the ports, and runs the loop.
 
+ghost use Rattle.std.specs.Prelude.{◌≤◌};
+ghost use Rattle.mold_feeder.specs.Input.{IsInput};
+
 use crate::feed_sockets::FeedSockets;
 use crate::options::feed_options;
 use crate::refusing::{fault_of, refuse, refuse_start};
 use crate::request_port::RequestPort;
-use mold_devices::{CommandFault, FromRead, IntoWrite};
+use mold_devices::{CommandFault, FromRead, IntoWrite, Sink, Source};
 use mold_durable::{FileStorage, create_file, open_file, sync_folder};
-use mold_durable_publisher::DurablePublisher;
+use mold_durable_publisher::{DurablePublisher, StartError};
 use mold_feeder::{Feed, Feeder, PieceInput, PieceReader, Requests, feed_loop};
 use mold_input::{HexLines, MessageBlocks};
-use mold_session::{Journal, Server};
+use mold_session::{FileError, Journal, Server};
 use mold_wire::Session;
 use mold_wiring::{ProgramFault, flushed, longest_message, socket_address};
 use mold_words::FeedOrder;
+use std::alloc::Global;
 use std::fs::File;
 use std::io::Write;
 use std::net::Ipv4Addr;
@@ -45,33 +49,65 @@ fn open_ports(rt: &HostRuntime, order: &FeedOrder) -> Result<Ports, ProgramFault
     }
 }
 
+// Publishes the messages of the input, and prints the last line.
+fn run<M: PieceReader, K: Source + Drop>(
+    rt: &HostRuntime,
+    order: &FeedOrder,
+    feed: &mut Feed<FileStorage, FeedSockets, RequestPort, M, K>,
+    resumed: bool,
+) -> Result<u8, CommandFault>
+    requires longest { feed.old.feeder.publisher.publisher.journal.max_message
+        ≤ feed.old.requests.server.max_message }
+    requires input { IsInput M.unread K.left feed.old.input }
+{
+    let mut sink = IntoWrite::new(rt.stdout());
+    let outcome = feed_loop(rt.alloc(), feed, &feed_options(order, resumed), &mut sink);
+    flushed(outcome, sink.into_inner().flush())
+}
+
 // Publishes the messages of standard input, which the reader `M` reads.
 fn feed_on<M: PieceReader>(
+    rt: &HostRuntime,
+    order: &FeedOrder,
+    feeder: Feeder<FileStorage, FeedSockets>,
+    requests: Requests<RequestPort>,
+    resumed: bool,
+) -> Result<u8, CommandFault>
+    requires { feeder.publisher.publisher.journal.max_message ≤ requests.server.max_message }
+{
+    let input = PieceInput::<M, _>::new(rt.alloc(), FromRead::new(rt.stdin()))?;
+    let mut feed = Feed {
+        feeder,
+        requests,
+        input,
+    };
+    run(rt, order, &mut feed, resumed)
+}
+
+// Publishes the messages of standard input, in the order's form.
+fn feed_input(
     rt: &HostRuntime,
     order: &FeedOrder,
     publisher: DurablePublisher<FileStorage>,
     ports: Ports,
     resumed: bool,
 ) -> Result<u8, CommandFault> {
-    let alloc = rt.alloc();
     let longest = publisher.journal().max_message();
     // The numbers of an order are in range, so an error means out of memory.
-    let Ok(server) = Server::new(alloc, order.limit, longest, order.burst) else {
+    let Ok(server) = Server::new(rt.alloc(), order.limit, longest, order.burst) else {
         return Err(CommandFault::Memory);
     };
     let Ports { lines, requests } = ports;
-    let mut feed = Feed {
-        feeder: Feeder::new(publisher, lines, order.times.rate, order.times.idle),
-        requests: Requests::new(requests, server),
-        input: PieceInput::<M, _>::new(alloc, FromRead::new(rt.stdin()))?,
-    };
-    let mut sink = IntoWrite::new(rt.stdout());
-    let outcome = feed_loop(alloc, &mut feed, &feed_options(order, resumed), &mut sink);
-    flushed(outcome, sink.into_inner().flush())
+    let feeder = Feeder::new(publisher, lines, order.times.rate, order.times.idle);
+    let requests = Requests::new(requests, server);
+    if order.blocks {
+        feed_on::<MessageBlocks>(rt, order, feeder, requests, resumed)
+    } else {
+        feed_on::<HexLines>(rt, order, feeder, requests, resumed)
+    }
 }
 
-// Publishes the messages of standard input, in the order's form. The name of the journal's file is durable before the
-// first message is.
+// Publishes the messages of standard input. The name of the journal's file is durable before the first message is.
 fn feed(
     rt: &HostRuntime,
     order: &FeedOrder,
@@ -79,34 +115,49 @@ fn feed(
     ports: Ports,
     resumed: bool,
 ) -> Result<u8, ProgramFault> {
-    if let Err(error) = sync_folder(rt, order.journal.as_str()) {
-        return Err(fault_of(error));
+    match sync_folder(rt, order.journal.as_str()) {
+        Ok(()) => Ok(feed_input(rt, order, publisher, ports, resumed)?),
+        Err(error) => Err(fault_of(error)),
     }
-    if order.blocks {
-        Ok(feed_on::<MessageBlocks>(rt, order, publisher, ports, resumed)?)
-    } else {
-        Ok(feed_on::<HexLines>(rt, order, publisher, ports, resumed)?)
+}
+
+// Opens the session of the file in this storage. The file is opened a second time, for the messages in memory.
+fn open_publisher(
+    rt: &HostRuntime,
+    order: &FeedOrder,
+    storage: FileStorage,
+) -> Result<DurablePublisher<FileStorage>, StartError> {
+    let Ok(file) = File::open(rt, order.journal.as_str()) else {
+        return Err(StartError::Load(FileError::Read));
+    };
+    DurablePublisher::open(rt.alloc(), order.limit, &mut FromRead::new(file), storage)
+}
+
+// Prints why the session of a file is not continued, if the order does not allow it, and returns the status.
+fn refuse_other<K: Sink>(
+    alloc: Global,
+    order: &FeedOrder,
+    journal: &Journal,
+    sink: &mut K,
+) -> Result<Option<u8>, CommandFault> {
+    if journal.session() != Session(order.session) {
+        return Ok(Some(refuse(alloc, b"WrongSession", sink)?));
     }
+    if journal.is_closed() && order.append {
+        return Ok(Some(refuse(alloc, b"Closed", sink)?));
+    }
+    Ok(None)
 }
 
 // Continues the session of the file in this storage, if it is the order's.
 fn resume(rt: &HostRuntime, order: &FeedOrder, storage: FileStorage) -> Result<u8, ProgramFault> {
-    let alloc = rt.alloc();
     let mut sink = IntoWrite::new(rt.stdout());
-    let Ok(file) = File::open(rt, order.journal.as_str()) else {
-        return Err(ProgramFault::Command(CommandFault::Read));
-    };
-    let mut source = FromRead::new(file);
-    let publisher = match DurablePublisher::open(alloc, order.limit, &mut source, storage) {
+    let publisher = match open_publisher(rt, order, storage) {
         Ok(publisher) => publisher,
-        Err(error) => return Ok(refuse_start(alloc, error, &mut sink)?),
+        Err(error) => return Ok(refuse_start(rt.alloc(), error, &mut sink)?),
     };
-    let journal = publisher.journal();
-    if journal.session() != Session(order.session) {
-        return Ok(refuse(alloc, b"WrongSession", &mut sink)?);
-    }
-    if journal.is_closed() && order.append {
-        return Ok(refuse(alloc, b"Closed", &mut sink)?);
+    if let Some(status) = refuse_other(rt.alloc(), order, publisher.journal(), &mut sink)? {
+        return Ok(status);
     }
     let ports = open_ports(rt, order)?;
     feed(rt, order, publisher, ports, true)

@@ -2,7 +2,8 @@
 
 ghost use Rattle.mold_wire.specs.declared.limits.TheConstants.{MESSAGE_OVERHEAD};
 ghost use Rattle.mold_wiring.specs.Addresses.{IsSocketOf};
-ghost use Rattle.std.specs.Prelude.{◌≡◌, ◌-◌, IfOk, IfSome};
+ghost use Rattle.mold_wiring.specs.Wiring.{server_of};
+ghost use Rattle.std.specs.Prelude.{◌≡◌, ◌≤◌, ◌-◌, IfOk, IfSome};
 
 use crate::options::serve_turns;
 use crate::streams::{standard_output, tell_refused};
@@ -14,7 +15,7 @@ use mold_follow::{
 use mold_port_set::UdpPortSet;
 use mold_ports::UdpPort;
 use mold_serve::Tally;
-use mold_session::{FileError, Journal};
+use mold_session::{FileError, Journal, Server};
 use mold_show::DumpOptions;
 use mold_wire::MAX_MESSAGE;
 use mold_wiring::{ProgramFault, flushed, longest_message, make_server, open_port};
@@ -72,42 +73,71 @@ pub(crate) fn serve_followed(
 {
     let mut follower = follower;
     let mut journal = Journal::new(rt.alloc(), follower.session(), follower.max_message());
-    if let Err(error) = catch_up(&mut follower, &mut journal) {
-        return Ok(end_unserved(rt, error)?);
+    match catch_up(&mut follower, &mut journal) {
+        Ok(()) => serve_journal(rt, order, follower, journal),
+        Err(error) => Ok(end_unserved(rt, error)?),
     }
-    let port = open_port(rt, order.bind)?;
-    Ok(follow_on(rt, order, follower, journal, port)?)
 }
 
-// Serves the journal over the port, which was opened at the order's address.
-fn follow_on(
+// A server and its port.
+#[derive(Drop)]
+struct ServerPort {
+    server: Server,
+    port: UdpPort,
+}
+
+// Opens the port at the order's address, and makes the server.
+fn open_server(rt: &HostRuntime, order: &ServeOrder) -> Result<ServerPort, ProgramFault>
+    ensures bound { IfOk result (λ opened. IsSocketOf order.now.bind opened.port.bound) }
+    ensures server { IfOk result (λ opened. opened.server ≡ server_of order.now) }
+{
+    let port = open_port(rt, order.bind)?;
+    match make_server(rt.alloc(), order) {
+        Ok(server) => Ok(ServerPort { server, port }),
+        Err(_) => Err(ProgramFault::Command(CommandFault::Memory)),
+    }
+}
+
+// Serves the journal of the follower, which has its messages.
+fn serve_journal(
     rt: &HostRuntime,
     order: &ServeOrder,
     follower: Follower<FollowedFile>,
     journal: Journal,
-    port: UdpPort,
-) -> Result<u8, CommandFault>
-    requires bound { IsSocketOf order.now.bind port.bound }
-    requires longest { journal.max_message ≡ order.now.limit - MESSAGE_OVERHEAD }
+) -> Result<u8, ProgramFault>
+    requires { journal.max_message ≡ order.now.limit - MESSAGE_OVERHEAD }
 {
+    let ServerPort { server, port } = open_server(rt, order)?;
     let mut serving = FollowingServer {
         follower,
         journal,
-        server: make_server(rt.alloc(), order)?,
+        server,
         port,
         tally: Tally::new(rt.alloc()),
     };
-    let mut sink = standard_output(rt, order.live);
-    let outcome = follow_serve(rt.alloc(), &mut serving, serve_turns(order), &mut sink);
-    flushed(outcome, sink.into_inner().flush())
+    serve_over(rt, order, &mut serving)
 }
 
-/// Prints the messages of the order's journal as another process adds them, each look's text at once. Returns `None` if
-/// the file is not of version 3. If the file cannot be opened, the fault is `Read`.
-pub fn run_follow_dump(rt: &HostRuntime, order: &DumpOrder) -> Result<Option<u8>, CommandFault> {
-    let Some(mut follower) = open_follower(rt, order.journal.as_str(), MAX_MESSAGE)? else {
-        return Ok(None);
-    };
+// Makes the turns of the server, whose port was opened at the order's address.
+fn serve_over(
+    rt: &HostRuntime,
+    order: &ServeOrder,
+    serving: &mut FollowingServer<FollowedFile, UdpPort>,
+) -> Result<u8, ProgramFault>
+    requires bound { IsSocketOf order.now.bind serving.old.port.bound }
+    requires longest { serving.old.journal.max_message ≤ serving.old.server.max_message }
+{
+    let mut sink = standard_output(rt, order.live);
+    let outcome = follow_serve(rt.alloc(), serving, serve_turns(order), &mut sink);
+    Ok(flushed(outcome, sink.into_inner().flush())?)
+}
+
+// Prints the messages that the follower reads, each look's text at once.
+fn dump_followed(
+    rt: &HostRuntime,
+    order: &DumpOrder,
+    follower: &mut Follower<FollowedFile>,
+) -> Result<u8, CommandFault> {
     let options = DumpOptions {
         from: order.from,
         count: order.count,
@@ -118,7 +148,7 @@ pub fn run_follow_dump(rt: &HostRuntime, order: &DumpOrder) -> Result<Option<u8>
         sink: IntoWrite::live(rt.stdout()),
         errors: IntoWrite::new(rt.stderr()),
     };
-    let outcome = follow_dump(rt.alloc(), &mut follower, options, u64::MAX, &mut devices);
+    let outcome = follow_dump(rt.alloc(), follower, options, u64::MAX, &mut devices);
     let DumpDevices { sink, errors, .. } = devices;
     // No dump makes all looks.
     let outcome = match outcome {
@@ -126,5 +156,14 @@ pub fn run_follow_dump(rt: &HostRuntime, order: &DumpOrder) -> Result<Option<u8>
         Err(fault) => Err(fault),
     };
     let outcome = flushed(outcome, sink.into_inner().flush());
-    Ok(Some(flushed(outcome, errors.into_inner().flush())?))
+    flushed(outcome, errors.into_inner().flush())
+}
+
+/// Prints the messages of the order's journal as another process adds them, each look's text at once. Returns `None` if
+/// the file is not of version 3. If the file cannot be opened, the fault is `Read`.
+pub fn run_follow_dump(rt: &HostRuntime, order: &DumpOrder) -> Result<Option<u8>, CommandFault> {
+    match open_follower(rt, order.journal.as_str(), MAX_MESSAGE)? {
+        Some(mut follower) => Ok(Some(dump_followed(rt, order, &mut follower)?)),
+        None => Ok(None),
+    }
 }

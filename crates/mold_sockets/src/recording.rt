@@ -1,6 +1,6 @@
 //! The command `receive` with a journal, over UDP sockets.
 
-ghost use Rattle.std.specs.Prelude.{◌≡◌, [], false};
+ghost use Rattle.std.specs.Prelude.{◌≡◌, [], None, false, IfOk};
 
 use crate::receiving::{open_ports, open_session, receive_options, start_of};
 use crate::replacing::fault_of;
@@ -9,7 +9,7 @@ use mold_devices::{CommandFault, IntoWrite, write_all};
 use mold_durable::{DurableJournal, OpenError, Storage, create_file, open_file, sync_folder};
 use mold_follow::{device_fault, load_error};
 use mold_port_set::{PortSet, UdpPortSet};
-use mold_receive::{FirstPacket, Opened, ReceiveOptions, ReceiveParts, Unopened, end_unopened};
+use mold_receive::{Opened, ReceiveOptions, ReceiveParts, Unopened, end_unopened};
 use mold_recorder::record_loop;
 use mold_session::FileError;
 use mold_text::{Word, push_line};
@@ -33,9 +33,8 @@ const REFUSED: u8 = 2;
 #[derive(Drop)]
 struct Recording<S> {
     journal: DurableJournal<S>,
-    ports: UdpPortSet,
-    // A packet that the ports gave before, and that is taken first.
-    first: Option<FirstPacket>,
+    // The ports, and a packet that they gave before, which is taken first.
+    opened: Opened<UdpPortSet>,
 }
 
 // Prints a line of words on standard error.
@@ -98,29 +97,25 @@ fn options_of(
     Ok(receive_options(alloc, &order.receive, true)?)
 }
 
-// Receives the session, and keeps it in the journal.
-fn record_on<S: Storage + Drop>(
+// Receives the session from the ports, and keeps it in the journal.
+fn record_in<S: Storage + Drop>(
     alloc: Global,
     order: &RecordOrder,
-    recording: Recording<S>,
+    journal: &mut DurableJournal<S>,
+    opened: Opened<UdpPortSet>,
     errors: &mut IntoWrite<Stderr>,
 ) -> Result<u8, CommandFault>
-    requires open { recording.journal.closed ≡ false }
-    requires none { recording.journal.waiting ≡ [] }
+    requires open { journal.old.closed ≡ false }
+    requires none { journal.old.waiting ≡ [] }
 {
-    let Recording {
-        mut journal,
-        ports,
-        first,
-    } = recording;
     let options = options_of(alloc, order)?;
     let repairer = make_repairer(alloc, &order.receive, journal.session(), journal.next())?;
     let parts = ReceiveParts {
-        ports,
+        ports: opened.ports,
         repairer,
-        first,
+        first: opened.first,
     };
-    Ok(record_loop(alloc, parts, &options, &mut journal, errors)?.status)
+    Ok(record_loop(alloc, parts, &options, journal, errors)?.status)
 }
 
 // Receives the session, and keeps it in the journal. The name of its file is durable before the first message is.
@@ -138,7 +133,35 @@ fn keep<S: Storage + Drop>(
             return Err(fault_of(error));
         }
     }
-    Ok(record_on(rt.alloc(), order, recording, errors)?)
+    let Recording {
+        mut journal,
+        opened,
+    } = recording;
+    Ok(record_in(rt.alloc(), order, &mut journal, opened, errors)?)
+}
+
+// Prints what is known of a journal that was opened: that it is of another session, or how many messages it has and
+// whether the session is finished. Returns the status if the command ends with that.
+fn begin_resumed<S: Storage + Drop>(
+    alloc: Global,
+    order: &RecordOrder,
+    journal: &DurableJournal<S>,
+    errors: &mut IntoWrite<Stderr>,
+) -> Result<Option<u8>, CommandFault>
+    ensures { IfOk result (λ ended. ended ≡ None → journal.now.closed ≡ false) }
+{
+    match order.receive.session {
+        Some(name) if Session(name) != journal.session() => {
+            return Ok(Some(refuse_session(alloc, errors)?));
+        }
+        _ => {}
+    }
+    let words = [Word::Text(b"resumed"), Word::Number(journal.committed())];
+    print_words(alloc, &words, errors)?;
+    if journal.is_closed() {
+        return Ok(Some(end_closed(alloc, journal.next(), errors)?));
+    }
+    Ok(None)
 }
 
 // Continues the journal in the storage, if it is one of the order's session.
@@ -153,21 +176,13 @@ fn resume<S: Storage + Drop>(
         Ok(journal) => journal,
         Err(fault) => return Ok(refuse(alloc, load_error(fault.error), errors)?),
     };
-    match order.receive.session {
-        Some(name) if Session(name) != journal.session() => {
-            return Ok(refuse_session(alloc, errors)?);
-        }
-        _ => {}
+    if let Some(status) = begin_resumed(alloc, order, &journal, errors)? {
+        return Ok(status);
     }
-    let words = [Word::Text(b"resumed"), Word::Number(journal.committed())];
-    print_words(alloc, &words, errors)?;
-    if journal.is_closed() {
-        return Ok(end_closed(alloc, journal.next(), errors)?);
-    }
+    let ports = open_ports(rt, &order.receive)?;
     let recording = Recording {
         journal,
-        ports: open_ports(rt, &order.receive)?,
-        first: None,
+        opened: Opened { ports, first: None },
     };
     keep(rt, order, recording, errors)
 }
@@ -188,13 +203,7 @@ fn start<S: Storage + Drop>(
         // Only this process writes the file, so a read or the sync failed.
         _ => return Err(ProgramFault::Command(CommandFault::Write)),
     };
-    let Opened { ports, first } = opened;
-    let recording = Recording {
-        journal,
-        ports,
-        first,
-    };
-    keep(rt, order, recording, errors)
+    keep(rt, order, Recording { journal, opened }, errors)
 }
 
 // Prints the last line of a receiver that received no first packet, and returns the status.
