@@ -1,19 +1,52 @@
-//! Tests of `mold_wire`, `mold_devices`, `mold_ports`, `mold_port_set`, and of the loops of `mold_send`, `mold_serve`,
-//! `mold_listen` and `mold_loop`, over ports in memory.
+//! Tests of `mold_wire`, `mold_devices`, `mold_ports`, `mold_port_set`, of the loops of `mold_send`, `mold_serve`,
+//! `mold_listen`, `mold_loop`, `mold_receive` and `mold_recorder`, over ports in memory, and of `mold_pacing`, `mold_audit`,
+//! `mold_repair`, `mold_durable` and `mold_durable_publisher`.
 #![tactic(auto)]
 
 #[cfg(test)]
+mod audit;
+#[cfg(test)]
 mod comparisons;
+#[cfg(test)]
+mod crashes;
+#[cfg(test)]
+mod delays;
 #[cfg(test)]
 mod devices;
 #[cfg(test)]
+mod example;
+#[cfg(test)]
+mod failures;
+#[cfg(test)]
+mod files;
+#[cfg(test)]
+mod following;
+#[cfg(test)]
+mod journals;
+#[cfg(test)]
 mod listen;
+#[cfg(test)]
+mod opening;
+#[cfg(test)]
+mod pacer;
+#[cfg(test)]
+mod parts;
 #[cfg(test)]
 mod port_sets;
 #[cfg(test)]
 mod ports;
 #[cfg(test)]
 mod publish;
+#[cfg(test)]
+mod publishing;
+#[cfg(test)]
+mod receiving;
+#[cfg(test)]
+mod recording;
+#[cfg(test)]
+mod reopening;
+#[cfg(test)]
+mod repairer;
 #[cfg(test)]
 mod scripts;
 #[cfg(test)]

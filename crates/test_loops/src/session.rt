@@ -150,13 +150,16 @@ fn give_ports(
     Ok(())
 }
 
-// Publishes `LINES`.
-fn run<K: Sink>(
-    alloc: Global,
+// Publishes `LINES` with these parts.
+fn run_parts<K: Sink>(
     ports: &mut LoopPorts<MemoryPort>,
+    parts: &mut LoopParts,
     script: Script,
     sink: &mut K,
-) -> Result<Result<u8, CommandFault>, Fail> {
+) -> Result<u8, CommandFault>
+    requires room { HasRoom parts.old.publisher }
+    requires longest { parts.old.publisher.journal.max_message ≤ parts.old.server.max_message }
+{
     let options = LoopOptions {
         peers: PEERS,
         drops: Drops {
@@ -166,19 +169,22 @@ fn run<K: Sink>(
         turns: 9,
         reporting: false,
     };
-    let mut parts = new_parts(alloc)?;
+    let mut errors = MemorySink::new(parts.alloc);
     let mut source = MemorySource::new(LINES);
     source.at_most(THREE_LINES);
     source.fail_at(script.read_fails);
-    let mut errors = MemorySink::new(alloc);
-    Ok(session_loop::<HexLines, _, _, _, _>(
-        ports,
-        &options,
-        &mut parts,
-        &mut source,
-        sink,
-        &mut errors,
-    ))
+    session_loop::<HexLines, _, _, _, _>(ports, &options, parts, &mut source, sink, &mut errors)
+}
+
+// Publishes `LINES`.
+fn run<K: Sink>(
+    alloc: Global,
+    ports: &mut LoopPorts<MemoryPort>,
+    script: Script,
+    sink: &mut K,
+) -> Result<Result<u8, CommandFault>, Fail> {
+    let mut parts = new_parts(alloc)?;
+    Ok(run_parts(ports, &mut parts, script, sink))
 }
 
 fn expect_ports(rt: &impl Abort, ports: &LoopPorts<MemoryPort>, wanted: &Ran, at: usize) {

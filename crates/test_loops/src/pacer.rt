@@ -85,7 +85,7 @@ fn is_request(ask: Ask, wanted: Request) -> bool {
 
 fn expect_calls(rt: &impl Abort, pacer: &mut Pacer, calls: &[Call]) {
     for (at, call) in calls.iter().enumerate() {
-        holds_at(rt, call.is_taken(pacer), at);
+        holds_at(rt, call.is_taken(pacer), "row", at);
     }
 }
 

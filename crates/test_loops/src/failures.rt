@@ -53,7 +53,7 @@ fn is_committed(alloc: Global, k: u64, wanted: Result<(), CommitError>) -> Resul
 fn each_call_of_a_commit_fails(rt: HostRuntime) -> Result<(), Fail> {
     for k in 1..=4usize {
         let is_refused = is_committed(rt.alloc(), k as u64, Err(CommitError::Write))?;
-        holds_at(&rt, is_refused, k);
+        holds_at(&rt, is_refused, "row", k);
     }
     holds(&rt, is_committed(rt.alloc(), 5, Ok(()))?);
     Ok(())

@@ -99,7 +99,7 @@ fn is_taken(parts: &mut Parts, row: &Row) -> bool {
 
 fn expect_rows(rt: &impl Abort, parts: &mut Parts, rows: &[Row]) {
     for (at, row) in rows.iter().enumerate() {
-        holds_at(rt, is_taken(parts, row), at);
+        holds_at(rt, is_taken(parts, row), "row", at);
     }
 }
 
