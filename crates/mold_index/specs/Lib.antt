@@ -1,0 +1,4 @@
+pub mod Adding
+pub mod Index
+pub mod Layouts
+pub mod Piece
