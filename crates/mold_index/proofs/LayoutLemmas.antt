@@ -62,7 +62,7 @@ split_messages version messages k =
     sym (ap (messages_spelling version) (take-append-drop k messages))
     ∙ flat_map-append (message_spelling version) (take k messages) (drop k messages)
 
-length-before : (session : List ℕ) (closed : Bool) (version : FileVersion) (messages : List (List ℕ)) (number : ℕ) →
+pub length-before : (session : List ℕ) (closed : Bool) (version : FileVersion) (messages : List (List ℕ)) (number : ℕ) →
     length session ≡ 10 →
     length (head_spelling session closed version ++ messages_spelling version (take (number - 1) messages))
     ≡ offset_of (layout_of version) (lengths_of messages) number

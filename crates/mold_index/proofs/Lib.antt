@@ -4,3 +4,6 @@ pub mod FindLemmas
 pub mod PieceLemmas
 pub mod SizeLemmas
 pub mod LayoutLemmas
+pub mod ScanLemmas
+pub mod FoundLemmas
+pub mod ReadLemmas

@@ -12,3 +12,11 @@ pub enum IndexError {
     #[error("out of memory")]
     Memory,
 }
+
+/// The bytes are not a piece of a file with the message that was searched for.
+#[derive(Clone, Copy, Debug, PartialEq, Eq, Error)]
+#[error("no whole message follows the first {index} messages of a piece of the file")]
+pub struct NoMessage {
+    /// The number of whole messages before the bytes that do not begin with one.
+    pub index: u64,
+}

@@ -1,6 +1,8 @@
 //! Theorems about all indexes. Each law is a function with an empty body whose contract is the theorem.
 
-ghost use Rattle.std.specs.Prelude.{◌≡◌, ◌+◌, ◌-◌, ◌*◌, ◌/◌, ◌≤◌, ◌++◌, [], ℕ, Bool, List, Some, drop, length, map};
+ghost use Rattle.std.specs.Prelude.{◌≡◌, ◌+◌, ◌-◌, ◌/◌, ◌<◌, ◌≤◌, ◌++◌, [], ℕ, Bool, List, Some, drop, length, take};
+ghost use Rattle.std.specs.List.{AllByRecursion};
+ghost use Rattle.mold_wire.specs.Block.{IsMessage};
 ghost use Rattle.mold_session.specs.Answer.{from_number};
 ghost use Rattle.mold_session.specs.Journal.{message_numbered};
 ghost use Rattle.mold_session.specs.Loading.{SpellsFile, head_spelling, message_spelling, messages_spelling};
@@ -8,6 +10,9 @@ ghost use Rattle.mold_session.specs.declared.file_version.FileVersion.{FileVersi
 ghost use Rattle.mold_session.specs.declared.loading.FileHead.{FileHead};
 ghost use Rattle.mold_index.specs.Index.{IndexState, Indexes, fresh_index, offset_of};
 ghost use Rattle.mold_index.specs.Layouts.{BeginsWith, layout_of, lengths_of};
+ghost use Rattle.mold_index.specs.Piece.{IsPiece};
+ghost use Rattle.mold_index.specs.Scan.{EndAfter, FindsMessage, HasMessage};
+ghost use Rattle.mold_index.specs.declared.piece.Piece.{Piece};
 ghost use Rattle.mold_index.specs.declared.layout.Layout.{Layout};
 
 use crate::entries::{STRIDE_BYTES, STRIDE_MESSAGES};
@@ -58,4 +63,31 @@ pub fn offset_law()
         SpellsFile head messages head.version bytes → message_numbered messages number ≡ Some message →
         BeginsWith (message_spelling head.version message)
         (drop (offset_of (layout_of head.version) (lengths_of messages) number) bytes) }
+{}
+
+/// At most one message is found after the first `skip` messages of some bytes. If there is one, `find_message` does not
+/// refuse the bytes.
+pub fn find_law()
+    ensures one { (version : FileVersion) (skip : ℕ) (bytes one other rest more : List ℕ) →
+        FindsMessage (message_spelling version) skip bytes one rest →
+        FindsMessage (message_spelling version) skip bytes other more → (one ≡ other) × (rest ≡ more) }
+    ensures whole { (version : FileVersion) (skip count : ℕ) (bytes message rest : List ℕ) →
+        FindsMessage (message_spelling version) skip bytes message rest →
+        EndAfter (message_spelling version) count bytes → skip < count }
+{}
+
+/// A message is found in the piece of a file that `Index::piece` returns for it. The file is a head, messages and any
+/// other bytes. `number` is the message's number, and the piece is for messages from `from` up to, but not including,
+/// `to`. The message ends at most `most` bytes after the offset at which message `from` begins.
+pub fn piece_law()
+    ensures { (session : List ℕ) (closed : Bool) (version : FileVersion) (messages : List (List ℕ)) (rest : List ℕ)
+        (from to most number : ℕ) (piece : Piece) (message : List ℕ) → length session ≡ 10 →
+        AllByRecursion IsMessage messages →
+        IsPiece (layout_of version) (lengths_of messages) from to most piece →
+        from ≤ number → number < to → message_numbered messages number ≡ Some message →
+        offset_of (layout_of version) (lengths_of messages) (number + 1)
+        ≤ offset_of (layout_of version) (lengths_of messages) from + most →
+        HasMessage (message_spelling version) (number - piece.entry.number)
+        (take piece.len (drop piece.entry.offset
+        (head_spelling session closed version ++ (messages_spelling version messages ++ rest)))) message }
 {}
