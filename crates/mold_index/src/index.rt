@@ -139,7 +139,8 @@ impl Index {
     /// ends at most `most` bytes after the offset at which message `from` begins. If there is no message `from`, or `to`
     /// is not above it, `None` is returned.
     ///
-    /// So one read gets the messages of a datagram, into a buffer of `most` and 32,767 bytes.
+    /// So one read gets the messages of a datagram, into a buffer of `most` and 32,767 bytes. The messages of a datagram
+    /// take fewer bytes than its limit in a file of blocks, and fewer than twice its limit in a file of records.
     pub fn piece(&self, from: u64, to: u64, most: u64) -> Option<Piece>
         ensures some { IsSome result ↔ (HasNumber self.now from × (from < to)) }
         ensures found { (lengths : List ℕ) → Indexes self.now lengths →
