@@ -7,3 +7,4 @@ pub mod LayoutLemmas
 pub mod ScanLemmas
 pub mod FoundLemmas
 pub mod ReadLemmas
+pub mod SameLemmas

@@ -30,10 +30,14 @@ pub fn empty_law()
     ensures { (layout : Layout) → Indexes (fresh_index layout) [] }
 {}
 
-/// The layout and the lengths of the messages determine how many messages an index has, and where they end.
+/// The layout and the lengths of the messages determine the whole index.
 pub fn determined_law()
-    ensures { (one other : IndexState) (lengths : List ℕ) → Indexes one lengths → Indexes other lengths →
-        one.layout ≡ other.layout → (one.count ≡ other.count) × (one.end ≡ other.end) }
+    ensures count { (one other : IndexState) (lengths : List ℕ) → Indexes one lengths → Indexes other lengths →
+        one.count ≡ other.count }
+    ensures end { (one other : IndexState) (lengths : List ℕ) → Indexes one lengths → Indexes other lengths →
+        one.layout ≡ other.layout → one.end ≡ other.end }
+    ensures entries { (one other : IndexState) (lengths : List ℕ) → Indexes one lengths → Indexes other lengths →
+        one.layout ≡ other.layout → one.entries ≡ other.entries }
 {}
 
 /// An index has one entry for the first message, at most one for each 64 messages, and at most one for each 32,768 bytes.
