@@ -1,4 +1,4 @@
-//! Tests of `mold_session`, `mold_receiver`, `mold_rounds`, `mold_capture`, `mold_world`.
+//! Tests of `mold_session`, `mold_index`, `mold_receiver`, `mold_rounds`, `mold_capture`, `mold_world`.
 #![tactic(auto)]
 
 #[cfg(test)]
@@ -7,6 +7,8 @@ mod arbiter;
 mod capture;
 #[cfg(test)]
 mod comparisons;
+#[cfg(test)]
+mod index;
 #[cfg(test)]
 mod journal_file;
 #[cfg(test)]

@@ -1,0 +1,10 @@
+pub mod OffsetLemmas
+pub mod PushLemmas
+pub mod FindLemmas
+pub mod PieceLemmas
+pub mod SizeLemmas
+pub mod LayoutLemmas
+pub mod ScanLemmas
+pub mod FoundLemmas
+pub mod ReadLemmas
+pub mod SameLemmas

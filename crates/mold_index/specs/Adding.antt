@@ -1,0 +1,42 @@
+-- How a message is appended to an index.
+use Rattle.std.specs.Prelude.{ℕ, ◌+◌, ◌-◌, Bool, true, ◌==◌, ◌||◌, List, [], ◌∷◌, ◌++◌, length, nat_le, nat_lt, slice_get}
+use Rattle.std.specs.Prelude.{Option, None, Some, if◌then◌else◌}
+use Rattle.mold_session.specs.declared.journal.TheConstants.{MAX_MESSAGES}
+use Rattle.mold_index.specs.Index.{IndexState}
+use Rattle.mold_index.specs.declared.entries.TheConstants.{STRIDE_BYTES, STRIDE_MESSAGES}
+use Rattle.mold_index.specs.declared.entry.Entry.{Entry}
+use Rattle.mold_index.specs.declared.error.IndexError.{IndexError}
+use Rattle.mold_index.specs.declared.error.IndexError.TheVariants.{Full}
+use Rattle.mold_index.specs.declared.index.TheConstants.{MAX_END}
+
+-- Whether the index has no room for another message, of `len` bytes.
+abbrev pub is_full : IndexState → ℕ → Bool
+is_full index len = (index.count == MAX_MESSAGES) || nat_lt MAX_END (index.end + (index.layout.overhead + len))
+
+-- Why a message of `len` bytes can't be appended. If there is no reason, only an allocation can still fail.
+abbrev pub push_refusal : IndexState → ℕ → Option IndexError
+push_refusal index len = if is_full index len then Some Full else None
+
+-- Whether a message needs an entry: it is the first one, or far from the last entry.
+abbrev pub is_due : Option Entry → Entry → Bool
+is_due None next = true
+is_due (Some last) next =
+    nat_le STRIDE_MESSAGES (next.number - last.number) || nat_le STRIDE_BYTES (next.offset - last.offset)
+
+-- The entry for the next message.
+abbrev pub next_entry : IndexState → Entry
+next_entry index = record { number = index.count + 1; offset = index.end }
+
+-- Whether the next message needs an entry.
+abbrev pub needs_entry : IndexState → Bool
+needs_entry index = is_due (slice_get index.entries (length index.entries - 1)) (next_entry index)
+
+-- The entries, and one for the next message if it needs one.
+abbrev pub with_entry : List Entry → Entry → List Entry
+with_entry entries next =
+    if is_due (slice_get entries (length entries - 1)) next then entries ++ next ∷ [] else entries
+
+-- The offset of an entry, or `end` if there is no entry.
+abbrev pub offset_or : Option Entry → ℕ → ℕ
+offset_or None end = end
+offset_or (Some entry) end = entry.offset

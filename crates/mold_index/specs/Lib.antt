@@ -1,0 +1,5 @@
+pub mod Adding
+pub mod Index
+pub mod Layouts
+pub mod Piece
+pub mod Scan

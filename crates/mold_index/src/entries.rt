@@ -1,0 +1,60 @@
+//! The entries of an index, in ascending order.
+
+ghost use Rattle.std.specs.Prelude.{◌≡◌, ◌-◌, ◌<◌, ◌≤◌, false, length, slice_get, IsOk, OnErr, OnOk};
+ghost use Rattle.std.specs.List.Sorted.{IsNonDecreasingBy, IsPartitionPoint};
+ghost use Rattle.mold_index.specs.Adding.{is_due, offset_or, with_entry};
+
+use crate::entry::Entry;
+use std::alloc::AllocError;
+
+/// The number of messages after which an index has another entry at the latest.
+pub const STRIDE_MESSAGES: u64 = 64;
+
+/// The number of bytes after which an index has another entry at the latest: the next message that begins has one.
+pub const STRIDE_BYTES: u64 = 32_768;
+
+// Returns whether the next message needs an entry after these.
+fn is_due(entries: &[Entry], next: Entry) -> bool
+    ensures { result ≡ is_due (slice_get entries.now (length entries.now - 1)) next }
+{
+    match entries.last() {
+        Some(last) => {
+            next.number.saturating_sub(last.number) >= STRIDE_MESSAGES
+                || next.offset.saturating_sub(last.offset) >= STRIDE_BYTES
+        }
+        None => true,
+    }
+}
+
+/// Appends an entry for the next message, if it needs one.
+pub(crate) fn add_if_due(entries: &mut Vec<Entry>, next: Entry) -> Result<(), AllocError>
+    ensures added { OnOk result (entries.new.items ≡ with_entry entries.old.items next) }
+    ensures same { OnErr result (entries.new.items ≡ entries.old.items) }
+    ensures succeeds { is_due (slice_get entries.old.items (length entries.old.items - 1)) next ≡ false →
+        IsOk result }
+{
+    if !is_due(entries, next) {
+        return Ok(());
+    }
+    entries.push(next)?;
+    Ok(())
+}
+
+/// Returns the number of entries up to message `number`.
+pub(crate) fn count_up_to(entries: &[Entry], number: u64) -> usize
+    ensures bound { result ≤ length entries.now }
+    ensures split { IsNonDecreasingBy (λ entry. entry.number) entries.now →
+        IsPartitionPoint (λ entry. entry.number ≤ number) (λ entry. number < entry.number) entries.now result }
+{
+    entries.partition_point(|entry| entry.number <= number)
+}
+
+/// Returns the offset of the entry at index `i`, or `end` if there are at most `i` entries.
+pub(crate) fn offset_or(entries: &[Entry], i: usize, end: u64) -> u64
+    ensures { result ≡ offset_or (slice_get entries.now i) end }
+{
+    match entries.get(i) {
+        Some(entry) => entry.offset,
+        None => end,
+    }
+}
