@@ -25,12 +25,12 @@ fn split_block(bytes: &[u8]) -> Option<(&[u8], &[u8])>
     if bytes.len() < LENGTH_BYTES {
         return None;
     }
-    let (head, behind) = bytes.split_at(LENGTH_BYTES);
+    let (head, rest) = bytes.split_at(LENGTH_BYTES);
     let len = usize::from(BigEndian::read_u16(head));
-    if behind.len() < len {
+    if rest.len() < len {
         return None;
     }
-    Some(behind.split_at(len))
+    Some(rest.split_at(len))
 }
 
 // Returns the message of the record at the start of the bytes, and the bytes after it.
@@ -75,10 +75,10 @@ pub fn find_message(
 {
     let mut rest = bytes;
     for index in 0..skip {
-        let Some((_, behind)) = split_message(version, rest) else {
+        let Some((_, next)) = split_message(version, rest) else {
             return Err(NoMessage { index });
         };
-        rest = behind;
+        rest = next;
     }
     match split_message(version, rest) {
         Some(found) => Ok(found),
