@@ -79,9 +79,9 @@ pub fn record_loop<D: PortSet + Drop, S: Storage, E: Sink>(
     let mut recorder = FeedRecorder {
         feed,
         plan: CommitPlan::new(),
+        alloc,
     };
-    recorder.take_first(&first, journal)?;
-    let status = recorder.run(alloc, options, journal, errors)?;
-    let FeedRecorder { feed, plan: _ } = recorder;
+    let status = recorder.receive(&first, options, journal, errors)?;
+    let FeedRecorder { feed, .. } = recorder;
     Ok(feed.into_received(status))
 }
