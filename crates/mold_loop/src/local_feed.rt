@@ -25,7 +25,7 @@ ghost use Rattle.mold_session.specs.Publisher.{after_datagram, closed, next_data
 use crate::loop_parts::{Listener, LoopOptions, LoopPorts, Routes};
 use crate::looping::{print_last, print_refused};
 use crate::passing::{routes_of, send_on};
-use crate::receiving::receive_once;
+use crate::receiving::{receive_if, receive_once};
 use crate::writing::write_large;
 use mold_devices::{CommandFault, Sink, Source};
 use mold_input::{InputKind, MessageReader};
@@ -62,15 +62,10 @@ impl<'a, 'p, D: Datagrams + Drop> LocalFeed<'a, 'p, D> {
         ensures prints { Begins (unwritten self.old) (unwritten self.new) }
         ensures keeps { KeepsSide (outgoing self.old) (outgoing self.new) }
     {
-        if routes.a {
-            let a = &mut self.ports.a;
-            receive_once(a, Origin::Line(Line::A), self.buffer, self.listener)?;
-        }
-        if routes.b {
-            let b = &mut self.ports.b;
-            receive_once(b, Origin::Line(Line::B), self.buffer, self.listener)?;
-        }
-        Ok(())
+        let a = &mut self.ports.a;
+        receive_if(a, routes.a, Line::A, self.buffer, self.listener)?;
+        let b = &mut self.ports.b;
+        receive_if(b, routes.b, Line::B, self.buffer, self.listener)
     }
 
     // Sends a datagram on the lines of `routes`, and makes one receive on each line where the send succeeded.

@@ -18,6 +18,7 @@ use crate::last_line::{last_status, push_last};
 use crate::lines::{name_of, push_refused_from};
 use crate::printing::print_batch;
 use crate::receive_options::{NEVER, ReceiveOptions};
+use crate::receiving::Received;
 use crate::reporting::Reporting;
 use crate::statistics::Statistics;
 use mold_devices::{CommandFault, Sink};
@@ -29,6 +30,7 @@ use mold_receiver::{Batch, Line, Refusal};
 use mold_repair::{RepairOrigin, Repairer};
 use mold_text::{Word, push_line};
 use mold_turns::Outgoing;
+use mold_wire::MAX_LIMIT;
 use std::alloc::{AllocError, Global};
 
 /// The most datagrams that are taken from a port before the next one is looked at.
@@ -507,8 +509,8 @@ impl<D: PortSet + Drop> FeedReceiver<D> {
     // Makes the turns, and ends.
     pub(crate) fn run<K: Sink, E: Sink>(
         &mut self,
+        alloc: Global,
         options: &ReceiveOptions<D::Peer>,
-        buffer: &mut [u8],
         sink: &mut K,
         errors: &mut E,
     ) -> Result<u8, CommandFault>
@@ -518,8 +520,27 @@ impl<D: PortSet + Drop> FeedReceiver<D> {
         ensures failed { OnErr result (HasBroken options.now.lines options.now.servers.items
             self.old.outgoing.format D.modeled [] (state_of D.state self.old) (K.held sink.old) (K.held sink.new)) }
     {
-        self.take_turns(options, buffer, sink, errors)?;
+        let mut buffer = vec![in alloc; 0; MAX_LIMIT]?;
+        self.take_turns(options, buffer.as_mut_slice(), sink, errors)?;
         self.end(options, sink, errors)
+    }
+
+    /// Returns what a receiver that ended with this status leaves.
+    pub fn into_received(self, status: u8) -> Received<D>
+        ensures status { result.status ≡ status }
+        ensures ports { result.ports ≡ self.ports }
+        ensures repairer { result.repairer ≡ self.repairer }
+    {
+        let FeedReceiver {
+            ports,
+            repairer,
+            ..
+        } = self;
+        Received {
+            status,
+            ports,
+            repairer,
+        }
     }
 }
 

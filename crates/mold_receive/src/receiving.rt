@@ -9,7 +9,6 @@ use crate::receive_options::ReceiveOptions;
 use mold_devices::{CommandFault, Sink};
 use mold_port_set::PortSet;
 use mold_repair::Repairer;
-use mold_wire::MAX_LIMIT;
 use std::alloc::Global;
 
 /// What a receiver over ports works with.
@@ -70,18 +69,8 @@ pub fn receive_loop<D: PortSet + Drop, K: Sink, E: Sink>(
         repairer,
         first,
     } = parts;
-    let mut buffer = vec![in alloc; 0; MAX_LIMIT]?;
     let mut receiver = FeedReceiver::new(alloc, ports, repairer, options, options.format());
     receiver.take_first(&first)?;
-    let status = receiver.run(options, buffer.as_mut_slice(), sink, errors)?;
-    let FeedReceiver {
-        ports,
-        repairer,
-        ..
-    } = receiver;
-    Ok(Received {
-        status,
-        ports,
-        repairer,
-    })
+    let status = receiver.run(alloc, options, sink, errors)?;
+    Ok(receiver.into_received(status))
 }

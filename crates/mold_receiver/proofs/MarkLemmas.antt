@@ -97,3 +97,28 @@ marking_more old new left whole is = record {
   messages = is.messages;
   parts = is.parts;
 }
+
+-- Bytes that begin with the block of a message, cut after it.
+pub record IsCut (bytes : List ℕ) (message : Message) (messages : List Message) : Type 0 where
+  pub within : 2 + length message ≤ length bytes
+  pub first : take (2 + length message) bytes ≡ block message
+  pub behind : drop (2 + length message) bytes ≡ blocks messages
+
+pub is_cut :
+    (bytes : List ℕ) (message : Message) (messages : List Message) → bytes ≡ blocks (message ∷ messages) →
+    IsCut bytes message messages
+is_cut bytes message messages is =
+    let long : length (block message) ≡ 2 + length message =
+    omega (arith, length-append (be16 (length message)) message, two_long (length message)) in
+    record {
+      within = omega (
+        arith,
+        ap (λ (t : List ℕ). length t) is,
+        length-append (block message) (blocks messages),
+        long,
+      );
+      first = ap (take (2 + length message)) is
+          ∙ take_at (block message) (blocks messages) (2 + length message) long;
+      behind = ap (drop (2 + length message)) is
+          ∙ drop_at (block message) (blocks messages) (2 + length message) long;
+    }

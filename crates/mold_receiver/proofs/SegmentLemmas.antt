@@ -243,14 +243,14 @@ lost_of : (old new : Segments) (key count : ℕ)
     → ((at : ℕ) → Loses key count at (get old.table at) (get new.table at)) → HasLost old new key count
 lost_of old new key count loses = record { live = λ at. (loses at).0; bytes = λ at. (loses at).1 }
 
+pub count_none : (key at : ℕ) → count_at key 0 at ≡ 0
+count_none key at = elim (eqb key at) as (λ (b : Bool). ◌≡◌ {A = ℕ} (cond b 0 0) 0) [ true ↦ refl | false ↦ refl ]
+
 pub lost_none : (segments : Segments) (key : ℕ) → HasLost segments segments key 0
 lost_none segments key = record {
-  live = λ at. omega (arith, zero_at at);
+  live = λ at. omega (arith, count_none key at);
   bytes = λ at. inl (refl, λ none. none);
 }
-  where
-    zero_at : (at : ℕ) → count_at key 0 at ≡ 0
-    zero_at at = elim (eqb key at) as (λ (b : Bool). ◌≡◌ {A = ℕ} (cond b 0 0) 0) [ true ↦ refl | false ↦ refl ]
 
 pub lost_gone : (old new : Segments) (key count : ℕ) → live_at old key ≤ count →
     Updates old.table new.table key None → HasLost old new key count
@@ -350,3 +350,34 @@ spare_pushed old new small bytes are is room memory few = record {
   less = are.less;
   exact = are.exact;
 }
+
+-- The bytes in use of a segment that is there.
+pub used_there : (segments : Segments) (key : ℕ) (segment : Segment) → AreSegments segments →
+    get segments.table key ≡ Some segment → length (bytes_at segments key) ≡ segment.used
+used_there segments key segment are is =
+    omega (
+      arith,
+      ap (λ (o : Option Segment). length (bytes_of o)) is,
+      length-take segment.used segment.bytes.items,
+      (are.each key segment is).used,
+    )
+
+-- A key with bytes in use has a segment.
+pub is_there : (segments : Segments) (key : ℕ) → 0 < length (bytes_at segments key) → None ≡ get segments.table key → ⊥
+is_there segments key some none = absurd (omega (arith, some, ap (λ (o : Option Segment). length (bytes_of o)) none))
+
+-- A segment's bytes are moved to other memory, and more bytes are appended.
+pub are_moved : (old new : Segments) (key : ℕ) (before after : Segment) (memory : Vec ℕ Global) (more : ℕ)
+    → AreSegments old → 0 < length (bytes_at old key) → get old.table key ≡ Some before
+    → Updates old.table new.table key (Some after)
+    → IsMemoryFor memory (length (bytes_at old key) + more) (room_at old.roomy key)
+    → after.used ≡ before.used + more → length after.bytes.items ≡ length memory.items
+    → vec_capacity after.bytes ≡ vec_capacity memory → new.roomy ≡ old.roomy → AreSpare new.spare new.small
+    → AreSegments new
+are_moved old new key before after memory more are some is up fits filled size capacity roomy spare =
+    let used : after.used ≡ length (bytes_at old key) + more =
+    omega (arith, used_there old key before are is, filled) in
+    are_with old new key after are up
+    (new_segment after memory (length (bytes_at old key) + more) (room_at old.roomy key) fits used size capacity
+    (omega (arith, some)))
+    (are.keys key before is) (omega (arith, fits.most, size, used)) roomy spare

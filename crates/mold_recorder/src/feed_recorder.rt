@@ -16,6 +16,8 @@ use mold_durable::{DurableJournal, Storage};
 use mold_port_set::PortSet;
 use mold_receive::{AT_ONCE, FeedReceiver, FirstPacket, ReceiveOptions, last_status, origin_of};
 use mold_repair::{RepairOrigin, Repairer};
+use mold_wire::MAX_LIMIT;
+use std::alloc::Global;
 
 /// A receiver over ports, and when the messages that it delivered are committed. The journal that has them is an
 /// argument of each call.
@@ -23,6 +25,8 @@ use mold_repair::{RepairOrigin, Repairer};
 pub(crate) struct FeedRecorder<D> {
     pub(crate) feed: FeedReceiver<D>,
     pub(crate) plan: CommitPlan,
+    // The allocator of the receive buffer.
+    pub(crate) alloc: Global,
 }
 
 impl<D: PortSet + Drop> FeedRecorder<D> {
@@ -50,7 +54,7 @@ impl<D: PortSet + Drop> FeedRecorder<D> {
     }
 
     // Takes the first packet, if there is one. The ports gave it before.
-    pub(crate) fn take_first<S: Storage>(
+    fn take_first<S: Storage>(
         &mut self,
         first: &Option<FirstPacket>,
         journal: &mut DurableJournal<S>,
@@ -286,11 +290,31 @@ impl<D: PortSet + Drop> FeedRecorder<D> {
         Ok(last_status(&self.feed.repairer))
     }
 
-    // Makes the turns, and ends.
-    pub(crate) fn run<S: Storage, E: Sink>(
+    // Makes the turns, with a buffer for datagrams.
+    fn run_turns<S: Storage, E: Sink>(
         &mut self,
         options: &ReceiveOptions<D::Peer>,
-        buffer: &mut [u8],
+        journal: &mut DurableJournal<S>,
+        errors: &mut E,
+    ) -> Result<(), CommandFault>
+        requires plan { IsPlanOf self.old.plan journal.old.waiting }
+        ensures recorded { OnOk result (HasRecorded options.now.lines options.now.servers.items D.modeled
+            S.shows S.may_leave S.moment S.left_since [] (state_of D.state self.old.feed)
+            (state_of D.state self.new.feed) journal.old journal.new) }
+        ensures stopped { OnErr result (HasStopped options.now.lines options.now.servers.items D.modeled
+            S.shows S.may_leave S.moment S.left_since [] (state_of D.state self.old.feed)
+            (state_of D.state self.new.feed) journal.old journal.new) }
+        ensures said { OnOk result (HasSaid (E.held errors.old) (E.held errors.new) []) }
+        ensures format { self.new.feed.outgoing.format ≡ self.old.feed.outgoing.format }
+    {
+        let mut buffer = vec![in self.alloc; 0; MAX_LIMIT]?;
+        self.take_turns(options, buffer.as_mut_slice(), journal, errors)
+    }
+
+    // Makes the turns, and ends.
+    fn run<S: Storage, E: Sink>(
+        &mut self,
+        options: &ReceiveOptions<D::Peer>,
         journal: &mut DurableJournal<S>,
         errors: &mut E,
     ) -> Result<u8, CommandFault>
@@ -306,13 +330,39 @@ impl<D: PortSet + Drop> FeedRecorder<D> {
             (E.held errors.new)
             (last_line self.new.feed.repairer (D.state self.new.feed.ports).failures)) }
     {
-        match self.take_turns(options, buffer, journal, errors) {
+        match self.run_turns(options, journal, errors) {
             Ok(()) => self.end(options, journal, errors),
             Err(fault) => {
                 save(journal);
                 Err(fault)
             }
         }
+    }
+
+    // Takes the first packet, if there is one, makes the turns, and ends.
+    // For the prover: `record_loop` owns the recorder, so it makes no other call that may fail.
+    pub(crate) fn receive<S: Storage, E: Sink>(
+        &mut self,
+        first: &Option<FirstPacket>,
+        options: &ReceiveOptions<D::Peer>,
+        journal: &mut DurableJournal<S>,
+        errors: &mut E,
+    ) -> Result<u8, CommandFault>
+        requires plan { IsPlanOf self.old.plan journal.old.waiting }
+        ensures ended { OnOk result (HasEnded options.now.lines options.now.servers.items D.modeled S.shows S.may_leave
+            S.moment S.left_since (datagram_of_first options.now.lines first.now) (state_of D.state self.old.feed)
+            (state_of D.state self.new.feed) journal.old journal.new) }
+        ensures broken { OnErr result (HasBroken options.now.lines options.now.servers.items D.modeled S.shows
+            S.may_leave S.moment S.left_since (datagram_of_first options.now.lines first.now)
+            (state_of D.state self.old.feed) journal.old journal.new) }
+        ensures saved { OnErr result (IsSaved journal.new) }
+        ensures status { IfOk result (λ status. status ≡ last_status self.new.feed.repairer) }
+        ensures said { self.old.feed.outgoing.format ≡ Blocks → OnOk result (HasSaid (E.held errors.old)
+            (E.held errors.new)
+            (last_line self.new.feed.repairer (D.state self.new.feed.ports).failures)) }
+    {
+        self.take_first(first, journal)?;
+        self.run(options, journal, errors)
     }
 }
 

@@ -15,7 +15,6 @@ use mold_port_set::PortSet;
 use mold_receive::{FeedReceiver, ReceiveOptions, ReceiveParts, Received};
 use mold_receiver::{Receiver, ReceiverError};
 use mold_repair::laws::order_law;
-use mold_wire::MAX_LIMIT;
 use std::alloc::Global;
 
 /// Returns a receiver for the messages that follow those of the journal, with this window. `Receiver::wide` has the
@@ -76,23 +75,13 @@ pub fn record_loop<D: PortSet + Drop, S: Storage, E: Sink>(
         repairer,
         first,
     } = parts;
-    let mut buffer = vec![in alloc; 0; MAX_LIMIT]?;
     let feed = FeedReceiver::new(alloc, ports, repairer, options, MessageFormat::Blocks);
     let mut recorder = FeedRecorder {
         feed,
         plan: CommitPlan::new(),
+        alloc,
     };
-    recorder.take_first(&first, journal)?;
-    let status = recorder.run(options, buffer.as_mut_slice(), journal, errors)?;
-    let FeedRecorder { feed, plan: _ } = recorder;
-    let FeedReceiver {
-        ports,
-        repairer,
-        ..
-    } = feed;
-    Ok(Received {
-        status,
-        ports,
-        repairer,
-    })
+    let status = recorder.receive(&first, options, journal, errors)?;
+    let FeedRecorder { feed, .. } = recorder;
+    Ok(feed.into_received(status))
 }

@@ -38,3 +38,8 @@ returns-then-are_free-clause-count c =
     (c.are_free.ensures.0 c.if-are_free.true) in
     c.from-then-are_free.ensures ∙ c.len-count.ensures.length
     ∙ sym (all_fresh slots c.args.first c.args.blocks.now free)
+
+pub keep_all-requires-clause-free : goal.keep_all-requires-clause-free
+keep_all-requires-clause-free c =
+    subst (λ (n : ℕ). AreFree (slots_on c.args.shelf.now) c.args.first n) (c.from.ensures ∙ c.len-count.ensures.length)
+    (c.are_free.ensures.0 c.if-are_free.true)

@@ -1,5 +1,5 @@
 use Rattle.std.proofs.Common.{◌≡◌, ℕ, suc, ◌+◌, ◌∷◌, List, length, drop, cond, Bool, ap, sym, ◌∙◌, arith}
-use Rattle.std.proofs.Common.{add-one, subst, true, false, slice_set, Some}
+use Rattle.std.proofs.Common.{add-one, refl, subst, true, false, slice_set, Some}
 use Rattle.std.specs.List.{AllByRecursion}
 use Rattle.std.proofs.lemmas.Bool.{cond-true, cond-false}
 use Rattle.mold_wire.specs.Block.{IsMessage, blocks}
@@ -8,14 +8,14 @@ use Rattle.mold_receiver.specs.Segments.{bytes_at, count_at}
 use Rattle.mold_receiver.specs.Shelf.{slots_on}
 use Rattle.mold_receiver.specs.Slots.{Slot}
 use Rattle.mold_receiver.specs.Store.{Message}
-use Rattle.mold_receiver.specs.Tight.{length_in}
+use Rattle.mold_receiver.specs.Tight.{ArePlaced, length_in}
 use Rattle.mold_receiver.specs.declared.place.Place.{Place}
 use Rattle.mold_receiver.proofs.KeepLemmas.{count_fresh, fresh_later, fresh_some, messages_behind}
 use Rattle.mold_receiver.proofs.KeepLemmas.{messages_no, messages_yes}
 use Rattle.mold_receiver.proofs.AboveLemmas.{fresh_short}
 use Rattle.mold_receiver.proofs.MarkLemmas.{block_there, is_there, message_there}
-use Rattle.mold_receiver.proofs.SegmentLemmas.{bytes_few}
-use Rattle.mold_receiver.proofs.TightLemmas.{longer_one, placed_more, placed_still}
+use Rattle.mold_receiver.proofs.SegmentLemmas.{bytes_few, count_none}
+use Rattle.mold_receiver.proofs.TightLemmas.{longer_one, placed_empty, placed_more, placed_still}
 use Rattle.mold_receiver.proofs.keep.mark_fresh.Goals.{then-is_free, else-is_free}
 use Rattle.mold_receiver.proofs.keep.mark_fresh.Goals as goal
 
@@ -160,3 +160,54 @@ overflow_add-at-then-is_free c =
       (is_there bytes c.loop-message.at message (fresh_messages slots (suc slot) rest) there).within,
       bytes_few c.loop-message.shelf.segments c.args.begin.segment i.kept.segments,
     )
+
+pub loop-message-init : goal.loop-message-init
+loop-message-init c =
+    let old = c.args.shelf.now in
+    rw (c.into_iter-message-iterator.ensures.into_iter_gives ∙ c.iter-message-items.ensures)
+    (record {
+      kept = c.requires.kept;
+      each = c.requires.each;
+      there = c.requires.there;
+      filled = refl;
+      count = omega arith;
+      order = omega arith;
+      numbered = refl;
+      bytes = λ k. refl;
+      placed = placed_empty old.ring c.args.first c.args.begin.segment;
+      longer = λ k. refl;
+    })
+
+pub returns-clause-filled : goal.returns-clause-filled
+returns-clause-filled c =
+    let i = c.loop-message.invariant in
+    sym (ap (filled (slots_on c.loop-message.shelf) c.loop-message.slot) c.in-None.ensures.steps.0) ∙ i.filled
+
+pub returns-clause-count : goal.returns-clause-count
+returns-clause-count c =
+    omega (
+      arith,
+      c.loop-message.invariant.count,
+      ap (λ (t : List Message). length (fresh (slots_on c.loop-message.shelf) c.loop-message.slot t))
+          c.in-None.ensures.steps.0,
+    )
+
+pub returns-clause-marked : goal.returns-clause-marked
+returns-clause-marked c =
+    let i = c.loop-message.invariant in
+    let shelf = c.loop-message.shelf in
+    let slot = c.loop-message.slot in
+    let key = c.args.begin.segment in
+    let none = c.in-None.ensures.steps.0 in
+    record {
+      bytes = i.bytes;
+      placed = subst (λ (n : ℕ). ArePlaced c.args.shelf.now.ring shelf.ring c.args.first n key)
+          (omega (arith, i.numbered, ap (λ (t : List Message). length t) none)) i.placed;
+      longer = λ k.
+          omega (
+            arith,
+            i.longer k,
+            ap (λ (t : List Message). count_at key (length (blocks (fresh_messages (slots_on shelf) slot t))) k) none,
+            count_none key k,
+          );
+    }

@@ -6,14 +6,17 @@ use Rattle.mold_devices.specs.Devices.{AppendsPrefix}
 use Rattle.mold_input.specs.declared.message_format.MessageFormat.{MessageFormat}
 use Rattle.mold_port_set.specs.PortSet.{PortSetState}
 use Rattle.mold_receive.specs.Receiving.{HasEnded, last_line, state_of}
-use Rattle.mold_receive.proofs.CallLemmas.{broken_end, broken_turn, ended_at, on_err_map, on_err_of}
+use Rattle.mold_receive.proofs.CallLemmas.{broken_end, broken_turn, broken_yet, ended_at, on_err_map, on_err_of}
 use Rattle.mold_repair.specs.declared.repairer.Repairer.{Repairer}
 use Rattle.mold_turns.specs.Outgoing.{note_text}
 use Rattle.mold_receive.proofs.feed_receiver.FeedReceiver.run.Goals as goal
 
+pub returns-in_err-buffer-clause-failed : goal.returns-in_err-buffer-clause-failed
+returns-in_err-buffer-clause-failed g c = on_err_of c.from_residual.result (broken_yet _ _ _ _ _ _ _)
+
 pub returns-in_err-take_turns-clause-failed : goal.returns-in_err-take_turns-clause-failed
 returns-in_err-take_turns-clause-failed g c =
-    on_err_of c.from_residual.result (broken_turn _ _ _ _ _ _ _ c.in_err-take_turns.ensures.failed)
+    on_err_of c.from_residual-in_err-take_turns.result (broken_turn _ _ _ _ _ _ _ c.in_err-take_turns.ensures.failed)
 
 pub returns-clause-failed : goal.returns-clause-failed
 returns-clause-failed g c =

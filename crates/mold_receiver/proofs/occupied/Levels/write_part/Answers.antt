@@ -35,3 +35,19 @@ returns-clause-levels c =
     c.write_bits-3.ensures in
     levels_written_4 c.args.self.now _ c.args.from c.args.to _ c.requires.levels _ _ bits c.if-not-write_bits.false words
     _ c.if-not-write_bits-2.false groups c.if-not-write_bits-3.false c.write_bits-4.ensures.bits
+
+pub returns-then-not-write_bits-clause-written : goal.returns-then-not-write_bits-clause-written
+returns-then-not-write_bits-clause-written c =
+    (write_in c.args.self.now.bits c.deref_mut.ensures.value c.deref_mut.ensures.len c.write_bits.ensures).bits
+
+pub returns-then-not-write_bits-2-clause-written : goal.returns-then-not-write_bits-2-clause-written
+returns-then-not-write_bits-2-clause-written c =
+    (write_in c.args.self.now.bits c.deref_mut.ensures.value c.deref_mut.ensures.len c.write_bits.ensures).bits
+
+pub returns-then-not-write_bits-3-clause-written : goal.returns-then-not-write_bits-3-clause-written
+returns-then-not-write_bits-3-clause-written c =
+    (write_in c.args.self.now.bits c.deref_mut.ensures.value c.deref_mut.ensures.len c.write_bits.ensures).bits
+
+pub returns-clause-written : goal.returns-clause-written
+returns-clause-written c =
+    (write_in c.args.self.now.bits c.deref_mut.ensures.value c.deref_mut.ensures.len c.write_bits.ensures).bits

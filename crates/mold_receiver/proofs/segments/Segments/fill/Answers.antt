@@ -1,8 +1,8 @@
-use Rattle.std.proofs.Common.{◌≡◌, Some, ap, refl, sym, arith}
+use Rattle.std.proofs.Common.{◌≡◌, Some, ap, length-take, refl, sym, arith}
 use Rattle.std.specs.Prelude.{is_some}
 use Rattle.slab.proofs.SlabLemmas.{Updates-with_value}
 use Rattle.slab.specs.Slab.{get}
-use Rattle.mold_receiver.proofs.SegmentLemmas.{are_with, filled_segment}
+use Rattle.mold_receiver.proofs.SegmentLemmas.{appended_with, are_with, filled_segment}
 use Rattle.mold_receiver.proofs.segments.Segments.fill.Goals as goal
 
 pub returns-clause-whole : goal.returns-clause-whole
@@ -18,3 +18,14 @@ returns-clause-whole c =
     (c.requires.keys key before had)
     (omega (arith, c.requires.size key before had, c.fill.ensures.filled.size, c.fill.ensures.filled.used)) refl
     c.requires.spare
+
+pub returns-clause-appended : goal.returns-clause-appended
+returns-clause-appended c =
+    let old = c.args.self.now in
+    let key = c.args.key in
+    let before = c.in_ok-segment.segment.now in
+    let had : get old.table key ≡ Some before = sym c.in_ok-segment.ensures.value in
+    appended_with old _ _ (Some before) c.fill.new.self c.args.bytes.now had
+    (Updates-with_value old.table key c.fill.new.self (ap is_some had))
+    (omega (arith, length-take before.used before.bytes.items, (c.requires.each key before had).used))
+    c.fill.ensures.filled.live c.fill.ensures.used

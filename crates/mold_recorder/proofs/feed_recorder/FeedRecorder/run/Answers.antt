@@ -12,7 +12,7 @@ returns-in-Err-clause-broken g c =
     stopped_broken g.S.Storage.shows g.S.Storage.may_leave g.S.Storage.moment g.S.Storage.left_since
     c.args.options.now.lines
     c.args.options.now.servers.items g.D.PortSet.modeled [] (state_of g.D.PortSet.state c.args.self.now.feed)
-    (state_of g.D.PortSet.state c.take_turns.new.self.feed) c.args.journal.now c.save.new.journal
+    (state_of g.D.PortSet.state c.run_turns.new.self.feed) c.args.journal.now c.save.new.journal
     (stopped_saved g.S.Storage.shows g.S.Storage.may_leave g.S.Storage.moment g.S.Storage.left_since
     g.met.S.Storage.only_now _ _ _ _ _ _ _ _ _ c.in-Err.ensures.stopped c.save.ensures.unwritten
     c.save.ensures.committed c.save.ensures.leaves)
@@ -38,4 +38,4 @@ returns-in-Ok-clause-said g c = λ blocks.
     subst (λ (s : RecorderState g.row.D-Peer.Denot). HasSaid (g.E.Sink.held c.args.errors.now)
     (g.E.Sink.held c.end.new.errors) (last_line s.repairer s.ports.failures)) (sym c.end.ensures.state)
     (said_then _ _ _ _ c.in-Ok.ensures.said said))
-    (c.end.ensures.said (c.take_turns.ensures.format ∙ blocks))
+    (c.end.ensures.said (c.run_turns.ensures.format ∙ blocks))

@@ -1,11 +1,31 @@
-use Rattle.std.proofs.Common.{ap}
+use Rattle.std.proofs.Common.{◌≡◌, ◌∙◌, ap}
+use Rattle.std.specs.Prelude.{Result, Ok, Err, OnErr, OnOk}
 use Rattle.std.proofs.lemmas.Result.{on_ok_weaker}
 use Rattle.mold_port_set.specs.PortSet.{PortSetState}
 use Rattle.mold_receive.proofs.CallLemmas.{on_err_of, on_ok_all}
 use Rattle.mold_recorder.proofs.RecordingLemmas.{delivered_asked, delivered_none, recorded_still, recorded_then}
 use Rattle.mold_recorder.proofs.RecordingLemmas.{said_one}
 use Rattle.mold_recorder.proofs.RecordingLemmas.{stopped_of, stopped_then}
+use Rattle.mold_turns.specs.Outgoing.{OutgoingState, said_out}
 use Rattle.mold_recorder.proofs.feed_recorder.FeedRecorder.turn.Goals as goal
+
+-- A write to standard error keeps the format.
+side_format : {T E : Type 0} (result : Result T E) (old new : OutgoingState) → OnOk result (new ≡ said_out old) →
+    OnErr result (new ≡ old) → new.format ≡ old.format
+side_format (Ok x) old new out same = ap (λ (o : OutgoingState). o.format) out
+side_format (Err e) old new out same = ap (λ (o : OutgoingState). o.format) same
+
+pub returns-in_err-receive_all-clause-format : goal.returns-in_err-receive_all-clause-format
+returns-in_err-receive_all-clause-format g c = c.receive_all.ensures.format ∙ c.pause.ensures.format
+
+pub returns-in_err-report-clause-format : goal.returns-in_err-report-clause-format
+returns-in_err-report-clause-format g c =
+    c.report.ensures.format ∙ c.request_all.ensures.format ∙ c.receive_all.ensures.format ∙ c.pause.ensures.format
+
+pub returns-clause-format : goal.returns-clause-format
+returns-clause-format g c =
+    side_format c.send_side.result _ _ c.send_side.ensures.empty c.send_side.ensures.same
+    ∙ c.report.ensures.format ∙ c.request_all.ensures.format ∙ c.receive_all.ensures.format ∙ c.pause.ensures.format
 
 pub returns-in_err-pause-clause-stopped : goal.returns-in_err-pause-clause-stopped
 returns-in_err-pause-clause-stopped g c =
