@@ -21,8 +21,8 @@ use std::marker::Model;
 pub const MAX_END: u64 = 9_223_372_036_854_775_807;
 
 /// The index of a file: where each message begins. It takes memory only for its entries, 16 bytes for each, and at most
-/// twice that, since the memory is doubled when it is full. There is an entry for the first message, and for each message
-/// that is 64 messages or more, or 32,768 bytes or more, after the entry before it.
+/// twice that, since the memory is doubled when it is full. There is an entry for the first message, and for each
+/// message that is 64 messages or more, or 32,768 bytes or more, after the entry before it.
 #[derive(Drop)]
 pub struct Index {
     layout: Layout,
@@ -72,8 +72,8 @@ impl Index {
         self.count
     }
 
-    /// Returns the offset at which the last message ends. If there is no message, it is the offset at which the first one
-    /// will begin.
+    /// Returns the offset at which the last message ends. If there is no message, it is the offset at which the first
+    /// one will begin.
     pub fn end(&self) -> u64
         ensures value { result ≡ self.now.end }
         ensures index { IsIndex self.now }
@@ -83,8 +83,8 @@ impl Index {
 
     /// Appends a message of `len` bytes: the next one of the file. After an error the index is unchanged.
     ///
-    /// It allocates only if the message needs an entry and the memory of the entries is full. Otherwise it takes constant
-    /// time.
+    /// It allocates only if the message needs an entry and the memory of the entries is full. Otherwise it takes
+    /// constant time.
     pub fn push(&mut self, len: u16) -> Result<(), IndexError>
         ensures indexes { (lengths : List ℕ) → Indexes self.old lengths →
             OnOk result (Indexes self.new (lengths ++ len ∷ [])) }
@@ -119,8 +119,9 @@ impl Index {
         1 <= number && number <= self.count
     }
 
-    /// Returns the last entry at or before message `number`, or `None` if there is no such message. From there, the message
-    /// is found by reading the lengths of at most 63 messages. It takes time that is logarithmic in the number of entries.
+    /// Returns the last entry at or before message `number`, or `None` if there is no such message. From there, the
+    /// message is found by reading the lengths of at most 63 messages. It takes time that is logarithmic in the number
+    /// of entries.
     pub fn find(&self, number: u64) -> Option<Entry>
         ensures some { IsSome result ↔ HasNumber self.now number }
         ensures found { (lengths : List ℕ) → Indexes self.now lengths →
@@ -135,12 +136,13 @@ impl Index {
     }
 
     /// Returns the piece of the file to read for messages from `from` up to, but not including, `to`, of which at most
-    /// `most` bytes are needed. It begins with the entry that `find` returns for `from`. It has each of these messages that
-    /// ends at most `most` bytes after the offset at which message `from` begins. If there is no message `from`, or `to`
-    /// is not above it, `None` is returned.
+    /// `most` bytes are needed. It begins with the entry that `find` returns for `from`. It has each of these messages
+    /// that ends at most `most` bytes after the offset at which message `from` begins. If there is no message `from`,
+    /// or `to` is not above it, `None` is returned.
     ///
-    /// So one read gets the messages of a datagram, into a buffer of `most` and 32,767 bytes. The messages of a datagram
-    /// take fewer bytes than its limit in a file of blocks, and fewer than twice its limit in a file of records.
+    /// So one read gets the messages of a datagram, into a buffer of `most` and 32,767 bytes. The messages of a
+    /// datagram take fewer bytes than its limit in a file of blocks, and fewer than twice its limit in a file of
+    /// records.
     pub fn piece(&self, from: u64, to: u64, most: u64) -> Option<Piece>
         ensures some { IsSome result ↔ (HasNumber self.now from × (from < to)) }
         ensures found { (lengths : List ℕ) → Indexes self.now lengths →
