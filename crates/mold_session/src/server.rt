@@ -277,10 +277,12 @@ impl Server {
         ensures to { plan.new.to ≡ plan.old.to }
         ensures refused { IfErr result (λ error. (shown : JournalState) → J.shows journal.old shown →
             shown.max_message ≤ self.old.max_message → IsPlanOf shown plan.old → error ≡ FileError.Read) }
+        ensures unspent { OnErr result (¬ IsSpent plan.old) }
         ensures kept { OnErr result (plan.new ≡ plan.old) }
         ensures shown { (shown : JournalState) → J.shows journal.old shown → J.shows journal.new shown }
         ensures failures { CountsLoad (J.failed journal.old) (J.failed journal.new) result }
         ensures plan { IsPlan plan.old }
+        ensures server { IfOk result (λ datagram. OnSome datagram (IsServer self.old)) }
     {
         front_law();
         true_packet_law();

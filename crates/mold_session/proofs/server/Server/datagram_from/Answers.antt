@@ -46,9 +46,11 @@ returns g c =
         session = ap (λ (p : PlanState). p.session) c.advance.ensures;
         to = ap (λ (p : PlanState). p.to) c.advance.ensures;
         refused = tt;
+        unspent = tt;
         kept = tt;
         shown = packed.shown;
         failures = packed.failures;
         plan = c.is_spent.ensures.plan;
+        server = server;
       },
     )
