@@ -49,24 +49,24 @@ pub trait ServedJournal {
         ensures failures { CountsLoad (failed self.old) (failed self.new) result };
 }
 
-impl ServedJournal for Journal {
-    ghost shows = { λ j journal. journal ≡ j };
+impl ServedJournal for &Journal {
+    ghost shows = { λ j journal. journal ≡ j.now };
 
     ghost failed = { λ _. 0 };
 
     fn session(&self) -> Session {
-        self.session()
+        (**self).session()
     }
 
     fn max_message(&self) -> u16 {
-        self.max_message()
+        (**self).max_message()
     }
 
     fn next(&self) -> u64 {
-        self.next()
+        (**self).next()
     }
 
     fn pack(&mut self, packer: &mut Packer, plan: &Plan) -> Result<u64, FileError> {
-        Ok(pack_plan(packer, self, plan))
+        Ok(pack_plan(packer, *self, plan))
     }
 }

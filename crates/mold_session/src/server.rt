@@ -193,7 +193,7 @@ impl Server {
         ensures journal { IsJournal journal.now }
         ensures server { IsServer self.old }
     {
-        self.plan_from(journal, below, request)
+        self.plan_from(&journal, below, request)
     }
 
     /// Plans the responses to a request as `plan_below` does, from a journal in memory or in a file. No message is
