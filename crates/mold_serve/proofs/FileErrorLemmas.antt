@@ -1,15 +1,22 @@
 -- How a loop ends whose journal has an error.
-use Rattle.std.proofs.Common.{◌≡◌, ℕ, List, Option, Some, None, Result, Ok, Err, ap, inl, inr, refl, subst, sym, ◌∙◌}
+use Rattle.std.proofs.Common.{◌≡◌, ℕ, arith, List, Option, Some, None, Result, Ok, Err, ◌++◌, append_assoc, ap, inl, inr, refl, subst, sym, ◌∙◌}
 use Rattle.std.specs.Prelude.{IfErr, IsErrAnd}
+use Rattle.std.specs.Io.KnownBytes.{Appends}
+use Rattle.std.proofs.KnownBytes.{Appends-trans}
 use Rattle.mold_devices.specs.Devices.{AppendsPrefix}
-use Rattle.mold_devices.specs.Faults.{CountsCommand, CountsFault}
+use Rattle.mold_devices.specs.Faults.{CountsCommand, CountsFault, CountsSink}
 use Rattle.mold_devices.specs.Writing.{EndsWith}
 use Rattle.mold_devices.proofs.WritingLemmas.{ends_command, ends_front}
 use Rattle.mold_devices.specs.declared.fault.CommandFault.{CommandFault}
 use Rattle.mold_devices.specs.declared.fault.CommandFault.TheVariants as command
-use Rattle.mold_serve.specs.FileError.{IsReadOrMemory, device_fault}
+use Rattle.mold_refusals.specs.Words.{file_fault_words}
+use Rattle.mold_serve.specs.FileError.{EndsRefused, IsReadOrMemory, device_fault}
+use Rattle.mold_serve.specs.Tally.{EndsServed, served_line}
+use Rattle.mold_serve.specs.declared.tally.Tally.{Tally}
 use Rattle.mold_session.specs.Loading.{CountsLoadFault}
 use Rattle.mold_session.specs.declared.error.FileError.{FileError}
+use Rattle.mold_session.specs.declared.error.FileError.TheVariants.{Memory, Read}
+use Rattle.mold_text.specs.Text.{refused_line}
 
 -- a failed read or allocation is a fault
 pub not_refused : (error : FileError) → IsReadOrMemory error → device_fault error ≡ None → ⊥
@@ -65,3 +72,35 @@ pub counts_ended : {last : CommandFault} {old new : Option (List ℕ)} {text : L
 counts_ended {last} {old} {new} {text} source_old source_new sink_old sink_mid sink_new source sink ends =
     ends_command source_old source_new (source, refl)
     (subst (λ (n : ℕ). EndsWith command.Memory last old new text n sink_new) sink ends)
+
+-- a source that never fails gives the command no fault
+pub never_failed : (result : Result ℕ CommandFault) (old new : ℕ) → CountsCommand 0 0 old new result →
+    CountsSink old new result
+never_failed (Ok _) old new counts = counts.1
+never_failed (Err command.Read) old new counts = absurd (omega (arith, counts.0))
+never_failed (Err command.Write) old new counts = counts.1
+never_failed (Err command.Memory) old new counts = counts.1
+
+-- ---- what was written
+
+-- the text that earlier turns wrote precedes that of a later one
+pub refused_later : {old mid new : Option (List ℕ)} (text : List ℕ) → Appends old mid text → EndsRefused mid new →
+    EndsRefused old new
+refused_later {old} {mid} {new} text written ends = record {
+  text = text ++ ends.text;
+  error = ends.error;
+  bytes = ends.bytes;
+  appended =
+      subst (Appends old new) (sym (append_assoc text ends.text (refused_line (file_fault_words ends.error))))
+      (Appends-trans old mid new text _ written ends.appended);
+}
+
+pub served_later : (old mid new : Option (List ℕ)) (text before last : List ℕ) (tally : Tally) →
+    Appends old mid text → last ≡ before ++ served_line tally → Appends mid new last → EndsServed old new
+served_later old mid new text before last tally written is appended = record {
+  text = text ++ before;
+  tally = tally;
+  appended =
+      subst (Appends old new) (sym (append_assoc text before (served_line tally)))
+      (Appends-trans old mid new text _ written (subst (Appends mid new) is appended));
+}

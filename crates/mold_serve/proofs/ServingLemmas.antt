@@ -8,7 +8,7 @@ use Rattle.mold_ports.specs.Ports.{Port, Receipt, Datagram, Quiet, Failure, cut,
 use Rattle.mold_serve.specs.Answering.{MayOffer, Reaches}
 use Rattle.mold_serve.specs.FileError.{IsReadOrMemory}
 use Rattle.mold_serve.specs.Serving.{IsInNextTurn, IsSame, MayAnswer, Service, ResponderState, behind, fails_first, met, offer, offer_all}
-use Rattle.mold_serve.specs.Serving.{replied, reply, serve_turn, served_by, service_of, serving}
+use Rattle.mold_serve.specs.Serving.{replied, reply, responder_of, serve_turn, served_by, service_of, serving}
 use Rattle.mold_turns.specs.Outgoing.{OutgoingState}
 use Rattle.mold_serve.specs.Tally.{served_line, with_outgoing}
 use Rattle.mold_serve.specs.declared.responder.Responder.{Responder}
@@ -16,6 +16,7 @@ use Rattle.mold_serve.specs.declared.tally.Tally.{Tally}
 use Rattle.mold_session.specs.Answer.{FitAlone, PlanState}
 use Rattle.mold_session.specs.Journal.{JournalState, journal_below}
 use Rattle.mold_session.specs.Server.{ServerState, counted, planning}
+use Rattle.mold_session.specs.Loading.{CountsLoad}
 use Rattle.mold_session.specs.Serving.{IsPlanOf}
 use Rattle.mold_session.proofs.RequestCheckLemmas.{all_below}
 use Rattle.mold_session.specs.declared.error.AnswerError.{AnswerError}
@@ -347,3 +348,8 @@ pub failures_so : {J T : Type 0} (failed : J → ℕ) (result : Result T Command
     CountsCommand (failed old) (failed end) sink_old sink_new result
 failures_so {J} failed result old journal end sink_old sink_new is counts =
     subst (λ (j : J). CountsCommand (failed old) (failed j) sink_old sink_new result) (sym is) counts
+
+pub loads_so : {J T : Type 0} (failed : J → ℕ) (result : Result T FileError) (old journal end : J) →
+    end ≡ journal → CountsLoad (failed old) (failed journal) result → CountsLoad (failed old) (failed end) result
+loads_so {J} failed result old journal end is counts =
+    subst (λ (j : J). CountsLoad (failed old) (failed j) result) (sym is) counts

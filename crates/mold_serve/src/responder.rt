@@ -1,17 +1,17 @@
 //! The server at work: the requests that it receives on a port, and the responses that it sends.
 
-ghost use Rattle.std.specs.Prelude.{◌≡◌, ◌+◌, ◌≤◌, ◌<◌, ◌⊎◌, true, List, Bool, drop, length, IfErr, IfNone, IfOk, IfSome};
-ghost use Rattle.std.specs.Prelude.{MatchResult, OnErr, OnOk};
+ghost use Rattle.std.specs.Prelude.{◌≡◌, ◌<◌, ◌⊎◌, true, ℕ, List, Bool, drop, length, IfErr, IfNone, IfOk, IfSome};
+ghost use Rattle.std.specs.Prelude.{MatchResult, OnErr};
 ghost use Rattle.std.specs.Option.{OnSome};
 ghost use Rattle.std.specs.Io.KnownBytes.{Appends};
 ghost use Rattle.mold_devices.specs.Faults.{CountsCommand};
 ghost use Rattle.mold_serve.specs.Answering.{MayOffer, OffersNext, OffersOrStops, Reaches, left_of};
-ghost use Rattle.mold_serve.specs.FileError.{IsReadOrMemory};
+ghost use Rattle.mold_serve.specs.FileError.{EndsRefused, IsReadOrMemory};
 ghost use Rattle.mold_turns.specs.Outgoing.{IsBounded};
 ghost use Rattle.mold_turns.specs.Runs.{Begins, Ran, Rests, TurnRests, WrittenInTime};
 ghost use Rattle.mold_serve.specs.Serving.{IsInNextTurn, IsSame, MayAnswer, behind, offer_all, replied, reply};
 ghost use Rattle.mold_serve.specs.Serving.{serve_turn, served_by, service_of, serving, state};
-ghost use Rattle.mold_serve.specs.Tally.{served_line};
+ghost use Rattle.mold_serve.specs.Tally.{EndsServed, served_line};
 ghost use Rattle.mold_session.specs.Journal.{JournalState};
 ghost use Rattle.mold_session.specs.Loading.{CountsLoad};
 ghost use Rattle.mold_wire.specs.declared.limits.TheConstants.{MAX_LIMIT};
@@ -103,8 +103,8 @@ impl<'a, 'j, D: Datagrams, J: ServedJournal> Responder<'a, 'j, D, J> {
     /// Answers a request with datagrams to the requester, or refuses it. Each datagram that was sent is printed and
     /// counted, and so is a refusal. Each datagram is offered once, and a failed send is counted.
     ///
-    /// The error is `Memory` if an allocation failed, and otherwise that of the journal: `Read` if a read failed, or the
-    /// fault of a file that was damaged after it was opened. Part of the work is then done.
+    /// The error is `Memory` if an allocation failed, and otherwise that of the journal: `Read` if a read failed, or
+    /// the fault of a file that was damaged after it was opened. Part of the work is then done.
     pub fn answer_request(&mut self, from: D::Peer, request: &[u8]) -> Result<(), FileError>
         ensures replied { (journal : JournalState) →
             MayAnswer J.shows self.old.journal.now self.old.server.now journal → D.modeled ≡ true →
@@ -122,7 +122,10 @@ impl<'a, 'j, D: Datagrams, J: ServedJournal> Responder<'a, 'j, D, J> {
     {
         answered_law();
         answer_not_empty_law();
-        match self.server.plan_from(self.journal, self.journal.next(), request) {
+        match self
+            .server
+            .plan_from(self.journal, self.journal.next(), request)
+        {
             Ok(mut plan) => self.offer_all(&mut plan, from),
             Err(why) => match self.tally.add_refused(why) {
                 Ok(()) => Ok(()),
@@ -182,7 +185,10 @@ impl<'a, 'j, D: Datagrams, J: ServedJournal> Responder<'a, 'j, D, J> {
             Appends (K.held sink.old) (K.held sink.new) self.old.tally.now.outgoing.text) }
         ensures ended { IfOk result (λ ended. OnSome ended ((journal : JournalState) →
             ¬ MayAnswer J.shows self.old.journal.now self.old.server.now journal)) }
-        ensures status { IfOk result (λ ended. IfSome ended (λ status. status ≡ 2)) }
+        ensures refused { IfOk result (λ ended. IfSome ended (λ status.
+            (status ≡ 2) × EndsRefused (K.held sink.old) (K.held sink.new))) }
+        ensures written { IfOk result (λ ended. IfNone ended
+            ((text : List ℕ) × Appends (K.held sink.old) (K.held sink.new) text)) }
         ensures live { K.live sink.new ≡ K.live sink.old }
         ensures shown { (journal : JournalState) →
             J.shows self.old.journal.now journal → J.shows self.new.journal.now journal }
@@ -227,7 +233,10 @@ impl<'a, 'j, D: Datagrams, J: ServedJournal> Responder<'a, 'j, D, J> {
             (K.live sink.old) (K.held sink.old) (K.held sink.new) (IsInNextTurn (D.port self.new.port.now))) }
         ensures ended { IfOk result (λ ended. OnSome ended ((journal : JournalState) →
             ¬ MayAnswer J.shows self.old.journal.now self.old.server.now journal)) }
-        ensures status { IfOk result (λ ended. IfSome ended (λ status. status ≡ 2)) }
+        ensures refused { IfOk result (λ ended. IfSome ended (λ status.
+            (status ≡ 2) × EndsRefused (K.held sink.old) (K.held sink.new))) }
+        ensures written { IfOk result (λ ended. IfNone ended
+            ((text : List ℕ) × Appends (K.held sink.old) (K.held sink.new) text)) }
         ensures live { K.live sink.new ≡ K.live sink.old }
         ensures shown { (journal : JournalState) →
             J.shows self.old.journal.now journal → J.shows self.new.journal.now journal }
@@ -269,7 +278,9 @@ impl<'a, 'j, D: Datagrams, J: ServedJournal> Responder<'a, 'j, D, J> {
             (K.live sink.old) (K.held sink.old) (K.held sink.new) (IsInNextTurn (D.port self.new.port.now))) }
         ensures whole { IfOk result (λ status. (journal : JournalState) →
             MayAnswer J.shows self.old.journal.now self.old.server.now journal → status ≡ 0) }
-        ensures status { IfOk result (λ status. (status ≡ 0) ⊎ (status ≡ 2)) }
+        ensures status { IfOk result (λ status.
+            ((status ≡ 0) × EndsServed (K.held sink.old) (K.held sink.new))
+            ⊎ ((status ≡ 2) × EndsRefused (K.held sink.old) (K.held sink.new))) }
         ensures shown { (journal : JournalState) →
             J.shows self.old.journal.now journal → J.shows self.new.journal.now journal }
         ensures failures { (journal : JournalState) →

@@ -1,19 +1,56 @@
 //! The loop that serves a journal over a port.
 
-ghost use Rattle.std.specs.Prelude.{◌≡◌, ◌⊎◌, true, IfOk, OnErr};
+ghost use Rattle.std.specs.Prelude.{◌≡◌, ◌⊎◌, true, Bool, List, length, IfErr, IfOk, OnErr};
 ghost use Rattle.mold_devices.specs.Faults.{CountsCommand};
-ghost use Rattle.mold_turns.specs.Runs.{Ran, WrittenInTime};
-ghost use Rattle.mold_serve.specs.Serving.{IsInNextTurn, MayAnswer, responder_of, served_by, service_of, serving};
-ghost use Rattle.mold_serve.specs.Tally.{served_line, no_tally};
+ghost use Rattle.mold_turns.specs.Runs.{Begins, Ran, WrittenInTime};
+ghost use Rattle.mold_serve.specs.Answering.{Reaches};
+ghost use Rattle.mold_serve.specs.FileError.{EndsRefused, IsReadOrMemory};
+ghost use Rattle.mold_serve.specs.Serving.{IsInNextTurn, MayAnswer, responder_of, serve_turn, served_by, service_of};
+ghost use Rattle.mold_serve.specs.Serving.{serving};
+ghost use Rattle.mold_serve.specs.Tally.{EndsServed, served_line, no_tally};
 ghost use Rattle.mold_session.specs.Journal.{JournalState};
+ghost use Rattle.mold_session.specs.Loading.{CountsLoad};
+ghost use Rattle.mold_wire.specs.declared.limits.TheConstants.{MAX_LIMIT};
 
 use crate::responder::Responder;
 use crate::tally::Tally;
 use mold_devices::{CommandFault, Sink};
 use mold_ports::Datagrams;
-use mold_session::{ServedJournal, Server};
+use mold_session::{FileError, ServedJournal, Server};
 use mold_wire::MAX_LIMIT;
 use std::alloc::Global;
+
+/// Makes one turn of a server: receives once, and answers or refuses what was received. `buffer` has `MAX_LIMIT` bytes.
+/// The errors are those of `Responder::answer_request`.
+///
+/// For the toolchain, a caller whose journal is a reference (`&Journal`) calls this function, and makes no `Responder`
+/// of it.
+pub fn serve_once<D: Datagrams, J: ServedJournal>(
+    port: &mut D,
+    server: &mut Server,
+    journal: &mut J,
+    tally: &mut Tally,
+    buffer: &mut [u8],
+) -> Result<(), FileError>
+    requires { length buffer.old ≡ MAX_LIMIT }
+    ensures turn { (shown : JournalState) → MayAnswer J.shows journal.old server.old shown → D.modeled ≡ true →
+        (fails : List Bool) × Reaches result (responder_of (D.port port.new) tally.new server.new)
+        (serve_turn (service_of shown server.old) fails (responder_of (D.port port.old) tally.old server.old)) }
+    ensures prints { Begins tally.old.outgoing.text tally.new.outgoing.text }
+    ensures refused { IfErr result (λ error. (shown : JournalState) →
+        MayAnswer J.shows journal.old server.old shown → IsReadOrMemory error) }
+    ensures shown { (shown : JournalState) → J.shows journal.old shown → J.shows journal.new shown }
+    ensures failures { CountsLoad (J.failed journal.old) (J.failed journal.new) result }
+    ensures server { server.new ≡ record server.old { answered = server.new.answered } }
+{
+    let mut responder = Responder {
+        port,
+        server,
+        journal,
+        tally,
+    };
+    responder.take_turn(buffer)
+}
 
 /// Serves requests for the messages of a journal, for `turns` turns of one receive each. A request is answered with
 /// datagrams to the requester, or refused. A line is printed for each datagram that was sent and for each refused
@@ -45,7 +82,8 @@ pub fn serve_loop<D: Datagrams, K: Sink, J: ServedJournal>(
         (K.held sink.old) (K.held sink.new) (IsInNextTurn (D.port port.new))) }
     ensures whole { IfOk result (λ status. (shown : JournalState) →
         MayAnswer J.shows journal.old server.old shown → status ≡ 0) }
-    ensures status { IfOk result (λ status. (status ≡ 0) ⊎ (status ≡ 2)) }
+    ensures status { IfOk result (λ status. ((status ≡ 0) × EndsServed (K.held sink.old) (K.held sink.new))
+        ⊎ ((status ≡ 2) × EndsRefused (K.held sink.old) (K.held sink.new))) }
     ensures shown { (shown : JournalState) → J.shows journal.old shown → J.shows journal.new shown }
     ensures failures { (shown : JournalState) → MayAnswer J.shows journal.old server.old shown →
         CountsCommand (J.failed journal.old) (J.failed journal.new) (K.failed sink.old) (K.failed sink.new) result }

@@ -1,4 +1,4 @@
-use Rattle.std.proofs.Common.{◌≡◌, ◌∙◌, ℕ, Err, List, Result, ap, inl, refl, subst, take}
+use Rattle.std.proofs.Common.{◌≡◌, ◌∙◌, ℕ, Err, List, Result, ap, inl, inr, refl, subst, take}
 use Rattle.mold_devices.specs.Devices.{AppendsPrefix}
 use Rattle.mold_devices.specs.declared.fault.CommandFault.{CommandFault}
 use Rattle.mold_devices.proofs.WritingLemmas.{ends_front}
@@ -6,7 +6,7 @@ use Rattle.mold_ports.specs.Ports.{Port}
 use Rattle.mold_serve.specs.Serving.{IsInNextTurn, ResponderState, served_by, service_of, state}
 use Rattle.mold_serve.specs.Tally.{served_line}
 use Rattle.mold_serve.specs.declared.tally.Tally.{Tally}
-use Rattle.mold_serve.proofs.FileErrorLemmas.{counts_ended}
+use Rattle.mold_serve.proofs.FileErrorLemmas.{counts_ended, served_later}
 use Rattle.mold_serve.proofs.ServingLemmas.{serving_is}
 use Rattle.mold_session.specs.Server.{ServerState}
 use Rattle.mold_turns.proofs.PrintingLemmas.{front_more, kept_begins}
@@ -106,3 +106,17 @@ returns-in-Some-clause-whole g c journal may =
 pub returns-in-Some-clause-failures : goal.returns-in-Some-clause-failures
 returns-in-Some-clause-failures g c journal may =
     absurd ((rw c.in-Some.is at c.in_ok-status.ensures.ended) journal may)
+
+-- ---- what was written
+
+pub returns-in-Some-clause-status : goal.returns-in-Some-clause-status
+returns-in-Some-clause-status g c = inr (rw c.in-Some.is at c.in_ok-status.ensures.refused)
+
+pub returns-clause-status : goal.returns-clause-status
+returns-clause-status g c =
+    let written = rw c.in-None.is at c.in_ok-status.ensures.written in
+    inl (
+      refl,
+      served_later _ _ _ written.0 _ _ c.take_turns.new.self.tally.now written.1
+          (ap (λ (tally : Tally). tally.outgoing.text) c.in-Ok.ensures.line) c.in_ok-send.ensures.whole,
+    )

@@ -1,7 +1,8 @@
-use Rattle.std.proofs.Common.{◌≡◌, ◌∙◌, ℕ, inr, refl, subst, Bool, Ok, Result, Option, None, List, arith}
+use Rattle.std.proofs.Common.{◌≡◌, ◌∙◌, ◌++◌, [], ℕ, inr, refl, subst, Bool, Ok, Result, Option, None, List, arith}
+use Rattle.std.proofs.KnownBytes.{Appends-nil, Appends-trans}
 use Rattle.mold_devices.specs.declared.fault.CommandFault.{CommandFault}
 use Rattle.mold_serve.specs.Serving.{IsInNextTurn, ResponderState, Service, behind, service_of, serving, state}
-use Rattle.mold_serve.proofs.FileErrorLemmas.{counts_after}
+use Rattle.mold_serve.proofs.FileErrorLemmas.{counts_after, refused_later}
 use Rattle.mold_serve.proofs.ServingLemmas.{may_answer, same_at_first, same_twice, service_is, serving_is}
 use Rattle.mold_turns.specs.Outgoing.{IsBounded}
 use Rattle.mold_turns.specs.Runs.{Rests, TurnRests}
@@ -19,6 +20,7 @@ pub loop-turn-init : goal.loop-turn-init
 loop-turn-init g c = record {
   going = λ journal may modeled. going_init (serving_is (service_of journal c.args.self.now.server.now)) _ _;
   bounded = λ bounded. bounded;
+  written = ([], Appends-nil _);
   live = refl;
   shown = λ journal shows. shows;
   same = same_at_first c.args.self.now;
@@ -37,6 +39,9 @@ loop-turn-preserved g c =
       bounded = λ bounded.
           subst (λ (live : Bool). IsBounded live c.write_turn.new.self.tally.now.outgoing.text)
           was.live (rw c.in-None.is at c.in_ok-status.ensures.bounded);
+      written =
+          let more = rw c.in-None.is at c.in_ok-status.ensures.written in
+          (was.written.0 ++ more.0, Appends-trans _ _ _ was.written.0 more.0 was.written.1 more.1);
       live = c.in_ok-status.ensures.live ∙ was.live;
       shown = λ journal shows. c.in_ok-status.ensures.shown journal (was.shown journal shows);
       same = same_twice was.same c.in_ok-status.ensures.same;
@@ -122,3 +127,14 @@ returns-in-Some-clause-failures g c journal may =
 
 pub returns-in-Some-clause-same : goal.returns-in-Some-clause-same
 returns-in-Some-clause-same g c = same_twice c.loop-turn.invariant.same c.in_ok-status.ensures.same
+
+-- ---- what was written
+
+pub returns-in-Some-clause-refused : goal.returns-in-Some-clause-refused
+returns-in-Some-clause-refused g c =
+    let was = c.loop-turn.invariant in
+    let ended = rw c.in-Some.is at c.in_ok-status.ensures.refused in
+    (ended.0, refused_later was.written.0 was.written.1 ended.1)
+
+pub returns-clause-written : goal.returns-clause-written
+returns-clause-written g c = c.loop-turn.invariant.written

@@ -1,4 +1,5 @@
-use Rattle.std.proofs.Common.{◌≡◌, true, length}
+use Rattle.std.proofs.Common.{◌≡◌, ℕ, List, true, length}
+use Rattle.std.specs.Io.KnownBytes.{Appends}
 use Rattle.mold_serve.specs.Serving.{IsSame, MayAnswer, behind, service_of, serving, state}
 use Rattle.mold_serve.proofs.ServingLemmas.{Keeps}
 use Rattle.mold_session.specs.Journal.{JournalState}
@@ -25,6 +26,7 @@ invariant-loop-turn g l =
       bounded :
           IsBounded (g.K.Sink.live l.fn.sink) l.fn.self.tally.now.outgoing.text →
           IsBounded (g.K.Sink.live l.fn.sink) l.self.tally.now.outgoing.text;
+      written : (text : List ℕ) × Appends (g.K.Sink.held l.fn.sink) (g.K.Sink.held l.sink) text;
       live : g.K.Sink.live l.sink ≡ g.K.Sink.live l.fn.sink;
       shown : Keeps shows l.fn.self.journal.now l.self.journal.now;
       same : IsSame l.fn.self l.self;

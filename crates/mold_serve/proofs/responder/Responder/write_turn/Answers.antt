@@ -75,3 +75,16 @@ pub returns-in_err-send_large-clause-kept : goal.returns-in_err-send_large-claus
 returns-in_err-send_large-clause-kept g c =
     not_memory c.from_residual-in_err-send_large.result c.in_err-send_large.field-0.0 _ c.from_residual-in_err-send_large.ensures.1
     c.in_err-send_large.ensures.fault
+
+-- ---- what was written
+
+pub returns-in-Err-clause-refused : goal.returns-in-Err-clause-refused
+returns-in-Err-clause-refused g c =
+    let ended = c.in_ok-end_refused-in-Err.ensures in (
+      ended.status,
+      record { text = _; error = c.in-Err.error; bytes = ended.refused; appended = ended.line },
+    )
+
+pub returns-clause-written : goal.returns-clause-written
+returns-clause-written g c =
+    let moved = c.in_ok-send_large.ensures.moved in (moved.front, moved.appended)
