@@ -1,5 +1,5 @@
 -- Turns of a server that follows the file of its journal.
-use Rattle.std.proofs.Common.{◌≡◌, Bool, List, [], ℕ, None, Some, Result, Ok, Err, arith, sym, subst, ap, ◌∙◌, ⊎_elim}
+use Rattle.std.proofs.Common.{◌≡◌, Bool, List, [], None, Some, Result, Ok, Err, arith, sym, subst, ap, ◌∙◌, ⊎_elim}
 use Rattle.std.specs.Prelude.{IfErr, IsErr}
 use Rattle.mold_devices.specs.declared.fault.CommandFault.TheVariants as command
 use Rattle.mold_ports.specs.Ports.{Port, received}

@@ -19,7 +19,7 @@ use crate::catching_up::catch_up;
 use mold_devices::{CommandFault, Sink};
 use mold_durable::{Follower, GrowingFile};
 use mold_ports::Datagrams;
-use mold_serve::{Responder, Tally, end_refused};
+use mold_serve::{Asked, Tally, answer_once, end_refused};
 use mold_session::{FileError, Journal, Server};
 use mold_text::Word;
 use mold_wire::{MAX_LIMIT, Request};
@@ -117,13 +117,18 @@ impl<F: GrowingFile, D: Datagrams> FollowingServer<F, D> {
         ensures follower { self.new.follower ≡ self.old.follower }
         ensures memory { IfErr result (λ error. error ≡ FileError.Memory) }
     {
-        let mut responder = Responder {
-            port: &mut self.port,
-            server: &mut self.server,
-            journal: &mut self.journal,
-            tally: &mut self.tally,
+        let mut journal = &self.journal;
+        let asked = Asked {
+            from,
+            bytes: request,
         };
-        responder.answer_request(from, request)
+        answer_once(
+            &mut self.port,
+            &mut self.server,
+            &mut journal,
+            &mut self.tally,
+            asked,
+        )
     }
 
     /// Makes one turn: receives once, and answers or refuses what was received. Before a request is refused as `Ahead`,

@@ -8,7 +8,7 @@ use Rattle.mold_ports.specs.Ports.{Port, Receipt, Datagram, Quiet, Failure, cut,
 use Rattle.mold_serve.specs.Answering.{MayOffer, Reaches}
 use Rattle.mold_serve.specs.FileError.{IsReadOrMemory}
 use Rattle.mold_serve.specs.Serving.{IsInNextTurn, IsSame, MayAnswer, Service, ResponderState, behind, fails_first, met, offer, offer_all}
-use Rattle.mold_serve.specs.Serving.{replied, reply, responder_of, serve_turn, served_by, service_of, serving}
+use Rattle.mold_serve.specs.Serving.{replied, reply, serve_turn, served_by, service_of, serving}
 use Rattle.mold_turns.specs.Outgoing.{OutgoingState}
 use Rattle.mold_serve.specs.Tally.{served_line, with_outgoing}
 use Rattle.mold_serve.specs.declared.responder.Responder.{Responder}

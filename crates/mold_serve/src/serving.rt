@@ -20,38 +20,6 @@ use mold_session::{FileError, ServedJournal, Server};
 use mold_wire::MAX_LIMIT;
 use std::alloc::Global;
 
-/// Makes one turn of a server: receives once, and answers or refuses what was received. `buffer` has `MAX_LIMIT` bytes.
-/// The errors are those of `Responder::answer_request`.
-///
-/// For the toolchain, a caller whose journal is a reference (`&Journal`) calls this function, and makes no `Responder`
-/// of it.
-pub fn serve_once<D: Datagrams, J: ServedJournal>(
-    port: &mut D,
-    server: &mut Server,
-    journal: &mut J,
-    tally: &mut Tally,
-    buffer: &mut [u8],
-) -> Result<(), FileError>
-    requires { length buffer.old ≡ MAX_LIMIT }
-    ensures turn { (shown : JournalState) → MayAnswer J.shows journal.old server.old shown → D.modeled ≡ true →
-        (fails : List Bool) × Reaches result (responder_of (D.port port.new) tally.new server.new)
-        (serve_turn (service_of shown server.old) fails (responder_of (D.port port.old) tally.old server.old)) }
-    ensures prints { Begins tally.old.outgoing.text tally.new.outgoing.text }
-    ensures refused { IfErr result (λ error. (shown : JournalState) →
-        MayAnswer J.shows journal.old server.old shown → IsReadOrMemory error) }
-    ensures shown { (shown : JournalState) → J.shows journal.old shown → J.shows journal.new shown }
-    ensures failures { CountsLoad (J.failed journal.old) (J.failed journal.new) result }
-    ensures server { server.new ≡ record server.old { answered = server.new.answered } }
-{
-    let mut responder = Responder {
-        port,
-        server,
-        journal,
-        tally,
-    };
-    responder.take_turn(buffer)
-}
-
 /// Serves requests for the messages of a journal, for `turns` turns of one receive each. A request is answered with
 /// datagrams to the requester, or refused. A line is printed for each datagram that was sent and for each refused
 /// request, and a last line has the counts.

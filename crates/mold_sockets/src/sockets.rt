@@ -41,12 +41,12 @@ pub fn run_serve(rt: &HostRuntime, order: &ServeOrder) -> Result<u8, ProgramFaul
     let Ok(file) = File::open(rt, order.journal.as_str()) else {
         return Err(ProgramFault::Command(CommandFault::Read));
     };
-    let mut journal = match load_journal(rt.alloc(), order, &mut FromRead::new(file))? {
+    let journal = match load_journal(rt.alloc(), order, &mut FromRead::new(file))? {
         Ok(journal) => journal,
         Err(error) => return Ok(tell_refused(rt, error)?),
     };
     let mut port = open_port(rt, order.bind)?;
-    Ok(serve_on(rt, order, &mut port, &mut journal)?)
+    Ok(serve_on(rt, order, &mut port, &journal)?)
 }
 
 // Serves the journal over the port, which was opened at the order's address.
@@ -54,18 +54,19 @@ fn serve_on(
     rt: &HostRuntime,
     order: &ServeOrder,
     port: &mut UdpPort,
-    journal: &mut Journal,
+    journal: &Journal,
 ) -> Result<u8, CommandFault>
     requires bound { IsSocketOf order.now.bind port.old.bound }
-    requires longest { journal.old.max_message ≡ order.now.limit - MESSAGE_OVERHEAD }
+    requires longest { journal.now.max_message ≡ order.now.limit - MESSAGE_OVERHEAD }
 {
+    let mut journal = journal;
     let mut server = make_server(rt.alloc(), order)?;
     let mut sink = standard_output(rt, order.live);
     let outcome = serve_loop(
         rt.alloc(),
         port,
         &mut server,
-        journal,
+        &mut journal,
         serve_turns(order),
         &mut sink,
     );

@@ -50,8 +50,8 @@ returns-in-Err-clause-turn g c modeled = (
       (ap (λ (o : OutgoingState). with_outgoing o c.args.self.now.tally) c.count_failure.ensures))),
 )
 
-pub returns-in-Ok-Some-clause-turn : goal.returns-in-Ok-Some-clause-turn
-returns-in-Ok-Some-clause-turn g c modeled =
+pub returns-in_ok-look_up-in-Ok-Some-clause-turn : goal.returns-in_ok-look_up-in-Ok-Some-clause-turn
+returns-in_ok-look_up-in-Ok-Some-clause-turn g c modeled =
     let replied = c.answer.ensures.replied modeled in
     let came = rw c.in-Ok-Some.field-0-is at (c.in-Ok-Some.ensures.came modeled) in (
       replied.0,
@@ -62,5 +62,5 @@ returns-in-Ok-Some-clause-turn g c modeled =
           (c.receive.auto.buffer ∙ c.requires.buffer) came (c.receive.ensures.left modeled) replied.1),
     )
 
-pub returns-in-Ok-Some-clause-refused : goal.returns-in-Ok-Some-clause-refused
-returns-in-Ok-Some-clause-refused g c = memory_faults c.answer.result _ c.answer.ensures.memory
+pub returns-in_ok-look_up-in-Ok-Some-clause-refused : goal.returns-in_ok-look_up-in-Ok-Some-clause-refused
+returns-in_ok-look_up-in-Ok-Some-clause-refused g c = memory_faults c.answer.result _ c.answer.ensures.memory

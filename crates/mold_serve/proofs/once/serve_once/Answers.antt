@@ -1,9 +1,7 @@
 use Rattle.std.proofs.Common.{◌≡◌, rules, subst, sym}
-use Rattle.mold_serve.specs.declared.tally.Tally.{Tally}
 use Rattle.mold_serve.proofs.ServingLemmas.{kept_so, loads_so}
 use Rattle.mold_session.specs.Server.{ServerState}
-use Rattle.mold_turns.specs.Runs.{Begins}
-use Rattle.mold_serve.proofs.serving.serve_once.Goals as goal
+use Rattle.mold_serve.proofs.once.serve_once.Goals as goal
 
 pub returns-clause-turn : goal.returns-clause-turn
 returns-clause-turn g c shown may modeled =
