@@ -1,0 +1,5 @@
+pub mod PackLemmas
+pub mod FoundLemmas
+pub mod NextLemmas
+pub mod FileLemmas
+pub mod ShownLemmas

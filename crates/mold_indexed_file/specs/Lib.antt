@@ -1,0 +1,4 @@
+pub mod Buffer
+pub mod Packed
+pub mod Read
+pub mod Shown
