@@ -38,11 +38,11 @@ pub record IndexedState (F : Type 0) : Type 0 where
   -- the piece of the file that was read last
   pub buffer : BufferState
 
--- The buffer has a part of these bytes.
+-- The buffer has a part of these bytes, from the offset of its piece on.
 abbrev pub IsPartOf : List ℕ → BufferState → Type 0
 IsPartOf bytes buffer = buffer.bytes ≡ take (length buffer.bytes) (drop buffer.entry.offset bytes)
 
--- The file has the journal, and the index is that of the journal's messages.
+-- The file has the journal. The index is that of the journal's messages, and the buffer has a part of their bytes.
 pub record Shows {F : Type 0} (history : F → (ℕ → List ℕ) → Type 0) (moment : F → ℕ) (indexed : IndexedState F)
     (journal : JournalState) : Type 0 where
   pub named : indexed.session ≡ journal.session
@@ -50,6 +50,7 @@ pub record Shows {F : Type 0} (history : F → (ℕ → List ℕ) → Type 0) (m
   pub journaled : IsJournal journal
   pub indexes : Indexes indexed.index (lengths_of journal.messages)
   pub has : IsInFile history moment indexed.file indexed.version journal
+  pub part : IsPartOf (start_of indexed.version journal) indexed.buffer
 
 -- The size of the buffer: it has room for each piece that is read.
 abbrev pub buffer_size : FileVersion → ℕ → ℕ

@@ -114,14 +114,17 @@ impl<F: GrowingFile> IndexedFile<F> {
         self.index.push(len)
     }
 
-    // Reads the piece of the file that has the messages of a plan's next datagram, which has at most `limit` bytes.
+    // Reads the piece of the file that has the messages of a plan's next datagram, which has at most `limit` bytes. If the
+    // buffer has that piece, nothing is read.
     fn read_next(&mut self, plan: &Plan, limit: usize) -> Result<(), FileError>
         requires some { plan.now.from < plan.now.to }
         requires limit { limit ≤ MAX_LIMIT }
         ensures read { (bytes : ℕ → List ℕ) → F.history self.old.file bytes → OnOk result
             (HasReadFor self.old.index plan.now.from plan.now.to
             (most_bytes self.old.version limit self.old.max_message) bytes (F.moment self.old.file)
-            (F.moment self.new.file) self.new.buffer) }
+            (F.moment self.new.file) self.old.buffer self.new.buffer) }
+        ensures shown { (journal : JournalState) → Shows F.history F.moment self.old journal →
+            Shows F.history F.moment self.new journal }
         ensures before { OnOk result (self.new.buffer.entry.number ≤ plan.now.from) }
         ensures there { OnOk result (HasNumber self.old.index plan.now.from) }
         ensures refused { IfErr result (λ error. (error ≡ FileError.Read)
@@ -134,6 +137,9 @@ impl<F: GrowingFile> IndexedFile<F> {
         let Some(piece) = self.index.piece(plan.from(), plan.to(), most) else {
             return Err(missing(self.version, plan.from()));
         };
+        if self.buffer.has(piece) {
+            return Ok(());
+        }
         match self.buffer.read(&mut self.file, piece) {
             Ok(()) => Ok(()),
             Err(_) => Err(FileError::Read),
@@ -168,8 +174,9 @@ impl<F: GrowingFile> ServedJournal for IndexedFile<F> {
     /// Packs the next datagram of a plan and returns the number of its messages.
     ///
     /// It reads the file once, at most the bytes that the datagram can need and 32,767 bytes more. A datagram can need as
-    /// many bytes as its limit has, or twice that in version 3, and as many as the longest message has. Of at most 63
-    /// messages before the plan's, only the lengths are read. For a plan without messages, it reads nothing.
+    /// many bytes as its limit, or twice as many in version 3, and as many as the longest message. The piece that was read
+    /// is kept: if the next datagram of the plan begins between the same entries of the index, nothing is read. Of at most
+    /// 63 messages before the datagram's, only the lengths are read. For a plan without messages, nothing is read.
     ///
     /// `Read` is returned if the read fails. If a message that the datagram needs is not whole in the file, `BlockCut` has
     /// its number, or `Damaged` in version 3. So has the plan's next message if the index does not have it. After an
@@ -192,7 +199,7 @@ impl<F: GrowingFile> ServedJournal for IndexedFile<F> {
         ensures read { (bytes : ℕ → List ℕ) → F.history self.old.file bytes → plan.now.from < plan.now.to →
             OnOk result (HasReadFor self.old.index plan.now.from plan.now.to
             (most_bytes self.old.version packer.old.limit self.old.max_message) bytes (F.moment self.old.file)
-            (F.moment self.new.file) self.new.buffer) }
+            (F.moment self.new.file) self.old.buffer self.new.buffer) }
         ensures error { IfErr result (λ error. IsPackError self.old.version self.old.index self.new.buffer plan.now
             packer.new error) }
         ensures kept { self.new ≡ record self.old { file = self.new.file; buffer = self.new.buffer } }

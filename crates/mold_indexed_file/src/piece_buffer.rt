@@ -1,6 +1,6 @@
 //! A buffer for pieces of a file.
 
-ghost use Rattle.std.specs.Prelude.{◌≡◌, ◌≤◌, ℕ, List, [], length, take, OnErr, OnOk, IfOk};
+ghost use Rattle.std.specs.Prelude.{◌≡◌, ◌↔◌, ◌≤◌, ℕ, List, [], length, take, OnErr, OnOk, IfOk, IsTrue};
 ghost use Rattle.mold_devices.specs.Devices.{Counts};
 ghost use Rattle.mold_durable.specs.GrowingFile.{Passes};
 ghost use Rattle.mold_indexed_file.specs.Read.{IsRead};
@@ -67,6 +67,15 @@ impl PieceBuffer {
         ensures { result.now ≡ self.now.bytes }
     {
         &self.buffer[..self.len]
+    }
+
+    /// Returns whether the buffer has all bytes of this piece.
+    pub fn has(&self, piece: Piece) -> bool
+        ensures { IsTrue result ↔ ((self.now.entry ≡ piece.entry) × (length self.now.bytes ≡ piece.len)) }
+    {
+        self.entry.number == piece.entry.number
+            && self.entry.offset == piece.entry.offset
+            && self.len as u64 == piece.len
     }
 
     /// Reads a piece of a file. If the file ends before the piece, the bytes up to there are taken.
