@@ -1,14 +1,12 @@
 -- Which bytes a file begins with, and what a read of them returns.
-use Rattle.std.proofs.Common.{◌≡◌, ℕ, ◌+◌, ◌-◌, ◌<◌, ◌≤◌, min, List, [], ◌∷◌, ◌++◌, length, length-append, take, drop, get_or}
-use Rattle.std.proofs.Common.{map, refl, sym, ap, subst, ◌∙◌, append_assoc, append-nil, arith}
+use Rattle.std.proofs.Common.{◌≡◌, ℕ, ◌+◌, ◌-◌, ◌≤◌, List, [], ◌++◌, length, length-append, take, drop, get_or}
+use Rattle.std.proofs.Common.{sym, ap, subst, ◌∙◌, append_assoc, append-nil, arith}
 use Rattle.std.proofs.lemmas.Grind.{flat_map-append, same_number_lists}
-use Rattle.std.proofs.lemmas.List.{get_or-drop, get_or-take, get_or_append_left, length-drop, length-map, length-take-le}
+use Rattle.std.proofs.lemmas.List.{get_or-drop, get_or-take, get_or_append_left, length-drop, length-map}
+use Rattle.std.proofs.lemmas.List.{length-take-le}
 use Rattle.std.proofs.lemmas.List.{take-append-le, take_all}
-use Rattle.std.specs.Prelude.{slice_index}
-use Rattle.mold_wire.specs.Block.{blocks}
-use Rattle.mold_wire.specs.declared.session.Session.{Session}
 use Rattle.mold_session.specs.Contents.{IsFront}
-use Rattle.mold_session.specs.File.{head_1, head_2, SpellsJournal, SpellsJournal2}
+use Rattle.mold_session.specs.File.{SpellsJournal, SpellsJournal2}
 use Rattle.mold_session.specs.Journal.{JournalState}
 use Rattle.mold_session.specs.Loading.{head_spelling, message_spelling, messages_spelling}
 use Rattle.mold_session.specs.Records.{head_3, records, SpellsJournal3}
@@ -17,7 +15,6 @@ use Rattle.mold_session.specs.declared.file_version.FileVersion.TheVariants.{One
 use Rattle.mold_durable.specs.Following.{Writer, Writes}
 use Rattle.mold_durable.specs.GrowingFile.{ReadsAmong}
 use Rattle.mold_index.proofs.LayoutLemmas.{length-before}
-use Rattle.mold_index.specs.Index.{offset_of}
 use Rattle.mold_index.specs.Layouts.{BeginsWith, layout_of, lengths_of}
 use Rattle.mold_index.specs.Piece.{IsPiece}
 use Rattle.mold_index.specs.declared.piece.Piece.{Piece}

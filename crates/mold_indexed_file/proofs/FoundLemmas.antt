@@ -1,6 +1,7 @@
 -- The messages that are found in a piece of a file are those of the journal.
-use Rattle.std.proofs.Common.{◌≡◌, inl, inr, ℕ, zero, suc, ◌+◌, ◌-◌, ◌*◌, ◌^◌, ◌<◌, ◌≤◌, List, [], ◌∷◌, ◌++◌, length, take, drop}
-use Rattle.std.proofs.Common.{get_or, slice_get, Some, map, flat_map, refl, sym, ap, subst, ◌∙◌, append_assoc, append-nil}
+use Rattle.std.proofs.Common.{◌≡◌, inl, inr, ℕ, zero, suc, ◌+◌, ◌-◌, ◌*◌, ◌^◌, ◌<◌, ◌≤◌, List, [], ◌∷◌, ◌++◌, length}
+use Rattle.std.proofs.Common.{take, drop}
+use Rattle.std.proofs.Common.{get_or, Some, map, flat_map, refl, sym, ap, subst, ◌∙◌, append_assoc, append-nil}
 use Rattle.std.proofs.Common.{length-append, take-add, arith}
 use Rattle.std.proofs.lemmas.Grind.{flat_map-append}
 use Rattle.std.proofs.lemmas.List.{drop_all, drop_more, get_or-drop, length-drop, length-take-le, map-append, take_more}
@@ -8,9 +9,8 @@ use Rattle.std.proofs.lemmas.List.{take-append-drop, take-map, take_all}
 use Rattle.std.proofs.lemmas.List.Sums.{sum_by-append, sum_by-cons, sum_by-take-le, sum_by_push}
 use Rattle.std.proofs.lemmas.Option.{slice_get-get_or}
 use Rattle.std.specs.List.{AllByRecursion, sum_by}
-use Rattle.mold_wire.proofs.BlockLemmas.{each-append}
 use Rattle.mold_wire.specs.Block.{IsMessage}
-use Rattle.mold_wire.specs.Packer.{HasRoom, PackerState}
+use Rattle.mold_wire.specs.Packer.{PackerState}
 use Rattle.mold_wire.specs.Packing.{packet_length, Fits}
 use Rattle.mold_session.proofs.FrontLemmas.{each_take}
 use Rattle.mold_wire.specs.declared.session.Session.{Session}
@@ -23,10 +23,10 @@ use Rattle.mold_index.proofs.ReadLemmas.{found_in_piece}
 use Rattle.mold_index.specs.Index.{offset_of}
 use Rattle.mold_index.specs.Layouts.{layout_of, lengths_of}
 use Rattle.mold_index.specs.Piece.{IsPiece}
-use Rattle.mold_index.specs.Scan.{AreMessagesAndRest, EndAfter, FindsMessage, HasMessage, IsMessageAndRest}
+use Rattle.mold_index.specs.Scan.{AreMessagesAndRest, FindsMessage, HasMessage, IsMessageAndRest}
 use Rattle.mold_index.specs.declared.piece.Piece.{Piece}
 use Rattle.mold_indexed_file.specs.Buffer.{most_bytes}
-use Rattle.mold_indexed_file.specs.Packed.{BeginsTooLong, FindsMessages, HasPut, HasPutAll, Lacks, LacksNext}
+use Rattle.mold_indexed_file.specs.Packed.{FindsMessages, Lacks}
 use Rattle.mold_indexed_file.specs.Shown.{start_of}
 
 -- ---- sizes
@@ -339,9 +339,9 @@ lacks_none version journal limit from to piece bytes session packer index none s
 lacks_none version journal limit from to piece bytes session packer index none some same is (inr lacks) =
     let skip = from - piece.entry.number in
     let fits : Fits limit lacks.found =
-    subst (λ (n : ℕ). Fits n lacks.found) same lacks.put.fits in
+    subst (λ (n : ℕ). Fits n lacks.found) same lacks.packed.fits in
     let fewer : from + length lacks.found < to = omega (arith, lacks.few) in
-    let found = same_found version journal limit from to piece bytes lacks.found lacks.rest is lacks.put.finds fits
+    let found = same_found version journal limit from to piece bytes lacks.found lacks.rest is lacks.packed.finds fits
     (omega (arith, fewer)) in
     let has = has_next version journal limit from to piece bytes (length lacks.found) [] is fewer
     (subst (λ (t : List (List ℕ)). Fits limit t) found fits) in
@@ -349,7 +349,7 @@ lacks_none version journal limit from to piece bytes session packer index none s
     (get_or (drop (from - 1) journal.messages) (length lacks.found) []) has.rest has.finds
     (record {
       rest = lacks.rest;
-      whole = after_all (message_spelling version) skip bytes lacks.found lacks.rest lacks.put.finds;
+      whole = after_all (message_spelling version) skip bytes lacks.found lacks.rest lacks.packed.finds;
       none = lacks.none;
     }) in
     omega (arith, past)

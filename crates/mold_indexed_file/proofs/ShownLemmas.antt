@@ -1,5 +1,5 @@
 -- What is packed from a file that has a journal.
-use Rattle.std.proofs.Common.{◌≡◌, ◌⊎◌, inl, inr, ℕ, ◌+◌, ◌-◌, ◌<◌, ◌≤◌, List, [], ◌∷◌, ◌++◌, length, take, drop, ap, subst}
+use Rattle.std.proofs.Common.{◌≡◌, ◌⊎◌, inl, inr, ℕ, ◌-◌, ◌<◌, ◌≤◌, List, [], ◌∷◌, ◌++◌, length, take, drop, ap, subst}
 use Rattle.std.specs.Prelude.{Result, Ok, Err, OnOk}
 use Rattle.std.proofs.Common.{refl, sym, ◌∙◌, append_assoc, arith}
 use Rattle.std.proofs.lemmas.Bool.{cases_lt}
@@ -14,7 +14,6 @@ use Rattle.mold_session.specs.Answer.{IsPlan, PlanState}
 use Rattle.mold_session.specs.Journal.{IsJournal, JournalState, appended}
 use Rattle.mold_session.specs.Loading.{head_spelling, message_spelling, messages_spelling}
 use Rattle.mold_session.specs.Serving.{HasPackedNext, MayPack}
-use Rattle.mold_session.specs.declared.file_version.FileVersion.{FileVersion}
 use Rattle.mold_durable.specs.GrowingFile.{Passes}
 use Rattle.mold_index.specs.Index.{Indexes}
 use Rattle.mold_index.specs.Layouts.{layout_of, lengths_of}
@@ -23,12 +22,12 @@ use Rattle.mold_index.specs.declared.entry.Entry.{Entry}
 use Rattle.mold_index.specs.declared.piece.Piece.{Piece}
 use Rattle.mold_index.specs.declared.layout.Layout.{Layout}
 use Rattle.mold_indexed_file.specs.Buffer.{BufferState, most_bytes}
-use Rattle.mold_indexed_file.specs.Packed.{HasPutAll, Lacks}
+use Rattle.mold_indexed_file.specs.Packed.{HasPackedFrom, Lacks}
 use Rattle.mold_indexed_file.specs.Read.{HasReadFor, IsKept, IsRead}
 use Rattle.mold_indexed_file.specs.Shown.{IndexedState, IsInFile, IsPartOf, Shows, start_of}
 use Rattle.mold_indexed_file.proofs.FileLemmas.{piece_within, read_whole}
 use Rattle.mold_indexed_file.proofs.FoundLemmas.{IsPieceOf, lacks_none}
-use Rattle.mold_indexed_file.proofs.NextLemmas.{put_next}
+use Rattle.mold_indexed_file.proofs.NextLemmas.{packed_from}
 
 -- The buffer has the bytes of the piece.
 piece_bytes : {F : Type 0} (history : F → (ℕ → List ℕ) → Type 0) (moment : F → ℕ) (indexed : IndexedState F)
@@ -88,11 +87,11 @@ pub shown_next : {F : Type 0} (history : F → (ℕ → List ℕ) → Type 0) (m
     (shows : Shows history moment indexed journal) →
     HasReadFor indexed.index plan.from plan.to (most_bytes indexed.version old.limit indexed.max_message)
     shows.has.bytes (moment indexed.file) end indexed.buffer buffer → new.limit ≡ old.limit →
-    HasPutAll (message_spelling indexed.version) (plan.from - buffer.entry.number) (plan.to - plan.from) buffer.bytes
+    HasPackedFrom (message_spelling indexed.version) (plan.from - buffer.entry.number) (plan.to - plan.from) buffer.bytes
     plan.session plan.from new count → HasPackedNext old new journal plan count
 shown_next history moment indexed journal plan old new count end buffer one_more stops only some alone ten laid planned may
     shows reads same all =
-    put_next indexed.version journal plan reads.piece buffer.bytes old new count one_more stops only some alone planned
+    packed_from indexed.version journal plan reads.piece buffer.bytes old new count one_more stops only some alone planned
     shows.journaled may same
     (piece_of history moment indexed journal old.limit plan end buffer ten laid planned may shows reads)
     (rw reads.begins at all)

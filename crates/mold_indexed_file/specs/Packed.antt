@@ -1,7 +1,6 @@
--- Which messages of a piece of a file were packed into a packet.
+-- Which messages of a piece of a file are packed, and which error is returned if one is missing.
 use Rattle.std.specs.Prelude.{◌≡◌, ◌⊎◌, ℕ, ◌+◌, ◌-◌, ◌<◌, ◌≤◌, List, ◌++◌, length}
-use Rattle.std.specs.List.{flat_map}
-use Rattle.std.specs.List.{AllByRecursion}
+use Rattle.std.specs.List.{flat_map, AllByRecursion}
 use Rattle.mold_wire.specs.Block.{IsMessage}
 use Rattle.mold_wire.specs.Packer.{HasRoom, Open, PackerState}
 use Rattle.mold_wire.specs.Packing.{Fits}
@@ -16,6 +15,8 @@ use Rattle.mold_index.specs.Index.{HasNumber, IndexState}
 use Rattle.mold_index.specs.Scan.{AreMessagesAndRest, BeginsNoMessage, EndAfter, IsMessageAndRest}
 use Rattle.mold_indexed_file.specs.Buffer.{BufferState}
 
+-- ---- messages of some bytes. `spelling` is the encoding of a message.
+
 -- The bytes are `skip` messages, then the messages `found`, and then the bytes `rest`.
 pub record FindsMessages (spelling : List ℕ → List ℕ) (skip : ℕ) (bytes : List ℕ) (found : List (List ℕ))
     (rest : List ℕ) : Type 0 where
@@ -24,57 +25,58 @@ pub record FindsMessages (spelling : List ℕ → List ℕ) (skip : ℕ) (bytes 
   pub each : AllByRecursion IsMessage found
   pub parts : next ≡ flat_map spelling found ++ rest
 
--- The bytes begin with a message that does not fit into the packet that the packer has begun.
-pub record BeginsTooLong (spelling : List ℕ → List ℕ) (packer : PackerState) (bytes : List ℕ) : Type 0 where
-  pub message : List ℕ
-  pub rest : List ℕ
-  pub begins : IsMessageAndRest spelling bytes message rest
-  pub full : HasRoom packer.limit packer.begun (length message) → ⊥
-
--- The messages `found` are in the open packet, and fit it. In the bytes, they follow `skip` messages, and the bytes
--- `rest` follow them.
-pub record HasPut (spelling : List ℕ → List ℕ) (skip : ℕ) (bytes : List ℕ) (session : Session) (sequence : ℕ)
+-- The open packet has the messages `found`. In the bytes they follow `skip` messages, and the bytes `rest` follow them.
+pub record HasMessages (spelling : List ℕ → List ℕ) (skip : ℕ) (bytes : List ℕ) (session : Session) (sequence : ℕ)
     (packer : PackerState) (found : List (List ℕ)) (rest : List ℕ) : Type 0 where
   pub finds : FindsMessages spelling skip bytes found rest
   pub begun : packer.begun ≡ Open session sequence found
   pub fits : Fits packer.limit found
 
--- The packet has the messages of the bytes after the first `skip`: `most` of them, or as many as fit if these are fewer.
--- It has `count` messages.
-pub record HasPutAll (spelling : List ℕ → List ℕ) (skip most : ℕ) (bytes : List ℕ) (session : Session) (sequence : ℕ)
-    (packer : PackerState) (count : ℕ) : Type 0 where
+-- The bytes begin with a message for which the open packet has no room.
+pub record HasNoRoom (spelling : List ℕ → List ℕ) (packer : PackerState) (bytes : List ℕ) : Type 0 where
+  pub message : List ℕ
+  pub rest : List ℕ
+  pub begins : IsMessageAndRest spelling bytes message rest
+  pub full : HasRoom packer.limit packer.begun (length message) → ⊥
+
+-- The packet has the first `count` messages after the first `skip` messages of the bytes: `most` messages, or as many as
+-- fit if these are fewer.
+pub record HasPackedFrom (spelling : List ℕ → List ℕ) (skip most : ℕ) (bytes : List ℕ) (session : Session)
+    (sequence : ℕ) (packer : PackerState) (count : ℕ) : Type 0 where
   pub found : List (List ℕ)
   pub rest : List ℕ
-  pub put : HasPut spelling skip bytes session sequence packer found rest
+  pub packed : HasMessages spelling skip bytes session sequence packer found rest
   pub counted : count ≡ length found
   pub few : count ≤ most
-  pub stops : (count ≡ most) ⊎ BeginsTooLong spelling packer rest
+  pub stops : (count ≡ most) ⊎ HasNoRoom spelling packer rest
 
--- The bytes have only `index` whole messages, of which all after the first `skip` are in the packet. The packet needs the
--- next message: it has fewer than `most` messages.
+-- The bytes have only `index` whole messages. The packet has those after the first `skip`, and needs the next one: it has
+-- fewer than `most` messages.
 pub record LacksNext (spelling : List ℕ → List ℕ) (skip most : ℕ) (bytes : List ℕ) (session : Session) (sequence : ℕ)
     (packer : PackerState) (index : ℕ) : Type 0 where
   pub found : List (List ℕ)
   pub rest : List ℕ
-  pub put : HasPut spelling skip bytes session sequence packer found rest
+  pub packed : HasMessages spelling skip bytes session sequence packer found rest
   pub none : BeginsNoMessage spelling rest
   pub counted : index ≡ skip + length found
   pub few : length found < most
 
--- The bytes have only `index` whole messages, and the packet needs the one after them.
+-- The bytes have only `index` whole messages, and the packet needs the one after these: it is the first message of the
+-- packet, or one before it, or a later one.
 abbrev pub Lacks : (List ℕ → List ℕ) → ℕ → ℕ → List ℕ → Session → ℕ → PackerState → ℕ → Type 0
 Lacks spelling skip most bytes session sequence packer index =
     ((index ≤ skip) × EndAfter spelling index bytes)
     ⊎ LacksNext spelling skip most bytes session sequence packer index
 
--- The plan's next packet has the plan's messages, as many as fit. They are in the piece that the buffer has.
-abbrev pub HasPutNext : FileVersion → BufferState → PlanState → PackerState → ℕ → Type 0
-HasPutNext version buffer plan packer count =
-    HasPutAll (message_spelling version) (plan.from - buffer.entry.number) (plan.to - plan.from) buffer.bytes
+-- ---- messages of a plan, in the piece that a buffer has
+
+-- The plan's next packet has `count` messages of the piece: the plan's messages, or as many of them as fit.
+abbrev pub HasPackedPiece : FileVersion → BufferState → PlanState → PackerState → ℕ → Type 0
+HasPackedPiece version buffer plan packer count =
+    HasPackedFrom (message_spelling version) (plan.from - buffer.entry.number) (plan.to - plan.from) buffer.bytes
     plan.session plan.from packer count
 
--- The piece that the buffer has lacks a message that the plan's next packet needs: it has only the `index` messages
--- before it.
+-- The piece has only `index` whole messages, and the plan's next packet needs the one after these.
 abbrev pub LacksAt : FileVersion → BufferState → PlanState → PackerState → ℕ → Type 0
 LacksAt version buffer plan packer index =
     Lacks (message_spelling version) (plan.from - buffer.entry.number) (plan.to - plan.from) buffer.bytes
@@ -86,15 +88,15 @@ missing One number = BlockCut number
 missing (Two count) number = BlockCut number
 missing Three number = Damaged number
 
--- The piece that the buffer has lacks a message that the plan's next packet needs. The error has the message's number.
+-- The piece lacks a message that the plan's next packet needs, and the error has that message's number.
 pub record IsMissing (version : FileVersion) (buffer : BufferState) (plan : PlanState) (packer : PackerState)
     (error : FileError) : Type 0 where
   pub index : ℕ
   pub lacks : LacksAt version buffer plan packer index
   pub named : error ≡ missing version (buffer.entry.number + index)
 
--- Why no datagram was packed: a read failed, the index does not have the plan's next message, or the piece that was read
--- lacks a message.
+-- Why no datagram was packed: a read failed, the index does not have the plan's next message, or the piece lacks a
+-- message.
 abbrev pub IsPackError : FileVersion → IndexState → BufferState → PlanState → PackerState → FileError → Type 0
 IsPackError version index buffer plan packer error =
     (error ≡ Read)

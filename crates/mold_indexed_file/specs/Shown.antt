@@ -1,7 +1,7 @@
--- Which journals a file has, and which ones an indexed file shows.
+-- Which journals a file has, and which of them an indexed file shows.
 use Rattle.std.specs.Prelude.{◌≡◌, ℕ, ◌+◌, ◌≤◌, List, ◌++◌, length, take, drop}
-use Rattle.mold_wire.specs.declared.session.Session.{Session}
 use Rattle.mold_wire.specs.declared.limits.TheConstants.{MAX_LIMIT}
+use Rattle.mold_wire.specs.declared.session.Session.{Session}
 use Rattle.mold_session.specs.Journal.{IsJournal, JournalState}
 use Rattle.mold_session.specs.Loading.{head_spelling, messages_spelling}
 use Rattle.mold_session.specs.declared.file_version.FileVersion.{FileVersion}
@@ -35,14 +35,14 @@ pub record IndexedState (F : Type 0) : Type 0 where
   -- the largest length of a message, in bytes
   pub max_message : ℕ
   pub index : IndexState
-  -- the piece of the file that was read last
+  -- the buffer, with the piece of the file that was read last
   pub buffer : BufferState
 
--- The buffer has a part of these bytes, from the offset of its piece on.
+-- The piece that the buffer has is a part of these bytes.
 abbrev pub IsPartOf : List ℕ → BufferState → Type 0
 IsPartOf bytes buffer = buffer.bytes ≡ take (length buffer.bytes) (drop buffer.entry.offset bytes)
 
--- The file has the journal. The index is that of the journal's messages, and the buffer has a part of their bytes.
+-- The file has the journal. The index is that of the journal's messages, and the piece in the buffer is a part of them.
 pub record Shows {F : Type 0} (history : F → (ℕ → List ℕ) → Type 0) (moment : F → ℕ) (indexed : IndexedState F)
     (journal : JournalState) : Type 0 where
   pub named : indexed.session ≡ journal.session
@@ -52,7 +52,7 @@ pub record Shows {F : Type 0} (history : F → (ℕ → List ℕ) → Type 0) (m
   pub has : IsInFile history moment indexed.file indexed.version journal
   pub part : IsPartOf (start_of indexed.version journal) indexed.buffer
 
--- The size of the buffer: it has room for each piece that is read.
+-- The size of the buffer in bytes: it has room for each piece that is read.
 abbrev pub buffer_size : FileVersion → ℕ → ℕ
 buffer_size version max_message = most_bytes version MAX_LIMIT max_message + STRIDE_BYTES
 

@@ -1,21 +1,21 @@
 //! The journal in a file, of which only the index is in memory.
 
-ghost use Rattle.std.specs.Prelude.{◌≡◌, ◌⊎◌, ◌-◌, ◌+◌, ◌<◌, ◌≤◌, ◌∷◌, [], ℕ, List, length, IfOk, IfErr, OnOk, OnErr};
-ghost use Rattle.std.specs.Prelude.{min, None, unwrap_or};
+ghost use Rattle.std.specs.Prelude.{◌≡◌, ◌⊎◌, ◌-◌, ◌+◌, ◌<◌, ◌≤◌, [], ℕ, List, length, IfOk, IfErr, OnOk, OnErr, IsOk};
+ghost use Rattle.std.specs.Prelude.{None, Ok, false, unwrap_or};
 ghost use Rattle.mold_wire.specs.declared.limits.TheConstants.{MAX_LIMIT};
-ghost use Rattle.mold_devices.specs.Devices.{Counts};
-ghost use Rattle.mold_session.specs.Journal.{IsJournal, JournalState, appended, fresh_journal};
+ghost use Rattle.mold_session.specs.Journal.{IsJournal, JournalState, appended};
 ghost use Rattle.mold_session.specs.Loading.{CountsLoad};
 ghost use Rattle.mold_session.specs.Serving.{HasPackedNext, MayPack};
 ghost use Rattle.mold_session.specs.declared.error.FileError.{FileError};
 ghost use Rattle.mold_durable.specs.GrowingFile.{Passes};
-ghost use Rattle.mold_index.specs.Adding.{push_refusal};
-ghost use Rattle.mold_index.specs.Index.{HasNumber};
+ghost use Rattle.mold_index.specs.Adding.{needs_entry, push_refusal};
+ghost use Rattle.mold_index.specs.Index.{HasNumber, fresh_index};
+ghost use Rattle.mold_index.specs.Layouts.{layout_of};
 ghost use Rattle.mold_index.specs.declared.error.IndexError.{IndexError};
-ghost use Rattle.mold_indexed_file.specs.Packed.{HasPutNext, IsPackError, missing};
+ghost use Rattle.mold_indexed_file.specs.Packed.{HasPackedPiece, IsPackError, missing};
 ghost use Rattle.mold_indexed_file.specs.Buffer.{most_bytes};
 ghost use Rattle.mold_indexed_file.specs.Read.{HasReadFor};
-ghost use Rattle.mold_indexed_file.specs.Shown.{IsInFile, Shows, buffer_size};
+ghost use Rattle.mold_indexed_file.specs.Shown.{IsInFile, Shows};
 
 use crate::packing::{missing, pack_piece};
 use crate::piece_buffer::PieceBuffer;
@@ -82,8 +82,14 @@ impl<F: GrowingFile + Drop> IndexedFile<F> {
         ensures shown { IfOk result (λ indexed. (journal : JournalState) → journal.session ≡ head.session →
             journal.max_message ≡ max_message → journal.messages ≡ [] →
             IsInFile F.history F.moment file head.version journal → Shows F.history F.moment indexed journal) }
-        ensures file { IfOk result (λ indexed. indexed.file ≡ file) }
-        ensures version { IfOk result (λ indexed. indexed.version ≡ head.version) }
+        ensures fresh { IfOk result (λ indexed. indexed ≡ record {
+          file = file;
+          session = head.session;
+          version = head.version;
+          max_message = max_message;
+          index = fresh_index (layout_of head.version);
+          buffer = indexed.buffer;
+        }) }
     {
         let most = most_bytes(head.version, MAX_LIMIT, max_message);
         let buffer = PieceBuffer::new(alloc, (most + STRIDE_BYTES) as usize)?;
@@ -110,6 +116,7 @@ impl<F: GrowingFile> IndexedFile<F> {
         ensures refused { IfErr result (λ error.
             error ≡ unwrap_or (push_refusal self.old.index len) IndexError.Memory) }
         ensures same { OnErr result (self.new ≡ self.old) }
+        ensures succeeds { push_refusal self.old.index len ≡ None → needs_entry self.old.index ≡ false → IsOk result }
     {
         self.index.push(len)
     }
@@ -194,8 +201,8 @@ impl<F: GrowingFile> ServedJournal for IndexedFile<F> {
         ensures failures { CountsLoad (F.failed self.old.file) (F.failed self.new.file) result }
 
         // What is packed, and which errors are returned, even if the file does not have the journal.
-        ensures put { IfOk result (λ count. plan.now.from < plan.now.to →
-            HasPutNext self.old.version self.new.buffer plan.now packer.new count) }
+        ensures piece { IfOk result (λ count. plan.now.from < plan.now.to →
+            HasPackedPiece self.old.version self.new.buffer plan.now packer.new count) }
         ensures read { (bytes : ℕ → List ℕ) → F.history self.old.file bytes → plan.now.from < plan.now.to →
             OnOk result (HasReadFor self.old.index plan.now.from plan.now.to
             (most_bytes self.old.version packer.old.limit self.old.max_message) bytes (F.moment self.old.file)

@@ -3,7 +3,7 @@
 ghost use Rattle.std.specs.Prelude.{◌≡◌, ◌-◌, ◌<◌, ◌≤◌, IfOk, IfErr};
 ghost use Rattle.mold_wire.specs.Packer.{IsLimit};
 ghost use Rattle.mold_session.specs.Loading.{message_spelling};
-ghost use Rattle.mold_indexed_file.specs.Packed.{HasPutAll, Lacks, missing};
+ghost use Rattle.mold_indexed_file.specs.Packed.{HasPackedFrom, Lacks, missing};
 
 use mold_index::{NoMessage, find_message, split_message};
 use mold_session::{FileError, FileVersion, Plan};
@@ -22,7 +22,7 @@ pub fn pack_piece(
     requires limit { IsLimit packer.old.limit }
     requires before { first ≤ plan.now.from }
     requires some { plan.now.from < plan.now.to }
-    ensures put { IfOk result (HasPutAll (message_spelling version) (plan.now.from - first)
+    ensures packed { IfOk result (HasPackedFrom (message_spelling version) (plan.now.from - first)
         (plan.now.to - plan.now.from) bytes.now plan.now.session plan.now.from packer.new) }
     ensures lacks { IfErr result (λ error. Lacks (message_spelling version) (plan.now.from - first)
         (plan.now.to - plan.now.from) bytes.now plan.now.session plan.now.from packer.new error.index) }

@@ -1,4 +1,4 @@
-use Rattle.std.proofs.Common.{List, [], ◌∷◌, ◌++◌, length, refl, sym, subst, ℕ}
+use Rattle.std.proofs.Common.{[], ◌∷◌, ◌++◌, refl, sym, subst, ℕ}
 use Rattle.mold_session.specs.Journal.{appended}
 use Rattle.mold_index.specs.Index.{Indexes}
 use Rattle.mold_index.specs.Layouts.{lengths_of}

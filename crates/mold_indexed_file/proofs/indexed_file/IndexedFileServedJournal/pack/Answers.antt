@@ -1,7 +1,7 @@
 use Rattle.std.proofs.Common.{◌≡◌, ◌-◌, length, subst, ◌∙◌, arith}
 use Rattle.mold_session.specs.Loading.{message_spelling}
 use Rattle.mold_index.specs.Layouts.{layout_of}
-use Rattle.mold_indexed_file.specs.Packed.{HasPutAll, Lacks}
+use Rattle.mold_indexed_file.specs.Packed.{HasPackedFrom, Lacks}
 use Rattle.mold_indexed_file.specs.Shown.{IndexedState}
 use Rattle.mold_indexed_file.proofs.ShownLemmas.{shown_lacks, shown_next}
 use Rattle.mold_indexed_file.proofs.indexed_file.IndexedFileServedJournal.pack.Goals.{in-Ok, in-Err}
@@ -35,7 +35,7 @@ returns-clause-packed g c =
     let is : inside ≡ same = ◌∙◌ {c = same} c.self.view_is read.kept in
     elim c.match-pack_piece.branch [
       | in-Ok w ↦
-          let put = rw c.bytes-2.ensures at rw c.entry-first.ensures at w.in-Ok.ensures.put in
+          let packed = rw c.bytes-2.ensures at rw c.entry-first.ensures at w.in-Ok.ensures.packed in
           rw w.result-is (λ journal shows may.
           shown_next history moment old journal plan c.args.packer.now c.pack_piece.new.packer w.in-Ok.count
           (moment next.file) next.buffer c.packet_length_law.ensures.one_more
@@ -45,9 +45,9 @@ returns-clause-packed g c =
           (subst (λ (s : IndexedState g.row.F.Denot). s.index.layout ≡ layout_of s.version) is c.self.invariant.laid)
           c.from.ensures.plan may shows (rw c.limit.ensures at (read.read shows.has.bytes shows.has.possible))
           c.pack_piece.ensures.limit
-          (subst (λ (s : IndexedState g.row.F.Denot). HasPutAll (message_spelling s.version)
+          (subst (λ (s : IndexedState g.row.F.Denot). HasPackedFrom (message_spelling s.version)
           (plan.from - s.buffer.entry.number) (plan.to - plan.from) s.buffer.bytes plan.session plan.from
-          c.pack_piece.new.packer w.in-Ok.count) is put))
+          c.pack_piece.new.packer w.in-Ok.count) is packed))
       | in-Err w ↦ rw w.result-is tt
     ]
 
