@@ -40,7 +40,8 @@ has_second journal bytes since spells = record {
 }
 
 pub has_third : (journal : JournalState) (bytes : List ℕ) (since : ℕ) →
-    SpellsJournal3 journal.session journal.messages journal.closed bytes → HasSince (λ moment. bytes) since Three journal
+    SpellsJournal3 journal.session journal.messages journal.closed bytes → HasSince (λ moment. bytes) since Three
+    journal
 has_third journal bytes since spells = record {
   begins = λ moment later. record {
     rest = spells.rest;

@@ -25,7 +25,8 @@ no_more : (version : FileVersion) (journal : JournalState) (limit from to : ℕ)
     packer count) → (next : List ℕ) (more : List (List ℕ)) →
     drop (length all.found) (drop (from - 1) journal.messages) ≡ next ∷ more → length all.found < to - from →
     Fits limit (all.found ++ next ∷ []) → ⊥
-no_more version journal limit from to piece bytes plan packer count one_more same at is all next more follows fewer fits =
+no_more version journal limit from to piece bytes plan packer count one_more same at is all next more follows fewer fits
+    =
     elim all.stops [
       | inl most ↦ omega (arith, most, all.counted, fewer)
       | inr long ↦
@@ -51,17 +52,20 @@ pub packed_from : (version : FileVersion) (journal : JournalState) (plan : PlanS
     IsPieceOf version journal old.limit plan.from plan.to piece bytes →
     HasPackedFrom (message_spelling version) (plan.from - piece.entry.number) (plan.to - plan.from) bytes plan.session
     plan.from new count → HasPackedNext old new journal plan count
-packed_from version journal plan piece bytes old new count one_more stops only some alone planned journaled may same is all =
+packed_from version journal plan piece bytes old new count one_more stops only some alone planned journaled may same is
+    all =
     let those = drop (plan.from - 1) journal.messages in
     let fits : Fits old.limit all.found = subst (λ (n : ℕ). Fits n all.found) same all.packed.fits in
     let few : plan.from + length all.found ≤ plan.to = omega (arith, all.counted, all.few, planned.1) in
     let found : all.found ≡ take (length all.found) those =
-    same_found version journal old.limit plan.from plan.to piece bytes all.found all.rest is all.packed.finds fits few in
+    same_found version journal old.limit plan.from plan.to piece bytes all.found all.rest is all.packed.finds fits few
+    in
     let parts : those ≡ all.found ++ drop (length all.found) those =
     sym (take-append-drop (length all.found) those)
     ∙ ap (λ (t : List (List ℕ)). t ++ drop (length all.found) those) (sym found) in
     let made : ℕ → Begun → PackerState = λ limit begun. record { limit = limit; begun = begun } in
-    packed_next old new journal plan plan.session plan.from plan.to those count only some alone planned journaled may.room
+    packed_next old new journal plan plan.session plan.from plan.to those count only some alone planned journaled
+    may.room
     may.planned.to refl refl refl refl (record {
       found = all.found;
       counted = all.counted;

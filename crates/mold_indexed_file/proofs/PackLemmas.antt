@@ -69,7 +69,8 @@ gathers_first spelling skip bytes session sequence old started new message rest 
       found = message ∷ [];
       counted = refl;
       packed = has_more spelling skip bytes session sequence started new [] finds.next message rest one_more
-          (has_none spelling skip bytes session sequence old started message rest none limited finds begun) finds.found room
+          (has_none spelling skip bytes session sequence old started message rest none limited finds begun) finds.found
+          room
           added;
       same = ap (λ (p : PackerState). p.limit) added ∙ ap (λ (p : PackerState). p.limit) begun;
     }

@@ -45,7 +45,8 @@ piece_bytes history moment indexed journal piece buffer end shows named is begin
     ∙ ap (λ (n : ℕ). take n (drop buffer.entry.offset those)) kept.whole
     ∙ ap (λ (e : Entry). take piece.len (drop e.offset those)) begins
 piece_bytes history moment indexed journal piece buffer end shows named is begins (inr read) =
-    read_whole shows.has.bytes (moment indexed.file) (moment indexed.file) end indexed.version journal piece buffer.bytes
+    read_whole shows.has.bytes (moment indexed.file) (moment indexed.file) end indexed.version journal piece
+    buffer.bytes
     shows.has.has (omega arith) (piece_within indexed.version journal _ _ _ piece named is) read
 
 -- The buffer has the piece of the journal's file for the plan's next packet.
@@ -87,11 +88,14 @@ pub shown_next : {F : Type 0} (history : F → (ℕ → List ℕ) → Type 0) (m
     (shows : Shows history moment indexed journal) →
     HasReadFor indexed.index plan.from plan.to (most_bytes indexed.version old.limit indexed.max_message)
     shows.has.bytes (moment indexed.file) end indexed.buffer buffer → new.limit ≡ old.limit →
-    HasPackedFrom (message_spelling indexed.version) (plan.from - buffer.entry.number) (plan.to - plan.from) buffer.bytes
+    HasPackedFrom (message_spelling indexed.version) (plan.from - buffer.entry.number) (plan.to - plan.from)
+    buffer.bytes
     plan.session plan.from new count → HasPackedNext old new journal plan count
-shown_next history moment indexed journal plan old new count end buffer one_more stops only some alone ten laid planned may
+shown_next history moment indexed journal plan old new count end buffer one_more stops only some alone ten laid planned
+    may
     shows reads same all =
-    packed_from indexed.version journal plan reads.piece buffer.bytes old new count one_more stops only some alone planned
+    packed_from indexed.version journal plan reads.piece buffer.bytes old new count one_more stops only some alone
+    planned
     shows.journaled may same
     (piece_of history moment indexed journal old.limit plan end buffer ten laid planned may shows reads)
     (rw reads.begins at all)

@@ -13,8 +13,8 @@ pub record BufferState : Type 0 where
   -- the bytes of the piece. There are none if the last read failed
   pub bytes : List ℕ
 
--- The number of bytes that the messages of a datagram and the first message that no longer fits have at most in a file of
--- this version. `limit` is that of the datagram.
+-- The number of bytes that the messages of a datagram and the first message that no longer fits have at most in a file
+-- of this version. `limit` is that of the datagram.
 abbrev pub most_bytes : FileVersion → ℕ → ℕ → ℕ
 most_bytes One limit max_message = limit + max_message
 most_bytes (Two count) limit max_message = limit + max_message

@@ -39,8 +39,8 @@ pub record HasNoRoom (spelling : List ℕ → List ℕ) (packer : PackerState) (
   pub begins : IsMessageAndRest spelling bytes message rest
   pub full : HasRoom packer.limit packer.begun (length message) → ⊥
 
--- The packet has the first `count` messages after the first `skip` messages of the bytes: `most` messages, or as many as
--- fit if these are fewer.
+-- The packet has the first `count` messages after the first `skip` messages of the bytes: `most` messages, or as many
+-- as fit if these are fewer.
 pub record HasPackedFrom (spelling : List ℕ → List ℕ) (skip most : ℕ) (bytes : List ℕ) (session : Session)
     (sequence : ℕ) (packer : PackerState) (count : ℕ) : Type 0 where
   pub found : List (List ℕ)
@@ -50,8 +50,8 @@ pub record HasPackedFrom (spelling : List ℕ → List ℕ) (skip most : ℕ) (b
   pub few : count ≤ most
   pub stops : (count ≡ most) ⊎ HasNoRoom spelling packer rest
 
--- The bytes have only `index` whole messages. The packet has those after the first `skip`, and needs the next one: it has
--- fewer than `most` messages.
+-- The bytes have only `index` whole messages. The packet has those after the first `skip`, and needs the next one: it
+-- has fewer than `most` messages.
 pub record LacksNext (spelling : List ℕ → List ℕ) (skip most : ℕ) (bytes : List ℕ) (session : Session) (sequence : ℕ)
     (packer : PackerState) (index : ℕ) : Type 0 where
   pub found : List (List ℕ)

@@ -6,8 +6,8 @@ use Rattle.mold_index.specs.Piece.{IsPiece}
 use Rattle.mold_index.specs.declared.piece.Piece.{Piece}
 use Rattle.mold_indexed_file.specs.Buffer.{BufferState}
 
--- The bytes are what a read of this piece returned: the bytes of the piece, unless the file ended before. Each byte, and
--- the length of the file, may be that of another moment from `start` to `end`.
+-- The bytes are what a read of this piece returned: the bytes of the piece, unless the file ended before. Each byte,
+-- and the length of the file, may be that of another moment from `start` to `end`.
 pub record IsRead (history : ℕ → List ℕ) (start end : ℕ) (piece : Piece) (bytes : List ℕ) : Type 0 where
   pub few : length bytes ≤ piece.len
   pub each : (index : ℕ) → index < length bytes →
@@ -19,8 +19,8 @@ pub record IsKept (piece : Piece) (old new : BufferState) : Type 0 where
   pub same : new ≡ old
   pub whole : length new.bytes ≡ piece.len
 
--- The buffer has the piece for the messages from `from` up to, but not including, `to`, of which at most `most` bytes are
--- needed. It had the piece before, or has what a read returned.
+-- The buffer has the piece for the messages from `from` up to, but not including, `to`, of which at most `most` bytes
+-- are needed. It had the piece before, or has what a read returned.
 pub record HasReadFor (index : IndexState) (from to most : ℕ) (history : ℕ → List ℕ) (start end : ℕ)
     (old new : BufferState) : Type 0 where
   pub piece : Piece

@@ -121,8 +121,8 @@ impl<F: GrowingFile> IndexedFile<F> {
         self.index.push(len)
     }
 
-    // Reads the piece of the file that has the messages of a plan's next datagram, which has at most `limit` bytes. If the
-    // buffer has that piece, nothing is read.
+    // Reads the piece of the file that has the messages of a plan's next datagram, which has at most `limit` bytes. If
+    // the buffer has that piece, nothing is read.
     fn read_next(&mut self, plan: &Plan, limit: usize) -> Result<(), FileError>
         requires some { plan.now.from < plan.now.to }
         requires limit { limit ≤ MAX_LIMIT }
@@ -180,14 +180,15 @@ impl<F: GrowingFile> ServedJournal for IndexedFile<F> {
 
     /// Packs the next datagram of a plan and returns the number of its messages.
     ///
-    /// It reads the file once, at most the bytes that the datagram can need and 32,767 bytes more. A datagram can need as
-    /// many bytes as its limit, or twice as many in version 3, and as many as the longest message. The piece that was read
-    /// is kept: if the next datagram of the plan begins between the same entries of the index, nothing is read. Of at most
-    /// 63 messages before the datagram's, only the lengths are read. For a plan without messages, nothing is read.
+    /// It reads the file once, at most the bytes that the datagram can need and 32,767 bytes more. A datagram can need
+    /// as many bytes as its limit, or twice as many in version 3, and as many as the longest message. The piece that
+    /// was read is kept: if the next datagram of the plan begins between the same entries of the index, nothing is
+    /// read. Of at most 63 messages before the datagram's, only the lengths are read. For a plan without messages,
+    /// nothing is read.
     ///
-    /// `Read` is returned if the read fails. If a message that the datagram needs is not whole in the file, `BlockCut` has
-    /// its number, or `Damaged` in version 3. So has the plan's next message if the index does not have it. After an
-    /// error, the contents of the packer are unspecified.
+    /// `Read` is returned if the read fails. If a message that the datagram needs is not whole in the file, `BlockCut`
+    /// has its number, or `Damaged` in version 3. So has the plan's next message if the index does not have it. After
+    /// an error, the contents of the packer are unspecified.
     fn pack(&mut self, packer: &mut Packer, plan: &Plan) -> Result<u64, FileError>
         ensures packed { IfOk result (λ count. (journal : JournalState) → Shows F.history F.moment self.old journal →
             MayPack journal packer.old.limit plan.now →

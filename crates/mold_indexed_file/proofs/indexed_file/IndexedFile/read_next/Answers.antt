@@ -58,7 +58,8 @@ returns-clause-shown g c = λ journal shows.
     (elim c.match-read.branch [
       | in-Ok w ↦
           part_read history moment old journal c.from.result c.to.result c.most_bytes-most.result c.in-Some.piece
-          c.read.new.self (moment c.read.new.file) c.self.invariant.named c.self.invariant.laid was c.in-Some.ensures.found
+          c.read.new.self (moment c.read.new.file) c.self.invariant.named c.self.invariant.laid was
+          c.in-Some.ensures.found
           w.in-Ok.ensures.entry (w.in-Ok.ensures.read was.has.bytes was.has.possible)
       | in-Err w ↦ part_none (start_of f.version journal) c.read.new.self w.in-Err.ensures.none
     ])
