@@ -208,6 +208,11 @@ impl<F: GrowingFile> ServedJournal for IndexedFile<F> {
             OnOk result (HasReadFor self.old.index plan.now.from plan.now.to
             (most_bytes self.old.version packer.old.limit self.old.max_message) bytes (F.moment self.old.file)
             (F.moment self.new.file) self.old.buffer self.new.buffer) }
+        ensures lacking { (bytes : ℕ → List ℕ) → F.history self.old.file bytes → IfErr result (λ error.
+            (error ≡ FileError.Read) ⊎ ((¬ HasNumber self.old.index plan.now.from)
+            ⊎ HasReadFor self.old.index plan.now.from plan.now.to
+            (most_bytes self.old.version packer.old.limit self.old.max_message) bytes (F.moment self.old.file)
+            (F.moment self.new.file) self.old.buffer self.new.buffer)) }
         ensures error { IfErr result (λ error. IsPackError self.old.version self.old.index self.new.buffer plan.now
             packer.new error) }
         ensures kept { self.new ≡ record self.old { file = self.new.file; buffer = self.new.buffer } }

@@ -1,4 +1,4 @@
-use Rattle.std.proofs.Common.{◌≡◌, ◌-◌, length, subst, ◌∙◌, arith}
+use Rattle.std.proofs.Common.{inr, ◌≡◌, ◌-◌, length, subst, ◌∙◌, arith}
 use Rattle.mold_session.specs.Loading.{message_spelling}
 use Rattle.mold_index.specs.Layouts.{layout_of}
 use Rattle.mold_indexed_file.specs.Packed.{HasPackedFrom, Lacks}
@@ -93,4 +93,11 @@ returns-clause-refused g c =
           (subst (λ (s : IndexedState g.row.F.Denot). Lacks (message_spelling s.version)
           (plan.from - s.buffer.entry.number) (plan.to - plan.from) s.buffer.bytes plan.session plan.from
           c.pack_piece.new.packer w.in-Err.none.index) is lacks)))
+    ]
+
+pub returns-clause-lacking : goal.returns-clause-lacking
+returns-clause-lacking g c = λ bytes shown.
+    elim c.match-pack_piece.branch [
+      | in-Ok w ↦ rw w.result-is tt
+      | in-Err w ↦ rw w.result-is (inr (inr (rw c.limit.ensures at (c.in_ok-read_next.ensures.read bytes shown))))
     ]
