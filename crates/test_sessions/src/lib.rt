@@ -1,4 +1,4 @@
-//! Tests of `mold_session`, `mold_index`, `mold_receiver`, `mold_rounds`, `mold_capture`, `mold_world`.
+//! Tests of `mold_session`, `mold_index`, `mold_indexed_file`, `mold_receiver`, `mold_rounds`, `mold_capture`, `mold_world`.
 #![tactic(auto)]
 
 #[cfg(test)]
@@ -9,6 +9,8 @@ mod capture;
 mod comparisons;
 #[cfg(test)]
 mod index;
+#[cfg(test)]
+mod indexed_file;
 #[cfg(test)]
 mod journal_file;
 #[cfg(test)]
