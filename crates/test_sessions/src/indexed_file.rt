@@ -13,7 +13,10 @@ use std::test::Fail;
 
 /// A version, the head of a file of that version, the bytes before the length of each message, and those after the last
 /// message.
-const CASES: [(FileVersion, &[u8], &[u8], &[u8]); 3] = [
+type Case = (FileVersion, &'static [u8], &'static [u8], &'static [u8]);
+
+/// A case of each version.
+const CASES: [Case; 3] = [
     (FileVersion::One, b"MOLDJNL1SESSION001", b"", b""),
     (
         FileVersion::Two { count: 5 },
@@ -47,15 +50,18 @@ fn file_of(alloc: Global, head: &[u8], start: &[u8], end: &[u8]) -> Result<Vec<u
     Ok(file)
 }
 
-/// The indexed file of these bytes, with the five messages. The call of the file of this number fails.
+/// The indexed file of five messages, without its last `cut` bytes. The call of the file of this number fails.
 fn indexed(
     alloc: Global,
-    version: FileVersion,
-    file: Vec<u8>,
+    case: Case,
+    cut: usize,
     fails: u64,
 ) -> Result<IndexedFile<ScriptedFile>, Fail> {
+    let (version, head, start, end) = case;
+    let mut bytes = file_of(alloc, head, start, end)?;
+    bytes.truncate(bytes.len().saturating_sub(cut));
     let mut snapshots = Vec::new(alloc);
-    snapshots.push(file)?;
+    snapshots.push(bytes)?;
     let mut file = ScriptedFile::new(snapshots, 0);
     file.fail_at(fails);
     let head = FileHead {
@@ -70,35 +76,42 @@ fn indexed(
     Ok(indexed)
 }
 
-/// The next datagram of a plan.
-fn next<'a>(
-    server: &'a mut Server,
+/// The next datagram of a plan is this one, or there is this error.
+fn expect(
+    rt: &impl Abort,
+    server: &mut Server,
     indexed: &mut IndexedFile<ScriptedFile>,
     plan: &mut Plan,
-) -> Result<Option<&'a [u8]>, FileError> {
-    server.datagram_from(indexed, plan)
+    wanted: Result<Option<&[u8]>, FileError>,
+) {
+    holds(rt, server.datagram_from(indexed, plan) == wanted);
 }
 
 /// A server sends the datagrams of a request from a file of each version. The second datagram takes no read: the call
 /// that would fail is not made.
 #[test]
 fn no_allocation_of_datagrams_from_files(rt: HostRuntime) -> Result<(), Fail> {
-    for (version, head, start, end) in CASES {
-        let file = file_of(rt.alloc(), head, start, end)?;
-        let mut indexed = indexed(rt.alloc(), version, file, 2)?;
-        holds(&rt, indexed.session() == Session(*b"SESSION001"));
-        holds(&rt, indexed.max_message() == 42 && indexed.next() == 6);
+    for case in CASES {
+        let mut file = indexed(rt.alloc(), case, 0, 2)?;
         let mut server = Server::new(rt.alloc(), 64, 42, 9)?;
-        let mut plan = server.plan_from(&indexed, 6, REQUEST)?;
-        holds(
+        let mut plan = server.plan_from(&file, 6, REQUEST)?;
+        expect(
             &rt,
-            next(&mut server, &mut indexed, &mut plan) == Ok(Some(TWO_AND_THREE)),
+            &mut server,
+            &mut file,
+            &mut plan,
+            Ok(Some(TWO_AND_THREE)),
         );
-        holds(
+        expect(
             &rt,
-            next(&mut server, &mut indexed, &mut plan) == Ok(Some(FOUR_AND_FIVE)),
+            &mut server,
+            &mut file,
+            &mut plan,
+            Ok(Some(FOUR_AND_FIVE)),
         );
-        holds(&rt, next(&mut server, &mut indexed, &mut plan) == Ok(None));
+        expect(&rt, &mut server, &mut file, &mut plan, Ok(None));
+        holds(&rt, file.session() == Session(*b"SESSION001"));
+        holds(&rt, file.max_message() == 42 && file.next() == 6);
     }
     Ok(())
 }
@@ -106,28 +119,25 @@ fn no_allocation_of_datagrams_from_files(rt: HostRuntime) -> Result<(), Fail> {
 /// After a read that failed, the same datagram is read again.
 #[test]
 fn failed_read_of_a_file(rt: HostRuntime) -> Result<(), Fail> {
-    for (version, head, start, end) in CASES {
-        let file = file_of(rt.alloc(), head, start, end)?;
-        let mut indexed = indexed(rt.alloc(), version, file, 1)?;
-        let mut server = Server::new(rt.alloc(), 64, 42, 9)?;
-        let mut plan = server.plan_from(&indexed, 6, REQUEST)?;
-        holds(
-            &rt,
-            next(&mut server, &mut indexed, &mut plan) == Err(FileError::Read),
-        );
-        holds(
-            &rt,
-            next(&mut server, &mut indexed, &mut plan) == Ok(Some(TWO_AND_THREE)),
-        );
-    }
+    let mut file = indexed(rt.alloc(), CASES[2], 0, 1)?;
+    let mut server = Server::new(rt.alloc(), 64, 42, 9)?;
+    let mut plan = server.plan_from(&file, 6, REQUEST)?;
+    expect(&rt, &mut server, &mut file, &mut plan, Err(FileError::Read));
+    expect(
+        &rt,
+        &mut server,
+        &mut file,
+        &mut plan,
+        Ok(Some(TWO_AND_THREE)),
+    );
     Ok(())
 }
 
-/// The error for a message that is not whole in a file of this version.
-fn missing(version: FileVersion, number: u64) -> FileError {
+/// The error for message 4 in a file of this version.
+fn without_four(version: FileVersion) -> FileError {
     match version {
-        FileVersion::Three => FileError::Damaged { number },
-        FileVersion::One | FileVersion::Two { .. } => FileError::BlockCut { number },
+        FileVersion::Three => FileError::Damaged { number: 4 },
+        FileVersion::One | FileVersion::Two { .. } => FileError::BlockCut { number: 4 },
     }
 }
 
@@ -136,22 +146,24 @@ fn missing(version: FileVersion, number: u64) -> FileError {
 /// datagram.
 #[test]
 fn files_cut_off_after_opening(rt: HostRuntime) -> Result<(), Fail> {
-    for (version, head, start, end) in CASES {
-        let mut file = file_of(rt.alloc(), head, start, end)?;
-        file.truncate(head.len() + 3 * (start.len() + 22) + 9);
-        let mut indexed = indexed(rt.alloc(), version, file, 0)?;
+    for case in CASES {
+        let mut file = indexed(rt.alloc(), case, 33, 0)?;
         let mut server = Server::new(rt.alloc(), 64, 42, 9)?;
-        let mut plan = server.plan_from(&indexed, 6, REQUEST)?;
-        holds(
+        let mut plan = server.plan_from(&file, 6, REQUEST)?;
+        expect(
             &rt,
-            next(&mut server, &mut indexed, &mut plan) == Err(missing(version, 4)),
+            &mut server,
+            &mut file,
+            &mut plan,
+            Err(without_four(case.0)),
         );
-        let Some(mut plan) = Plan::resumed(Session(*b"SESSION001"), 2, 4, 9) else {
-            return Ok(());
-        };
-        holds(
+        let mut plan = server.plan_from(&file, 4, REQUEST)?;
+        expect(
             &rt,
-            next(&mut server, &mut indexed, &mut plan) == Ok(Some(TWO_AND_THREE)),
+            &mut server,
+            &mut file,
+            &mut plan,
+            Ok(Some(TWO_AND_THREE)),
         );
     }
     Ok(())
