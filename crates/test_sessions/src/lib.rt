@@ -1,4 +1,5 @@
-//! Tests of `mold_session`, `mold_index`, `mold_indexed_file`, `mold_receiver`, `mold_rounds`, `mold_capture`, `mold_world`.
+//! Tests of `mold_session`, `mold_index`, `mold_indexed_file`, `mold_receiver`, `mold_rounds`, `mold_capture` and
+//! `mold_world`.
 #![tactic(auto)]
 
 #[cfg(test)]
