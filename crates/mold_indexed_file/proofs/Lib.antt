@@ -3,3 +3,5 @@ pub mod FoundLemmas
 pub mod NextLemmas
 pub mod FileLemmas
 pub mod ShownLemmas
+pub mod OpeningLemmas
+pub mod OpenedLemmas

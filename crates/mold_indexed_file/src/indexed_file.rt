@@ -91,6 +91,29 @@ impl<F: GrowingFile + Drop> IndexedFile<F> {
           buffer = indexed.buffer;
         }) }
     {
+        let index = Index::new(alloc, Layout::of(head.version));
+        IndexedFile::with_index(alloc, file, head, max_message, index)
+    }
+
+    // Makes an indexed file of a file with this head and this index. This allocates the buffer. It reads nothing.
+    pub(crate) fn with_index(
+        alloc: Global,
+        file: F,
+        head: FileHead,
+        max_message: u16,
+        index: Index,
+    ) -> Result<IndexedFile<F>, AllocError>
+        requires { index.layout ≡ layout_of head.version }
+        ensures made { IfOk result (λ indexed. indexed ≡ record {
+          file = file;
+          session = head.session;
+          version = head.version;
+          max_message = max_message;
+          index = index;
+          buffer = indexed.buffer;
+        }) }
+        ensures empty { IfOk result (λ indexed. indexed.buffer.bytes ≡ []) }
+    {
         let most = most_bytes(head.version, MAX_LIMIT, max_message);
         let buffer = PieceBuffer::new(alloc, (most + STRIDE_BYTES) as usize)?;
         Ok(IndexedFile {
@@ -98,7 +121,7 @@ impl<F: GrowingFile + Drop> IndexedFile<F> {
             session: head.session,
             version: head.version,
             max_message,
-            index: Index::new(alloc, Layout::of(head.version)),
+            index,
             buffer,
         })
     }

@@ -3,7 +3,9 @@
 
 mod indexed_file;
 pub mod laws;
+mod opening;
 mod packing;
 mod piece_buffer;
 
 pub use indexed_file::IndexedFile;
+pub use opening::open_indexed;
