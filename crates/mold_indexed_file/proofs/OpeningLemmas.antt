@@ -54,9 +54,9 @@ cut_or_long most count rest few (inr cut) =
     elim (cases_lt (length rest) 2) [
       | inl short ↦ inl (inl short)
       | inr long ↦ elim (within_or_above most cut.0) [
-          | inl within ↦ inl (inr (within, cut.1))
-          | inr above ↦ inr (record { len = _; fault = (few, long, refl, above) })
-        ]
+        | inl within ↦ inl (inr (within, cut.1))
+        | inr above ↦ inr (record { len = _; fault = (few, long, refl, above) })
+      ]
     ]
 
 -- The record of a message that is too long follows `count` messages.
@@ -74,15 +74,18 @@ damaged_or_long most count rest (IsDamaged.cut_message more few parts ends) =
     elim (cut_or_long most count more few ends) [
       | inl cut ↦ inl (IsDamaged.cut_message more few parts cut)
       | inr long ↦ inr (record {
-          len = long.len;
-          fault = (few, record {
+        len = long.len;
+        fault = (
+          few,
+          record {
             more = more;
             parts = parts;
             whole = long.fault.1;
             stated = long.fault.2;
             long = long.fault.3;
-          });
-        })
+          },
+        );
+      })
     ]
 
 -- The fault of a file for messages of any length, if the messages before the fault have at most `most` bytes.
@@ -93,14 +96,21 @@ gives_open most bytes messages BadMagic bound each gives = inl gives.0
 gives_open most bytes messages (BadFlag byte) bound each gives = inl gives.0
 gives_open most bytes messages Full bound each gives =
     elim gives.1 [
-      | inl are ↦ inl (inl (are.front.behind, are.front.head, record {
+      | inl are ↦ inl (inl (
+        are.front.behind,
+        are.front.head,
+        record {
           messages = messages;
           rest = are.rest;
           each = each;
           parts = are.front.parts;
           fault = are.fault;
-        }))
-      | inr are ↦ inl (inr (are.0, are.1, record {
+        },
+      ))
+      | inr are ↦ inl (inr (
+        are.0,
+        are.1,
+        record {
           messages = messages;
           before = record {
             rest = are.2.rest;
@@ -110,18 +120,26 @@ gives_open most bytes messages Full bound each gives =
             };
             fault = are.2.fault;
           };
-        }))
+        },
+      ))
     ]
 gives_open most bytes messages (TooLong len) bound each gives =
     elim gives.1 [
-      | inl are ↦ inl (inl (are.front.behind, are.front.head, record {
+      | inl are ↦ inl (inl (
+        are.front.behind,
+        are.front.head,
+        record {
           messages = messages;
           rest = are.rest;
           each = each;
           parts = are.front.parts;
           fault = (are.fault.0, are.fault.1, are.fault.2, omega (arith, bound, are.fault.3));
-        }))
-      | inr are ↦ inl (inr (are.0, are.1, record {
+        },
+      ))
+      | inr are ↦ inl (inr (
+        are.0,
+        are.1,
+        record {
           messages = messages;
           before = record {
             rest = are.2.rest;
@@ -129,60 +147,80 @@ gives_open most bytes messages (TooLong len) bound each gives =
               listed = record { few = are.2.front.listed.few; each = each };
               parts = are.2.front.parts;
             };
-            fault = (are.2.fault.0, record {
-              more = are.2.fault.1.more;
-              parts = are.2.fault.1.parts;
-              whole = are.2.fault.1.whole;
-              stated = are.2.fault.1.stated;
-              long = omega (arith, bound, are.2.fault.1.long);
-            });
+            fault = (
+              are.2.fault.0,
+              record {
+                more = are.2.fault.1.more;
+                parts = are.2.fault.1.parts;
+                whole = are.2.fault.1.whole;
+                stated = are.2.fault.1.stated;
+                long = omega (arith, bound, are.2.fault.1.long);
+              },
+            );
           };
-        }))
+        },
+      ))
     ]
 gives_open most bytes messages (BlockCut number) bound each gives =
     let are = gives.1 in
     let few = are.fault.0 in
     elim (cut_or_long most (length messages) are.rest few are.fault.2.short) [
-      | inl ends ↦ inl (are.front.behind, are.front.head, record {
+      | inl ends ↦ inl (
+        are.front.behind,
+        are.front.head,
+        record {
           messages = messages;
           rest = are.rest;
           each = each;
           parts = are.front.parts;
           fault = (few, are.fault.1, record { some = are.fault.2.some; short = ends });
-        })
+        },
+      )
       | inr long ↦ inr (inl (record {
-          messages = messages;
-          each = each;
-          cut = gives;
-          len = long.len;
-          long = inl (are.front.behind, are.front.head, record {
+        messages = messages;
+        each = each;
+        cut = gives;
+        len = long.len;
+        long = inl (
+          are.front.behind,
+          are.front.head,
+          record {
             messages = messages;
             rest = are.rest;
             each = each;
             parts = are.front.parts;
             fault = long.fault;
-          });
-        }))
+          },
+        );
+      }))
     ]
 gives_open most bytes messages (Damaged number) bound each gives =
     let are = gives.1 in
     let front : HasRecords most are.0 messages are.2.rest =
     record { listed = record { few = are.2.front.listed.few; each = each }; parts = are.2.front.parts } in
     elim (damaged_or_long most (length messages) are.2.rest are.2.fault.1) [
-      | inl damaged ↦ inl (are.0, are.1, record {
+      | inl damaged ↦ inl (
+        are.0,
+        are.1,
+        record {
           messages = messages;
           before = record { rest = are.2.rest; front = front; fault = (are.2.fault.0, damaged) };
-        })
+        },
+      )
       | inr long ↦ inr (inl (record {
-          messages = messages;
-          each = each;
-          cut = gives;
-          len = long.len;
-          long = inr (are.0, are.1, record {
+        messages = messages;
+        each = each;
+        cut = gives;
+        len = long.len;
+        long = inr (
+          are.0,
+          are.1,
+          record {
             messages = messages;
             before = record { rest = are.2.rest; front = front; fault = long.fault };
-          });
-        }))
+          },
+        );
+      }))
     ]
 gives_open most bytes messages (CountDiffers count found) bound each gives =
     let off = gives.0 in
@@ -222,7 +260,8 @@ refuses_each P Q known same Write refused = refused
 refuses_each P Q known same BadMagic refused =
     in_known known (λ bytes. P bytes BadMagic) (λ bytes. Q bytes BadMagic) (λ bytes. same bytes BadMagic) refused
 refuses_each P Q known same (Short len) refused =
-    in_known known (λ bytes. P bytes (Short len)) (λ bytes. Q bytes (Short len)) (λ bytes. same bytes (Short len)) refused
+    in_known known (λ bytes. P bytes (Short len)) (λ bytes. Q bytes (Short len)) (λ bytes. same bytes (Short len))
+    refused
 refuses_each P Q known same (BadFlag byte) refused =
     in_known known (λ bytes. P bytes (BadFlag byte)) (λ bytes. Q bytes (BadFlag byte))
     (λ bytes. same bytes (BadFlag byte)) refused
@@ -400,13 +439,16 @@ module _ (most : ℕ) (xs ys zs : List ℕ) (reader next : ReaderState) (index :
             listed = record { few = reading.read.listed.few; each = reading.each };
             parts = ap (λ (t : List ℕ). t ++ ys) (as_records reader.head.version reading.messages recorded);
           };
-          fault = (few, record {
-            more = block next.message ++ zs;
-            parts = begins;
-            whole = omega arith;
-            stated = length_read next.message zs bound ∙ sym stated;
-            long = above;
-          });
+          fault = (
+            few,
+            record {
+              more = block next.message ++ zs;
+              parts = begins;
+              whole = omega arith;
+              stated = length_read next.message zs bound ∙ sym stated;
+              long = above;
+            },
+          );
         };
       })
 

@@ -8,7 +8,7 @@ ghost use Rattle.mold_session.specs.declared.error.FileError.{FileError};
 ghost use Rattle.mold_index.specs.Index.{Indexes};
 ghost use Rattle.mold_index.specs.Layouts.{layout_of};
 ghost use Rattle.mold_indexed_file.specs.Opened.{AddFault, IsIndexOf, IsLoaded, IsOpened, OpenFault};
-ghost use Rattle.mold_indexed_file.specs.Shown.{Shows};
+ghost use Rattle.mold_indexed_file.specs.Shown.{IsInFile, Shows};
 
 use crate::indexed_file::IndexedFile;
 use mold_devices::{Piece, Source};
@@ -80,9 +80,9 @@ fn read_index<S: Source>(
 /// time for each message, except when the memory of the index is doubled. It reads nothing through `file`.
 ///
 /// The errors are those of `Journal::load`, with two exceptions. If the last message is cut, and its length is above
-/// `max_message`, the error is `BlockCut`, or `Damaged` in version 3, instead of `TooLong`. A file that is longer than
-/// 9,223,372,036,854,775,807 bytes is refused with `Full`. `Memory` is also returned if the allocation of the index or of
-/// the buffer fails.
+/// `max_message`, the error is `BlockCut`, or `Damaged` in version 3, instead of `TooLong`. `Full` is also returned for
+/// a file that is longer than 9,223,372,036,854,775,807 bytes. If an allocation for the index or for the buffer fails,
+/// `Memory` is returned.
 pub fn open_indexed<F: GrowingFile + Drop, S: Source>(
     alloc: Global,
     max_message: u16,
@@ -90,8 +90,11 @@ pub fn open_indexed<F: GrowingFile + Drop, S: Source>(
     source: &mut S,
 ) -> Result<IndexedFile<F>, FileError>
     ensures shown { IfOk result (λ indexed. (bytes : List ℕ) (journal : JournalState) →
-        S.left source.old ≡ Some bytes → F.history file (λ moment. bytes) → IsLoaded max_message bytes journal →
+        S.left source.old ≡ Some bytes → IsLoaded max_message bytes journal → F.history file (λ moment. bytes) →
         Shows F.history F.moment indexed journal) }
+    ensures growing { IfOk result (λ indexed. (bytes : List ℕ) (journal : JournalState) →
+        S.left source.old ≡ Some bytes → IsLoaded max_message bytes journal →
+        IsInFile F.history F.moment file indexed.version journal → Shows F.history F.moment indexed journal) }
     ensures opened { IfOk result (λ indexed. IfSome (S.left source.old) (λ bytes. IsOpened max_message bytes indexed)) }
     ensures kept { IfOk result (λ indexed. (indexed.file ≡ file) × (indexed.max_message ≡ max_message)) }
     ensures spent { IfOk result (λ _. IsAtEnd (S.left source.new)) }

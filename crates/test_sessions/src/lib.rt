@@ -17,6 +17,8 @@ mod journal_file;
 #[cfg(test)]
 mod journals;
 #[cfg(test)]
+mod opening;
+#[cfg(test)]
 mod publisher;
 #[cfg(test)]
 mod receiver;
