@@ -1,11 +1,11 @@
 //! A server's journal in a small file of each version: its datagrams, a read that fails, and a file that was cut off
 //! after it was opened.
 
-use crate::comparisons::holds;
+use crate::comparisons::{holds, holds_at};
 use mold_durable::ScriptedFile;
 use mold_index::IndexError;
 use mold_indexed_file::IndexedFile;
-use mold_session::{FileError, FileHead, FileVersion, Plan, ServedJournal, Server};
+use mold_session::{FileError, FileHead, FileVersion, ServedJournal, Server};
 use mold_wire::Session;
 use std::alloc::{AllocError, Global};
 use std::process::Abort;
@@ -76,15 +76,24 @@ fn indexed(
     Ok(indexed)
 }
 
-/// The next datagram of a plan is this one, or there is this error.
-fn expect(
-    rt: &impl Abort,
-    server: &mut Server,
+/// What a call for the next datagram of a plan returns.
+type Sent = Result<Option<&'static [u8]>, FileError>;
+
+/// The calls for the datagrams of a request for messages below `below` return these results, in order.
+pub fn expect_sent(
+    rt: &(impl Abort + AllocGlobal),
     indexed: &mut IndexedFile<ScriptedFile>,
-    plan: &mut Plan,
-    wanted: Result<Option<&[u8]>, FileError>,
-) {
-    holds(rt, server.datagram_from(indexed, plan) == wanted);
+    below: u64,
+    request: &[u8],
+    wanted: &[Sent],
+) -> Result<(), Fail> {
+    let mut server = Server::new(rt.alloc(), 64, 42, 9)?;
+    let mut plan = server.plan_from(indexed, below, request)?;
+    for index in 0..wanted.len() {
+        let sent = server.datagram_from(indexed, &mut plan);
+        holds_at(rt, sent == wanted[index], "call", index);
+    }
+    Ok(())
 }
 
 /// A server sends the datagrams of a request from a file of each version. The second datagram takes no read: the call
@@ -93,23 +102,8 @@ fn expect(
 fn no_allocation_of_datagrams_from_files(rt: HostRuntime) -> Result<(), Fail> {
     for case in CASES {
         let mut file = indexed(rt.alloc(), case, 0, 2)?;
-        let mut server = Server::new(rt.alloc(), 64, 42, 9)?;
-        let mut plan = server.plan_from(&file, 6, REQUEST)?;
-        expect(
-            &rt,
-            &mut server,
-            &mut file,
-            &mut plan,
-            Ok(Some(TWO_AND_THREE)),
-        );
-        expect(
-            &rt,
-            &mut server,
-            &mut file,
-            &mut plan,
-            Ok(Some(FOUR_AND_FIVE)),
-        );
-        expect(&rt, &mut server, &mut file, &mut plan, Ok(None));
+        let wanted = [Ok(Some(TWO_AND_THREE)), Ok(Some(FOUR_AND_FIVE)), Ok(None)];
+        expect_sent(&rt, &mut file, 6, REQUEST, &wanted)?;
         holds(&rt, file.session() == Session(*b"SESSION001"));
         holds(&rt, file.max_message() == 42 && file.next() == 6);
     }
@@ -120,17 +114,8 @@ fn no_allocation_of_datagrams_from_files(rt: HostRuntime) -> Result<(), Fail> {
 #[test]
 fn failed_read_of_a_file(rt: HostRuntime) -> Result<(), Fail> {
     let mut file = indexed(rt.alloc(), CASES[2], 0, 1)?;
-    let mut server = Server::new(rt.alloc(), 64, 42, 9)?;
-    let mut plan = server.plan_from(&file, 6, REQUEST)?;
-    expect(&rt, &mut server, &mut file, &mut plan, Err(FileError::Read));
-    expect(
-        &rt,
-        &mut server,
-        &mut file,
-        &mut plan,
-        Ok(Some(TWO_AND_THREE)),
-    );
-    Ok(())
+    let wanted = [Err(FileError::Read), Ok(Some(TWO_AND_THREE))];
+    expect_sent(&rt, &mut file, 6, REQUEST, &wanted)
 }
 
 /// The error for message 4 in a file of this version.
@@ -148,23 +133,8 @@ fn without_four(version: FileVersion) -> FileError {
 fn files_cut_off_after_opening(rt: HostRuntime) -> Result<(), Fail> {
     for case in CASES {
         let mut file = indexed(rt.alloc(), case, 33, 0)?;
-        let mut server = Server::new(rt.alloc(), 64, 42, 9)?;
-        let mut plan = server.plan_from(&file, 6, REQUEST)?;
-        expect(
-            &rt,
-            &mut server,
-            &mut file,
-            &mut plan,
-            Err(without_four(case.0)),
-        );
-        let mut plan = server.plan_from(&file, 4, REQUEST)?;
-        expect(
-            &rt,
-            &mut server,
-            &mut file,
-            &mut plan,
-            Ok(Some(TWO_AND_THREE)),
-        );
+        expect_sent(&rt, &mut file, 6, REQUEST, &[Err(without_four(case.0))])?;
+        expect_sent(&rt, &mut file, 4, REQUEST, &[Ok(Some(TWO_AND_THREE))])?;
     }
     Ok(())
 }

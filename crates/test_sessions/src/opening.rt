@@ -2,10 +2,11 @@
 //! fails, no file is opened.
 
 use crate::comparisons::{holds, holds_at};
+use crate::indexed_file::expect_sent;
 use mold_devices::MemorySource;
 use mold_durable::ScriptedFile;
 use mold_indexed_file::{IndexedFile, open_indexed};
-use mold_session::{FileError, ServedJournal, Server};
+use mold_session::{FileError, ServedJournal};
 use mold_wire::Session;
 use std::alloc::{AllocError, Global};
 use std::process::Abort;
@@ -36,6 +37,7 @@ const CASES: [(&[u8], &[u8], &[u8], FileError); 3] = [
 
 /// A request for messages 2 and 3, and the response.
 const REQUEST: &[u8] = b"SESSION001\0\0\0\0\0\0\0\x02\0\x02";
+
 const RESPONSE: &[u8] = b"SESSION001\0\0\0\0\0\0\0\x02\0\x02\0\x02BB\0\x03CCC";
 
 /// The file of the messages A, BB and CCC.
@@ -74,12 +76,7 @@ fn open(
 }
 
 /// The error with which these bytes are not opened, or the next number of the journal.
-fn opened(
-    alloc: Global,
-    bytes: &[u8],
-    max_message: u16,
-    fails_at: u64,
-) -> Result<u64, FileError> {
+fn opened(alloc: Global, bytes: &[u8], max_message: u16, fails_at: u64) -> Result<u64, FileError> {
     let indexed = open(alloc, bytes, max_message, fails_at)?;
     Ok(indexed.next())
 }
@@ -91,10 +88,7 @@ fn opened_files_have_their_messages(rt: HostRuntime) -> Result<(), Fail> {
         let mut indexed = open(rt.alloc(), &file, 3, 0)?;
         holds(&rt, indexed.session() == Session(*b"SESSION001"));
         holds(&rt, indexed.max_message() == 3 && indexed.next() == 4);
-        let mut server = Server::new(rt.alloc(), 64, 3, 9)?;
-        let mut plan = server.plan_from(&indexed, 4, REQUEST)?;
-        let datagram = server.datagram_from(&mut indexed, &mut plan);
-        holds(&rt, datagram == Ok(Some(RESPONSE)));
+        expect_sent(&rt, &mut indexed, 4, REQUEST, &[Ok(Some(RESPONSE))])?;
     }
     Ok(())
 }
