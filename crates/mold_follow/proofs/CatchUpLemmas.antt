@@ -1,5 +1,5 @@
 -- A journal that is brought up to a file.
-use Rattle.std.proofs.Common.{◌≡◌, ◌≤◌, ℕ, List, ◌++◌, Bool, true, ap, subst, sym, ◌∙◌, append_assoc}
+use Rattle.std.proofs.Common.{◌≡◌, ◌≤◌, ℕ, List, ◌++◌, Bool, ap, subst, sym, ◌∙◌, append_assoc}
 use Rattle.mold_durable.specs.Following.{HasAll, Writer, Writes}
 use Rattle.mold_session.specs.Contents.{IsFront}
 

@@ -10,7 +10,7 @@ use Rattle.mold_devices.specs.declared.fault.CommandFault.TheVariants as command
 use Rattle.mold_durable.specs.Reading.{IsOfDevice, file_error}
 use Rattle.mold_durable.specs.declared.error.OpenError.{OpenError}
 use Rattle.mold_durable.specs.declared.error.OpenError.TheVariants as opening
-use Rattle.mold_follow.specs.FileError.{device_fault}
+use Rattle.mold_serve.specs.FileError.{device_fault}
 use Rattle.mold_follow.specs.Dumping.{BreaksAfter, EndsAfter, FollowsToEnd, FollowsToFault, GoesOn, Looks, Outputs}
 use Rattle.mold_follow.specs.Dumping.{Returned, followed_text, is_over, mark_of}
 use Rattle.mold_follow.specs.declared.looked.Looked.TheVariants.{Ended, Paused, Stopped}

@@ -1,13 +1,18 @@
 -- Turns of a server that follows the file of its journal.
-use Rattle.std.proofs.Common.{◌≡◌, Bool, List, [], ℕ, Result, Ok, Err, sym, subst, ap}
-use Rattle.std.specs.Prelude.{IsErr}
+use Rattle.std.proofs.Common.{◌≡◌, Bool, List, [], None, Some, Result, Ok, Err, arith, sym, subst, ap, ◌∙◌, ⊎_elim}
+use Rattle.std.specs.Prelude.{IfErr, IsErr}
+use Rattle.mold_devices.specs.declared.fault.CommandFault.TheVariants as command
 use Rattle.mold_ports.specs.Ports.{Port, received}
 use Rattle.mold_serve.specs.Answering.{Reaches}
+use Rattle.mold_serve.specs.FileError.{IsReadOrMemory, device_fault}
 use Rattle.mold_serve.specs.Serving.{ResponderState, Service, responder_of, serve_turn, service_of}
 use Rattle.mold_serve.specs.declared.tally.Tally.{Tally}
 use Rattle.mold_serve.proofs.ServingLemmas.{serving_is}
 use Rattle.mold_session.specs.Journal.{JournalState}
+use Rattle.mold_session.specs.Loading.{CountsLoad, CountsLoadFault}
 use Rattle.mold_session.specs.Server.{ServerState}
+use Rattle.mold_session.specs.declared.error.FileError.{FileError}
+use Rattle.mold_session.specs.declared.error.FileError.TheVariants.{Memory}
 use Rattle.mold_turns.proofs.RunLemmas.{none_ok}
 use Rattle.mold_turns.specs.Runs.{Begins}
 
@@ -22,14 +27,21 @@ turn_cut_short {P} {T} {E} result service old port tally server failed left = re
       ((serving_is service).sends [] old);
 }
 
--- The same state after a result of another type.
-pub as_ok : {P E F : Type 0} {new wanted : ResponderState P} → Reaches {T = Unit {0}} {E = E} (Ok tt) new wanted →
-    Reaches {T = Unit {0}} {E = F} (Ok tt) new wanted
-as_ok {P} {E} {F} {new} {wanted} reached = record { whole = reached.whole; sent = reached.sent }
+-- A journal in memory has no error but `Memory`.
+pub memory_only : {T : Type 0} (result : Result T FileError) (May : JournalState → Type 0) (journal : JournalState) →
+    May journal → IfErr result (λ error. (shown : JournalState) → May shown → IsReadOrMemory error) →
+    CountsLoad 0 0 result → IfErr result (λ error. error ≡ Memory)
+memory_only (Ok _) May journal may refused counts = tt
+memory_only (Err error) May journal may refused counts =
+    ⊎_elim (λ read. absurd (omega (arith, subst (CountsLoadFault 0 0) read counts))) (λ memory. memory)
+    (refused journal may)
 
-pub as_err : {P E F : Type 0} {new wanted : ResponderState P} (one : E) (other : F) →
-    Reaches {T = Unit {0}} (Err one) new wanted → Reaches {T = Unit {0}} (Err other) new wanted
-as_err {P} {E} {F} {new} {wanted} one other reached = record { whole = tt; sent = reached.sent }
+-- It is a fault.
+pub memory_faults : {T : Type 0} (result : Result T FileError) (P : Type 0) → IfErr result (λ error. error ≡ Memory) →
+    IfErr result (λ error. device_fault error ≡ None → P)
+memory_faults (Ok _) P memory = tt
+memory_faults (Err error) P memory = λ none.
+    let no : Some command.Memory ≡ None = sym (ap device_fault memory) ∙ none in absurd cc
 
 -- A turn over an equal journal.
 pub over_same : {P T E : Type 0} (result : Result T E) (new old : ResponderState P) (journal other : JournalState)

@@ -1,3 +1,2 @@
-pub mod FileError
 pub mod Dumping
 pub mod Serving

@@ -1,5 +1,5 @@
 -- When `serve --follow` reads new records.
-use Rattle.std.specs.Prelude.{ℕ, Bool, true, false, List, Result, Ok, Err}
+use Rattle.std.specs.Prelude.{ℕ, Bool, true, false, List, Result, Err}
 use Rattle.mold_ports.specs.Ports.{Datagram, Failure, Quiet, Receipt}
 use Rattle.mold_session.specs.Journal.{JournalState}
 use Rattle.mold_session.specs.Server.{checked_request}

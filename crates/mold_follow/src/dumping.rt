@@ -4,18 +4,19 @@ ghost use Rattle.std.specs.Prelude.{◌≡◌, ◌⊎◌, ◌+◌, ◌++◌, [],
 ghost use Rattle.std.specs.Prelude.{IfSome, OnOk};
 ghost use Rattle.mold_durable.specs.Follower.{Follows};
 ghost use Rattle.mold_durable.specs.Following.{Writer, Writes};
-ghost use Rattle.mold_follow.specs.FileError.{device_fault};
+ghost use Rattle.mold_serve.specs.FileError.{device_fault};
 ghost use Rattle.mold_follow.specs.Dumping.{BreaksAfter, EndsAfter, EndsOrGoesOn, FollowsToEnd, FollowsToFault};
 ghost use Rattle.mold_follow.specs.Dumping.{GoesOn, Looks, is_over, mark_of};
 ghost use Rattle.mold_show.specs.Listed.{ListsUntil, first_refused, list_text};
 
 use crate::dump_devices::DumpDevices;
-use crate::file_error::{device_fault, load_error};
+use crate::file_error::load_error;
 use crate::looked::Looked;
 use mold_devices::{CommandFault, Sink, send};
 use mold_durable::{Follower, GrowingFile};
 use mold_messages::MessageList;
 use mold_port_set::PortSet;
+use mold_serve::device_fault;
 use mold_session::FileError;
 use mold_show::{DumpFault, DumpOptions, end_dump, push_end, push_listed};
 use std::alloc::Global;

@@ -1,10 +1,8 @@
-//! The errors of a follower as those of a journal file, and as faults of a command.
+//! The errors of a follower as those of a journal file.
 
 ghost use Rattle.std.specs.Prelude.{◌≡◌};
 ghost use Rattle.mold_durable.specs.Reading.{file_error};
-ghost use Rattle.mold_follow.specs.FileError.{device_fault};
 
-use mold_devices::CommandFault;
 use mold_durable::OpenError;
 use mold_session::FileError;
 
@@ -21,17 +19,5 @@ pub fn load_error(error: OpenError) -> FileError
         OpenError::Read => FileError::Read,
         OpenError::Write => FileError::Write,
         OpenError::Memory => FileError::Memory,
-    }
-}
-
-/// Returns the fault if a call or an allocation failed, and `None` for an error of the bytes.
-pub fn device_fault(error: FileError) -> Option<CommandFault>
-    ensures { result ≡ device_fault error }
-{
-    match error {
-        FileError::Read => Some(CommandFault::Read),
-        FileError::Write => Some(CommandFault::Write),
-        FileError::Memory => Some(CommandFault::Memory),
-        _ => None,
     }
 }

@@ -11,5 +11,6 @@ mod serving;
 pub use catching_up::catch_up;
 pub use dump_devices::DumpDevices;
 pub use dumping::follow_dump;
-pub use file_error::{device_fault, load_error};
+pub use file_error::load_error;
+pub use mold_serve::device_fault;
 pub use serving::{FollowingServer, follow_serve};

@@ -4,23 +4,22 @@ ghost use Rattle.std.specs.Prelude.{◌≡◌, ◌≤◌, ◌⊎◌, None, true,
 ghost use Rattle.std.specs.Prelude.{IfSome, OnErr, OnOk};
 ghost use Rattle.mold_durable.specs.Follower.{Follows};
 ghost use Rattle.mold_durable.specs.Following.{HasAll, Writer, Writes};
-ghost use Rattle.mold_follow.specs.FileError.{device_fault};
 ghost use Rattle.mold_follow.specs.Serving.{is_ahead, is_looked_up};
 ghost use Rattle.mold_ports.specs.Ports.{cut, next_of};
 ghost use Rattle.mold_serve.specs.Answering.{Reaches};
+ghost use Rattle.mold_serve.specs.FileError.{device_fault};
 ghost use Rattle.mold_serve.specs.Serving.{replied, reply, responder_of, serve_turn, service_of};
 ghost use Rattle.mold_serve.specs.Tally.{served_line, with_outgoing};
+ghost use Rattle.mold_session.specs.declared.error.FileError.{FileError};
 ghost use Rattle.mold_turns.specs.Outgoing.{with_more};
 ghost use Rattle.mold_turns.specs.Runs.{Begins};
 ghost use Rattle.mold_wire.specs.declared.limits.TheConstants.{MAX_LIMIT};
 
 use crate::catching_up::catch_up;
-use crate::file_error::device_fault;
 use mold_devices::{CommandFault, Sink};
 use mold_durable::{Follower, GrowingFile};
 use mold_ports::Datagrams;
-use mold_refusals::push_file_refusal;
-use mold_serve::{Responder, Tally};
+use mold_serve::{Asked, Tally, answer_once, end_refused};
 use mold_session::{FileError, Journal, Server};
 use mold_text::Word;
 use mold_wire::{MAX_LIMIT, Request};
@@ -104,8 +103,9 @@ fn push_served(tally: &mut Tally) -> Result<(), AllocError>
 }
 
 impl<F: GrowingFile, D: Datagrams> FollowingServer<F, D> {
-    // Answers a request from the journal, or refuses it, as `serve` does.
-    fn answer(&mut self, from: D::Peer, request: &[u8]) -> Result<(), AllocError>
+    // Answers a request from the journal, or refuses it, as `serve` does. The journal is in memory, so the only error is
+    // `Memory`.
+    fn answer(&mut self, from: D::Peer, request: &[u8]) -> Result<(), FileError>
         requires { self.old.journal.max_message ≤ self.old.server.max_message }
         ensures replied { D.modeled ≡ true → (fails : List Bool) × Reaches result
             (responder_of (D.port self.new.port) self.new.tally self.new.server)
@@ -115,14 +115,20 @@ impl<F: GrowingFile, D: Datagrams> FollowingServer<F, D> {
         ensures limits { self.new.server ≡ record self.old.server { answered = self.new.server.answered } }
         ensures journal { self.new.journal ≡ self.old.journal }
         ensures follower { self.new.follower ≡ self.old.follower }
+        ensures memory { IfErr result (λ error. error ≡ FileError.Memory) }
     {
-        let mut responder = Responder {
-            port: &mut self.port,
-            server: &mut self.server,
-            journal: &self.journal,
-            tally: &mut self.tally,
+        let mut journal = &self.journal;
+        let asked = Asked {
+            from,
+            bytes: request,
         };
-        responder.answer_request(from, request)
+        answer_once(
+            &mut self.port,
+            &mut self.server,
+            &mut journal,
+            &mut self.tally,
+            asked,
+        )
     }
 
     /// Makes one turn: receives once, and answers or refuses what was received. Before a request is refused as `Ahead`,
@@ -157,10 +163,7 @@ impl<F: GrowingFile, D: Datagrams> FollowingServer<F, D> {
         match self.port.receive(buffer) {
             Ok(Some((len, from))) => {
                 look_up(&mut self.follower, &mut self.journal, &buffer[..len])?;
-                match self.answer(from, &buffer[..len]) {
-                    Ok(()) => Ok(()),
-                    Err(_) => Err(FileError::Memory),
-                }
+                self.answer(from, &buffer[..len])
             }
             Ok(None) => {
                 catch_up(&mut self.follower, &mut self.journal)?;
@@ -172,30 +175,6 @@ impl<F: GrowingFile, D: Datagrams> FollowingServer<F, D> {
                 Ok(())
             }
         }
-    }
-
-    // Ends the command because of an error of a turn. Writes the text of the turns before. If a call or an allocation
-    // failed, it is the fault. Otherwise it writes the line of the error, and returns the status, which is 2.
-    fn end_refused<K: Sink>(
-        &mut self,
-        told: usize,
-        error: FileError,
-        sink: &mut K,
-    ) -> Result<u8, CommandFault>
-        ensures status { IfOk result (λ status. status ≡ 2) }
-        ensures follower { self.new.follower ≡ self.old.follower }
-        ensures journal { self.new.journal ≡ self.old.journal }
-        ensures server { self.new.server ≡ self.old.server }
-    {
-        let outgoing = &mut self.tally.outgoing;
-        if let Some(fault) = device_fault(error) {
-            return Err(outgoing.end_with(told, fault, sink));
-        }
-        let Ok(()) = push_file_refusal(&mut outgoing.text, error) else {
-            return Err(outgoing.end_with(told, CommandFault::Memory, sink));
-        };
-        outgoing.send(sink)?;
-        Ok(2)
     }
 
     // Makes one turn. Then writes the text if it has at least 65,536 bytes or the sink is live. Returns the status if an
@@ -217,7 +196,7 @@ impl<F: GrowingFile, D: Datagrams> FollowingServer<F, D> {
     {
         let told = self.tally.outgoing.unwritten();
         if let Err(error) = self.take_turn(buffer) {
-            return Ok(Some(self.end_refused(told, error, sink)?));
+            return Ok(Some(end_refused(&mut self.tally.outgoing, told, error, sink)?));
         }
         self.tally.outgoing.send_large(sink)?;
         Ok(None)

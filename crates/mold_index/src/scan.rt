@@ -8,14 +8,8 @@ ghost use Rattle.mold_index.specs.Scan.{BeginsNoMessage, EndAfter, FindsMessage,
 
 use crate::error::NoMessage;
 use byteorder::{BigEndian, ByteOrder};
-use mold_session::FileVersion;
+use mold_session::{FileVersion, MESSAGE_KIND, OPEN_GATE};
 use mold_wire::LENGTH_BYTES;
-
-// The gate before a record, which is open.
-const OPEN_GATE: u8 = 1;
-
-// The second byte of a message's record.
-const MESSAGE_KIND: u8 = 0;
 
 // Returns the message of the block at the start of the bytes, and the bytes after it.
 fn split_block(bytes: &[u8]) -> Option<(&[u8], &[u8])>

@@ -1,6 +1,6 @@
 -- Lemmas about one round of requests, and about the rounds as a loop.
 use Rattle.std.proofs.Common.{◌≡◌, ℕ, ◌-◌, suc, Bool, true, false, List, [], ◌∷◌, ◌++◌, length, replicate}
-use Rattle.std.proofs.Common.{Option, None, Some, Result, Ok, ap, refl, sym, subst, ◌∙◌, append_assoc, arith, length-append}
+use Rattle.std.proofs.Common.{Option, None, Some, Result, Ok, Err, ap, refl, sym, subst, ◌∙◌, append_assoc, arith, length-append}
 use Rattle.std.proofs.Math.ListN.{length-replicate}
 use Rattle.std.proofs.lemmas.Result.{on_ok_weaker}
 use Rattle.std.specs.Prelude.{IsErr, OnOk, ◌≤◌}
@@ -277,12 +277,12 @@ has_repaired {P} result service fails before after responder mid count is_served
     }
 
 -- the server's turn ended with a fault
-pub repair_cut : {P T E : Type 0} (result : Result T E) (service : Service) (fails : List Bool)
-    (before after : RepairState P) → IsErr result → after.requests ≡ before.requests →
+pub repair_cut : {P T E : Type 0} {error : E} (service : Service) (fails : List Bool)
+    (before after : RepairState P) → after.requests ≡ before.requests →
     Begins after.server.sent (served service fails before).port.sent →
-    HasRepaired result after (repaired service fails before)
-repair_cut {P} result service fails before after failed same sent = record {
-  whole = none_ok result _ failed;
+    HasRepaired {T = T} {E = E} (Err error) after (repaired service fails before)
+repair_cut {P} service fails before after same sent = record {
+  whole = tt;
   requests = ap (λ (p : Port P). p.sent) same ∙ sym (repaired_requests service fails before);
   answers = sent;
 }

@@ -33,7 +33,7 @@ use mold_ports::Datagrams;
 use mold_publish::{Filled, MessageRefusal, fill};
 use mold_receiver::{Line, Origin};
 use mold_send::publisher_holds;
-use mold_serve::{Responder, Tally};
+use mold_serve::{Tally, serve_once};
 use mold_session::laws::packing_law;
 use mold_session::{Journal, Publisher, Server};
 use mold_wire::Request;
@@ -287,15 +287,14 @@ impl<'a, 'p, D: Datagrams + Drop> LocalFeed<'a, 'p, D> {
         ensures keeps { KeepsSide (outgoing self.old) (outgoing self.new) }
     {
         let mut tally = Tally::new(self.alloc);
-        let mut responder = Responder {
-            port: &mut self.ports.server,
-            server,
-            journal,
-            tally: &mut tally,
+        let mut served = journal;
+        let port = &mut self.ports.server;
+        // The journal is in memory, so a turn fails only if an allocation does.
+        let Ok(()) = serve_once(port, server, &mut served, &mut tally, self.buffer) else {
+            return Err(AllocError);
         };
-        responder.take_turn(self.buffer)?;
-        let answered = responder.tally.answered;
-        let failures = responder.tally.outgoing.failures();
+        let answered = tally.answered;
+        let failures = tally.outgoing.failures();
         self.listener.printer.outgoing.count_failures(failures);
         self.take_answers(answered)
     }

@@ -1,9 +1,9 @@
 -- The responses to a request, offered one by one.
-use Rattle.std.proofs.Common.{◌≡◌, ℕ, ◌-◌, Bool, true, false, List, [], ◌∷◌, ◌++◌, length, Result, Ok, Err, refl, sym, ap, subst, ◌∙◌, append_assoc, arith}
+use Rattle.std.proofs.Common.{◌≡◌, ℕ, ◌-◌, Bool, true, false, List, [], ◌∷◌, ◌++◌, length, Result, Ok, Err, refl, sym, ap, subst, ◌∙◌, append_assoc, arith, inl, inr}
 use Rattle.std.proofs.lemmas.Result.{IfOk-from_err, on_ok_weaker}
 use Rattle.std.specs.Prelude.{IsErr, OnOk}
 use Rattle.mold_ports.specs.Ports.{Port, offered}
-use Rattle.mold_serve.specs.Answering.{OffersOne, OffersNext, Reaches, left_of}
+use Rattle.mold_serve.specs.Answering.{OffersOne, OffersNext, OffersOrStops, Reaches, left_of}
 use Rattle.mold_serve.specs.Serving.{Service, ResponderState, offer, offer_all, replied, reply, reply_to, service_of, responder_of}
 use Rattle.mold_serve.specs.Tally.{with_answered, with_failed, with_refused}
 use Rattle.mold_serve.specs.declared.tally.Tally.{Tally}
@@ -101,6 +101,13 @@ offers_of to result more is service first plan behind old new same so offers =
     subst (λ (b : Bool). OffersNext to result b (left_of first plan) (left_of first behind) old new) so
     (subst (λ (s : Service). OffersNext to result more (left_of s plan) (left_of s behind) old new) same offers)
 
+pub stops_of : {P T E : Type 0} (to : P) (result : Result T E) (service first : Service) (plan behind : PlanState)
+    (old new : ResponderState P) → service ≡ first →
+    OffersOrStops to result (left_of service plan) (left_of service behind) old new →
+    OffersOrStops to result (left_of first plan) (left_of first behind) old new
+stops_of to result service first plan behind old new same offers =
+    subst (λ (s : Service). OffersOrStops to result (left_of s plan) (left_of s behind) old new) same offers
+
 -- Some of the packets were offered, and `left` remain. For all later choices, the offering continues from `now`.
 pub record Offering {P : Type 0} (to : P) (all left : List Packet) (start now : ResponderState P) : Type 0 where
   pub fails : List Bool
@@ -153,7 +160,7 @@ offering_end {P} {to} {all} {left} {start} {now} next offering none same =
     ∙ sym (offering.goes_on [])
 
 -- a fault after one that was sent
-pub offering_cut : {P T E F : Type 0} {to : P} {all before after : List Packet} {start now : ResponderState P}
+offering_cut : {P T E F : Type 0} {to : P} {all before after : List Packet} {start now : ResponderState P}
     (result : Result T E) (answer : Result (Unit {0}) F) (next : ResponderState P) (offering : Offering to all before start now)
     (one : OffersOne to result before after now next) → IsErr answer →
     Reaches answer next (offer_all to all (offering.fails ++ one.fails ∷ []) start)
@@ -169,6 +176,31 @@ offering_cut {P} {T} {E} {F} {to} {all} {before} {after} {start} {now} result an
           (sym (offering_after result next offering one []))
           (offer_all_sends to after [] end));
     }
+
+-- nothing of the next packet was sent
+offering_kept : {P F : Type 0} {to : P} {all before : List Packet} {start now : ResponderState P}
+    (answer : Result (Unit {0}) F) (next : ResponderState P) (offering : Offering to all before start now) →
+    next.port ≡ now.port → IsErr answer →
+    Reaches answer next (offer_all to all (offering.fails ++ []) start)
+offering_kept {P} {F} {to} {all} {before} {start} {now} answer next offering same failed =
+    let ran : ResponderState P = offer_all to all (offering.fails ++ []) start in
+    record {
+      whole = none_ok answer _ failed;
+      sent =
+          subst (λ (sent : List (P × List ℕ)). Begins sent ran.port.sent) (sym (ap (λ (p : Port P). p.sent) same))
+          (subst (λ (s : ResponderState P). Begins now.port.sent s.port.sent) (sym (offering.goes_on []))
+          (offer_all_sends to before [] now));
+    }
+
+-- an error ended the offer of the next packet
+pub offering_stopped : {P T E F : Type 0} {to : P} {all before after : List Packet} {start now : ResponderState P}
+    (result : Result T E) (answer : Result (Unit {0}) F) (next : ResponderState P)
+    (offering : Offering to all before start now) → OffersOrStops to result before after now next → IsErr answer →
+    (fails : List Bool) × Reaches answer next (offer_all to all fails start)
+offering_stopped result answer next offering (inl one) failed =
+    (offering.fails ++ one.fails ∷ [], offering_cut result answer next offering one failed)
+offering_stopped result answer next offering (inr same) failed =
+    (offering.fails ++ [], offering_kept answer next offering same failed)
 
 -- no packet remained
 pub offering_done : {P E : Type 0} {to : P} {all left : List Packet} {start now : ResponderState P} (next : ResponderState P) →

@@ -1,2 +1,3 @@
 pub mod AnsweringLemmas
+pub mod FileErrorLemmas
 pub mod ServingLemmas

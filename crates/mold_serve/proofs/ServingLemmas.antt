@@ -1,19 +1,26 @@
 -- Turns of a server: text put before its text changes nothing else, and a turn only appends to what is printed and
 -- sent.
-use Rattle.std.proofs.Common.{◌≡◌, ◌≤◌, ℕ, Bool, true, false, List, [], ◌∷◌, ◌++◌, drop, Option, Result, Ok, Err, refl, sym, ap, subst, ◌∙◌}
-use Rattle.std.specs.Prelude.{IsErr, OnErr}
+use Rattle.std.proofs.Common.{◌≡◌, ◌+◌, ◌≤◌, ℕ, Bool, true, false, List, [], ◌∷◌, ◌++◌, drop, length, Option, Result, Ok, Err, refl, sym, ap, subst, ◌∙◌}
+use Rattle.std.specs.Prelude.{IfErr, IsErr}
+use Rattle.mold_devices.specs.Faults.{CountsCommand}
+use Rattle.mold_devices.specs.declared.fault.CommandFault.{CommandFault}
 use Rattle.mold_ports.specs.Ports.{Port, Receipt, Datagram, Quiet, Failure, cut, next_of, received}
-use Rattle.mold_serve.specs.Answering.{Reaches}
-use Rattle.std.specs.Borrow.{Bor}
+use Rattle.mold_serve.specs.Answering.{MayOffer, Reaches}
+use Rattle.mold_serve.specs.FileError.{IsReadOrMemory}
 use Rattle.mold_serve.specs.Serving.{IsInNextTurn, IsSame, MayAnswer, Service, ResponderState, behind, fails_first, met, offer, offer_all}
-use Rattle.mold_serve.specs.Serving.{replied, reply, serve_turn, served_by, service, service_of, serving}
+use Rattle.mold_serve.specs.Serving.{replied, reply, serve_turn, served_by, service_of, serving}
 use Rattle.mold_turns.specs.Outgoing.{OutgoingState}
 use Rattle.mold_serve.specs.Tally.{served_line, with_outgoing}
 use Rattle.mold_serve.specs.declared.responder.Responder.{Responder}
 use Rattle.mold_serve.specs.declared.tally.Tally.{Tally}
-use Rattle.mold_session.specs.Journal.{JournalState}
-use Rattle.mold_session.specs.Server.{ServerState}
+use Rattle.mold_session.specs.Answer.{FitAlone, PlanState}
+use Rattle.mold_session.specs.Journal.{JournalState, journal_below}
+use Rattle.mold_session.specs.Server.{ServerState, counted, planning}
+use Rattle.mold_session.specs.Loading.{CountsLoad}
+use Rattle.mold_session.specs.Serving.{IsPlanOf}
+use Rattle.mold_session.proofs.RequestCheckLemmas.{all_below}
 use Rattle.mold_session.specs.declared.error.AnswerError.{AnswerError}
+use Rattle.mold_session.specs.declared.error.FileError.{FileError}
 use Rattle.mold_turns.specs.Runs.{Begins, Ran, Rests, WrittenInTime, run}
 use Rattle.mold_turns.proofs.OutgoingLemmas.{front_twice, more_after, written_front}
 use Rattle.mold_turns.proofs.RunLemmas.{IsLoop, begins_more, begins_trans, begins_whole, none_ok}
@@ -208,11 +215,11 @@ same_service journal server first answered same = ap (service_of journal) same
 
 -- ---- what a responder works with
 
-pub same_at_first : {D : Type 0} (responder : Responder D) → IsSame responder responder
+pub same_at_first : {D J : Type 0} (responder : Responder D J) → IsSame responder responder
 same_at_first responder = record { port = refl; server = refl; journal = refl; tally = refl; limits = refl }
 
-pub same_twice : {D : Type 0} {one two three : Responder D} → IsSame one two → IsSame two three → IsSame one three
-same_twice {D} {one} {two} {three} first second = record {
+pub same_twice : {D J : Type 0} {one two three : Responder D J} → IsSame one two → IsSame two three → IsSame one three
+same_twice {D} {J} {one} {two} {three} first second = record {
   port = second.port ∙ first.port;
   server = second.server ∙ first.server;
   journal = second.journal ∙ first.journal;
@@ -222,16 +229,65 @@ same_twice {D} {one} {two} {three} first second = record {
       ∙ ap (λ (s : ServerState). record s { answered = three.server.now.answered }) first.limits;
 }
 
--- the responder answers from the same journal, with the same limits
-pub service_is : {D : Type 0} {old new : Responder D} → IsSame old new → service new ≡ service old
-service_is {D} {old} {new} same =
-    ap (λ (j : Bor JournalState). service_of j.now new.server.now) same.journal
-    ∙ ap (service_of old.journal.now) same.limits
+-- the responder answers with the same limits
+pub service_is : {D J : Type 0} {old new : Responder D J} (journal : JournalState) → IsSame old new →
+    service_of journal new.server.now ≡ service_of journal old.server.now
+service_is journal same = ap (service_of journal) same.limits
 
-pub may_answer : {D : Type 0} {old new : Responder D} → IsSame old new → MayAnswer old → MayAnswer new
-may_answer {D} {old} {new} same may =
-    subst (λ (j : Bor JournalState). j.now.max_message ≤ new.server.now.max_message) (sym same.journal)
-    (subst (λ (s : ServerState). old.journal.now.max_message ≤ s.max_message) (sym same.limits) may)
+-- the journals that were shown are still shown
+abbrev pub Keeps : {J : Type 0} → (J → JournalState → Type 0) → J → J → Type 0
+Keeps shows old new = (journal : JournalState) → shows old journal → shows new journal
+
+pub may_answer : {D J : Type 0} {shows : J → JournalState → Type 0} {journal : JournalState}
+    {old new : Responder D J} → IsSame old new → Keeps shows old.journal.now new.journal.now →
+    MayAnswer shows old.journal.now old.server.now journal → MayAnswer shows new.journal.now new.server.now journal
+may_answer {D} {J} {shows} {journal} {old} {new} same kept may = record {
+  shown = kept journal may.shown;
+  longest = subst (λ (s : ServerState). journal.max_message ≤ s.max_message) (sym same.limits) may.longest;
+}
+
+-- a plan that the server made may be sent
+pub may_plan : {J : Type 0} {shows : J → JournalState → Type 0} {held : J} {server after : ServerState}
+    {plan : PlanState} {journal : JournalState} → after ≡ counted server → MayAnswer shows held server journal →
+    IsPlanOf journal plan → FitAlone server.limit journal.messages → MayOffer shows held after plan journal
+may_plan {J} {shows} {held} {server} {after} {plan} {journal} same may planned fit = record {
+  answers = record {
+    shown = may.shown;
+    longest = subst (λ (s : ServerState). journal.max_message ≤ s.max_message) (sym same) may.longest;
+  };
+  planned = planned;
+  fit = subst (λ (s : ServerState). FitAlone s.limit journal.messages) (sym same) fit;
+}
+
+-- an error that fits weaker premises fits stronger ones
+pub errors_for : {T : Type 0} (result : Result T FileError) (Weak Strong : JournalState → Type 0) →
+    ((journal : JournalState) → Strong journal → Weak journal) →
+    IfErr result (λ error. (journal : JournalState) → Weak journal → IsReadOrMemory error) →
+    IfErr result (λ error. (journal : JournalState) → Strong journal → IsReadOrMemory error)
+errors_for (Ok _) Weak Strong weaken refused = tt
+errors_for (Err error) Weak Strong weaken refused = λ journal strong. refused journal (weaken journal strong)
+
+-- a plan from the messages below the next number is one from all messages
+pub planned_from_all : (journal : JournalState) (below burst : ℕ) (bytes : List ℕ)
+    (made : Result PlanState AnswerError) → below ≡ length journal.messages + 1 →
+    made ≡ planning (journal_below journal below) burst bytes → made ≡ planning journal burst bytes
+planned_from_all journal below burst bytes made next is =
+    is ∙ ap (λ (j : JournalState). planning j burst bytes) (all_below journal below next)
+
+-- the rest of a plan may be sent like the plan
+pub may_offer : {D J : Type 0} {shows : J → JournalState → Type 0} {journal : JournalState} {old new : Responder D J}
+    {first plan : PlanState} → IsSame old new → Keeps shows old.journal.now new.journal.now →
+    plan.session ≡ first.session → plan.to ≡ first.to →
+    MayOffer shows old.journal.now old.server.now first journal →
+    MayOffer shows new.journal.now new.server.now plan journal
+may_offer {D} {J} {shows} {journal} {old} {new} {first} {plan} same kept session to may = record {
+  answers = may_answer same kept may.answers;
+  planned = record {
+    session = session ∙ may.planned.session;
+    to = subst (λ (n : ℕ). n ≤ length journal.messages + 1) (sym to) may.planned.to;
+  };
+  fit = subst (λ (s : ServerState). FitAlone s.limit journal.messages) (sym same.limits) may.fit;
+}
 
 -- after a fault only what was sent is known
 pub rests_as : {P T E : Type 0} (service : Service) (turns : ℕ) (start one other : ResponderState P) (result : Result T E)
@@ -274,11 +330,26 @@ served_so {D} {P} {E} known service turns start result old new first port end se
     ran)
 
 -- the same for what a fault finds unwritten
-pub timely_so : {D P E : Type 0} (M : Type 0) (known : D → Port P) (service : Service) (start : ResponderState P)
-    (result : Result ℕ E) (live : Bool) (old new : Option (List ℕ)) (port end : D) → end ≡ port →
-    OnErr result (M → WrittenInTime (serving service) start live old new (IsInNextTurn (known port))) →
-    OnErr result (M → WrittenInTime (serving service) start live old new (IsInNextTurn (known end)))
-timely_so {D} M known service start result live old new port end is timely =
-    subst
-    (λ (d : D). OnErr result (M → WrittenInTime (serving service) start live old new (IsInNextTurn (known d))))
-    (sym is) timely
+pub timely_so : {D P : Type 0} (known : D → Port P) (service : Service) (start : ResponderState P)
+    (live : Bool) (old new : Option (List ℕ)) (port end : D) → end ≡ port →
+    WrittenInTime (serving service) start live old new (IsInNextTurn (known port)) →
+    WrittenInTime (serving service) start live old new (IsInNextTurn (known end))
+timely_so {D} known service start live old new port end is timely =
+    subst (λ (d : D). WrittenInTime (serving service) start live old new (IsInNextTurn (known d))) (sym is) timely
+
+-- the same for the journal
+pub kept_so : {J : Type 0} (shows : J → JournalState → Type 0) (old journal end : J) → end ≡ journal →
+    Keeps shows old journal → Keeps shows old end
+kept_so {J} shows old journal end is kept = subst (λ (j : J). Keeps shows old j) (sym is) kept
+
+pub failures_so : {J T : Type 0} (failed : J → ℕ) (result : Result T CommandFault) (old journal end : J)
+    (sink_old sink_new : ℕ) → end ≡ journal →
+    CountsCommand (failed old) (failed journal) sink_old sink_new result →
+    CountsCommand (failed old) (failed end) sink_old sink_new result
+failures_so {J} failed result old journal end sink_old sink_new is counts =
+    subst (λ (j : J). CountsCommand (failed old) (failed j) sink_old sink_new result) (sym is) counts
+
+pub loads_so : {J T : Type 0} (failed : J → ℕ) (result : Result T FileError) (old journal end : J) →
+    end ≡ journal → CountsLoad (failed old) (failed journal) result → CountsLoad (failed old) (failed end) result
+loads_so {J} failed result old journal end is counts =
+    subst (λ (j : J). CountsLoad (failed old) (failed j) result) (sym is) counts

@@ -1,3 +1,4 @@
 pub mod Answering
+pub mod FileError
 pub mod Serving
 pub mod Tally

@@ -60,24 +60,23 @@ responder_of port tally server = record {
   requests = server.answered;
 }
 
--- The responder's journal, and the limit and the burst of its server.
-abbrev pub service : {D : Type 0} → Responder D → Service
-service responder = service_of responder.journal.now responder.server.now
-
 -- The state of the responder. `port` gives the model of its port.
-abbrev pub state : {D P : Type 0} → (D → Port P) → Responder D → ResponderState P
+abbrev pub state : {D J P : Type 0} → (D → Port P) → Responder D J → ResponderState P
 state port responder = responder_of (port responder.port.now) responder.tally.now responder.server.now
 
--- The journal's maximum message length is at most the server's.
-abbrev pub MayAnswer : {D : Type 0} → Responder D → Type 0
-MayAnswer responder = responder.journal.now.max_message ≤ responder.server.now.max_message
+-- The server may respond from `journal`: `held` shows it, and its maximum message length is at most the server's.
+-- `shows` gives the journals that a `ServedJournal` may be.
+pub record MayAnswer {J : Type 0} (shows : J → JournalState → Type 0) (held : J) (server : ServerState)
+    (journal : JournalState) : Type 0 where
+  pub shown : shows held journal
+  pub longest : journal.max_message ≤ server.max_message
 
 -- The responder still has the same port, journal and tally. Its server is the same except for the number of answered
 -- requests.
-pub record IsSame {D : Type 0} (old new : Responder D) : Type 0 where
+pub record IsSame {D J : Type 0} (old new : Responder D J) : Type 0 where
   pub port : new.port.ghost_name ≡ old.port.ghost_name
   pub server : new.server.ghost_name ≡ old.server.ghost_name
-  pub journal : new.journal ≡ old.journal
+  pub journal : new.journal.ghost_name ≡ old.journal.ghost_name
   pub tally : new.tally.ghost_name ≡ old.tally.ghost_name
   pub limits : new.server.now ≡ record old.server.now { answered = new.server.now.answered }
 

@@ -1,5 +1,6 @@
 -- What a server has printed and counted.
-use Rattle.std.specs.Prelude.{ℕ, List, ◌∷◌, [], codes, decimal}
+use Rattle.std.specs.Prelude.{◌++◌, ℕ, List, ◌∷◌, [], codes, decimal, Option}
+use Rattle.std.specs.Io.KnownBytes.{Appends}
 use Rattle.mold_devices.specs.Devices.{one_more}
 use Rattle.mold_session.specs.declared.error.AnswerError.{AnswerError}
 use Rattle.mold_turns.specs.Outgoing.{OutgoingState, failed_once, nothing_out, with_more}
@@ -73,3 +74,10 @@ served_line tally =
     ∷ codes "failed"
     ∷ decimal tally.outgoing.failures
     ∷ [])
+
+-- The loop wrote the text of its turns, and then the last line of a server with these counts.
+pub record EndsServed (old new : Option (List ℕ)) : Type 0 where
+  -- the text of the turns
+  pub text : List ℕ
+  pub tally : Tally
+  pub appended : Appends old new (text ++ served_line tally)

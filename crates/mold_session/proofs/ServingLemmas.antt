@@ -1,5 +1,6 @@
 -- What a server packs, and which packet its bytes encode.
-use Rattle.std.proofs.Common.{◌≡◌, ℕ, ◌+◌, ◌-◌, ◌<◌, ◌≤◌, List, length, drop, Ok, refl, sym, ap, subst, ◌∙◌, arith}
+use Rattle.std.proofs.Common.{◌≡◌, ℕ, ◌+◌, ◌-◌, ◌<◌, ◌≤◌, List, length, drop, Result, Ok, Err, IfOk, refl, sym, ap}
+use Rattle.std.proofs.Common.{subst, ◌∙◌, inr, arith}
 use Rattle.mold_wire.specs.declared.session.Session.{Session}
 use Rattle.mold_wire.specs.declared.packet.Body.{Body}
 use Rattle.mold_wire.specs.Packet.{Spells}
@@ -10,11 +11,13 @@ use Rattle.mold_session.proofs.RequestCheckLemmas.{planned_from}
 use Rattle.mold_session.proofs.FrontLemmas.{FrontIs, OnlyFront, SomeFront, Alone, fit_alone, front_of_taken, data_body}
 use Rattle.mold_session.proofs.TruthLemmas.{Piece, packet_true}
 use Rattle.mold_session.specs.Truthful.{IsTrueDatagram}
-use Rattle.mold_session.specs.Answer.{from_number, between, PlanState, IsPlan, plan_for, next_part, next_packet, planned, moved}
+use Rattle.mold_session.specs.Answer.{from_number, between, PlanState, IsPlan, IsSpent, plan_for, next_part}
+use Rattle.mold_session.specs.Answer.{next_packet, planned, moved}
 use Rattle.mold_session.specs.Journal.{JournalState, IsJournal}
 use Rattle.mold_session.specs.Packing.{HasPacked}
 use Rattle.mold_session.specs.Server.{ServerState, IsServer, SpellsAnswer, planning}
-use Rattle.mold_session.specs.Serving.{HasPackedNext}
+use Rattle.mold_session.specs.Serving.{HasPackedNext, HasSentNext, IsPlanOf}
+use Rattle.mold_session.specs.declared.error.AnswerError.{AnswerError}
 
 -- The state of a server, from its parts.
 abbrev pub server_of : ℕ → ℕ → ℕ → ℕ → ServerState
@@ -116,4 +119,32 @@ spells_answer journal server asked plan old new count bytes piece front_is some 
       };
       truth = packet_true journal server.limit whole bytes piece front_is journaled
           (omega (arith, is.limited.0)) well last refl spelled;
+    }
+
+-- A plan for messages of the journal has its session, and ends at its next message or earlier.
+pub plan_of :
+    (journal : JournalState) (result : Result PlanState AnswerError) → IfOk result (IsPlanOf journal) →
+    IfOk result (λ plan. plan.session ≡ journal.session) × IfOk result (λ plan. plan.to ≤ length journal.messages + 1)
+plan_of journal (Err error) planned = (tt, tt)
+plan_of journal (Ok plan) planned = (planned.session, planned.to)
+
+-- The packed bytes are the plan's next datagram.
+pub sent_next :
+    (journal : JournalState) (server : ServerState) (plan after : PlanState) (old new : PackerState) (count : ℕ)
+    (bytes : List ℕ) → Piece → FrontIs → IsServer server → IsPlan plan → IsPlanOf journal plan →
+    old.limit ≡ server.limit → (IsSpent plan → ⊥) → HasPackedNext old new journal plan count →
+    SpellsBegun new.begun bytes → after ≡ moved plan count → HasSentNext journal server.limit plan after bytes
+sent_next journal server plan after old new count bytes piece front_is is well planned limit more packed spells
+    advanced =
+    let some : plan.from < plan.to = omega (arith, well, λ (none : plan.from ≡ plan.to). more (inr none)) in
+    let spelled : Spells (next_packet journal.messages server.limit plan) bytes =
+    subst (λ (n : ℕ). Spells (next_packet journal.messages n plan) bytes) limit
+    (spells_next old new journal plan count bytes packed some spells)
+    in
+    record {
+      spelled = spelled;
+      truth = packet_true journal server.limit plan bytes piece front_is packed.journaled
+          (omega (arith, is.limited.0)) well planned.to planned.session spelled;
+      moved = advanced
+          ∙ ap (moved plan) (packed.counted ∙ ap (λ (n : ℕ). length (next_part journal.messages n plan)) limit);
     }

@@ -10,7 +10,7 @@ ghost use Rattle.mold_devices.specs.Devices.{Counts};
 ghost use Rattle.mold_session.specs.File.{SpellsJournal, SpellsJournal2, AppendsFile, AppendsFilePrefix, file_length};
 ghost use Rattle.mold_session.specs.FileFault.{JournalFault};
 ghost use Rattle.mold_session.specs.Journal.{IsJournal, message_numbered, append_refusal, appended, fresh_journal};
-ghost use Rattle.mold_session.specs.Journal.{journal_below, without_last};
+ghost use Rattle.mold_session.specs.Journal.{without_last};
 ghost use Rattle.mold_session.specs.Loading.{Refuses, CountsLoad};
 ghost use Rattle.mold_session.specs.Records.{SpellsJournal3};
 ghost use Rattle.mold_session.specs.Putting.{PutsFile};
@@ -103,14 +103,6 @@ impl Journal {
         ensures journal { IsJournal self.now }
     {
         self.len() + 1
-    }
-
-    // The sequence number after that of the last message with a number below `below`.
-    pub(crate) fn next_below(&self, below: u64) -> u64
-        ensures value { result ≡ length (journal_below self.now below).messages + 1 }
-        ensures journal { IsJournal self.now }
-    {
-        below.max(1).min(self.next())
     }
 
     pub(crate) fn len(&self) -> u64

@@ -45,8 +45,22 @@ pub fn pack_next(packer: &mut Packer, journal: &Journal, plan: &Plan) -> u64
     requires to { plan.now.to ≤ length journal.now.messages + 1 }
     ensures { HasPackedNext packer.old packer.new journal.now plan.now result }
 {
+    pack_plan(packer, journal, plan)
+}
+
+/// Packs the next datagram of a plan and returns the number of its messages. If the plan ends after the journal's last
+/// message, or a message is too long for a datagram, fewer messages are packed, or none.
+pub fn pack_plan(packer: &mut Packer, journal: &Journal, plan: &Plan) -> u64
+    ensures packed { journal.now.max_message + MESSAGE_OVERHEAD ≤ packer.old.limit →
+        plan.now.to ≤ length journal.now.messages + 1 →
+        HasPackedNext packer.old packer.new journal.now plan.now result }
+    ensures within { plan.now.from + result ≤ plan.now.to }
+    ensures limit { packer.new.limit ≡ packer.old.limit }
+{
     front_law();
     packet_length_law();
+    // `bytes` ensures that the packer has the limit of a datagram.
+    let _ = packer.bytes();
     let from = plan.from();
     let messages = journal.iter_from(from - 1);
     pack_front(packer, plan.session(), from, messages, plan.to() - from)

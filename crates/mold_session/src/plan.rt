@@ -1,10 +1,8 @@
 //! The remaining responses to a request.
 
-ghost use Rattle.std.specs.Prelude.{◌≡◌, ◌+◌, ◌≤◌, ◌<◌, ◌↔◌, length, IsTrue, IsSome, IfSome};
-ghost use Rattle.mold_session.specs.Answer.{IsPlan, IsSpent, plan_for, moved};
-ghost use Rattle.mold_session.specs.Journal.{IsJournal, journal_below};
+ghost use Rattle.std.specs.Prelude.{◌≡◌, ◌+◌, ◌≤◌, ◌<◌, ◌↔◌, min, IsTrue, IsSome, IfSome};
+ghost use Rattle.mold_session.specs.Answer.{IsPlan, IsSpent, moved};
 
-use crate::journal::Journal;
 use mold_wire::{Request, Session};
 use std::marker::Model;
 
@@ -29,18 +27,22 @@ impl Model for Plan {
 }
 
 impl Plan {
-    // Plans at most `burst` responses to a request that the journal's messages below `below` can satisfy.
-    pub(crate) fn new(journal: &Journal, below: u64, request: &Request, burst: u16) -> Plan
-        requires session { request.now.session ≡ journal.now.session }
+    // Plans at most `burst` responses to a request, from the messages with numbers below `next`.
+    pub(crate) fn new(next: u64, request: &Request, burst: u16) -> Plan
         requires first { 1 ≤ request.now.sequence }
-        requires last { request.now.sequence ≤ length (journal_below journal.now below).messages }
-        ensures { result ≡ plan_for (journal_below journal.now below) burst request.now }
+        requires last { request.now.sequence < next }
+        ensures { result ≡ record {
+          session = request.now.session;
+          from = request.now.sequence;
+          to = min (request.now.sequence + request.now.count) next;
+          left = burst;
+        } }
     {
         let behind = request.sequence.saturating_add(u64::from(request.count));
         Plan {
             session: request.session,
             from: request.sequence,
-            to: behind.min(journal.next_below(below)),
+            to: behind.min(next),
             left: burst,
         }
     }

@@ -19,7 +19,7 @@ use mold_devices::{ReadFault, Source};
 use mold_messages::MessageList;
 use std::alloc::Global;
 
-/// The first byte of a record. Any other byte is a shut gate.
+/// The first byte of a record in a file of version 3. Any other byte is a shut gate.
 pub const OPEN_GATE: u8 = 1;
 
 /// The second byte of a message's record.

@@ -1,24 +1,25 @@
-//! Requests, checked against a journal.
+//! Requests, checked against what a journal has.
 
-ghost use Rattle.std.specs.Prelude.{◌≡◌};
-ghost use Rattle.mold_session.specs.Journal.{IsJournal, journal_below};
+ghost use Rattle.std.specs.Prelude.{◌≡◌, ◌+◌, ◌≤◌, ◌<◌, length, IfOk};
+ghost use Rattle.mold_session.specs.Journal.{JournalState};
 ghost use Rattle.mold_session.specs.Server.{checked_request};
 
 use crate::error::AnswerError;
-use crate::journal::Journal;
-use mold_wire::{Request, RequestError};
+use mold_wire::{Request, RequestError, Session};
 
-/// Decodes a request for messages of the journal with numbers below `below`, or returns the first reason to refuse it.
-pub fn check_request(journal: &Journal, below: u64, request: &[u8]) -> Result<Request, AnswerError>
-    ensures checked { result ≡ checked_request (journal_below journal.now below) request.now }
-    ensures journal { IsJournal journal.now }
+/// Decodes a request for messages of this session with numbers below `next`, or returns the first reason to refuse it.
+pub fn check_request(session: Session, next: u64, request: &[u8]) -> Result<Request, AnswerError>
+    ensures checked { (journal : JournalState) → journal.session ≡ session → length journal.messages + 1 ≡ next →
+        result ≡ checked_request journal request.now }
+    ensures session { IfOk result (λ request. request.session ≡ session) }
+    ensures first { IfOk result (λ request. 1 ≤ request.sequence) }
+    ensures last { IfOk result (λ request. request.sequence < next) }
 {
-    let next = journal.next_below(below);
     let request = match Request::decode(request) {
         Ok(request) => request,
         Err(RequestError::RequestLength { len }) => return Err(AnswerError::RequestLength { len }),
     };
-    if request.session != journal.session() {
+    if request.session != session {
         return Err(AnswerError::WrongSession);
     }
     if request.sequence == 0 {

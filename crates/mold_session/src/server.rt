@@ -1,21 +1,25 @@
 //! The re-request server of a session.
 
 ghost use Rattle.std.specs.Prelude.{◌≡◌, ◌↔◌, ◌+◌, ◌≤◌, None, Some, length, unwrap_or, is_ok, is_some, IfOk, IfErr};
-ghost use Rattle.std.specs.Prelude.{IfSome, IfNone, OnOk};
+ghost use Rattle.std.specs.Prelude.{IfSome, IfNone, OnOk, OnErr};
 ghost use Rattle.std.specs.Option.{OnSome};
 ghost use Rattle.mold_wire.specs.Packet.{Spells};
 ghost use Rattle.mold_session.specs.Answer.{IsPlan, IsSpent, next_part, next_packet, moved};
-ghost use Rattle.mold_session.specs.Journal.{IsJournal, journal_below};
+ghost use Rattle.mold_session.specs.Journal.{IsJournal, JournalState, journal_below};
+ghost use Rattle.mold_session.specs.Loading.{CountsLoad};
 ghost use Rattle.mold_session.specs.Server.{IsServer, fresh_server, server_refusal, checked_request, planning};
 ghost use Rattle.mold_session.specs.Server.{SpellsAnswer, counted_if};
+ghost use Rattle.mold_session.specs.Serving.{HasSentNext, IsPlanOf};
 ghost use Rattle.mold_session.specs.Truthful.{IsTrueDatagram};
+ghost use Rattle.mold_session.specs.declared.error.FileError.{FileError};
 ghost use Rattle.mold_session.specs.declared.error.ServerError.{ServerError};
 
-use crate::error::{AnswerError, ServerError};
+use crate::error::{AnswerError, FileError, ServerError};
 use crate::journal::Journal;
 use crate::packing::pack_next;
 use crate::plan::Plan;
 use crate::request_check::check_request;
+use crate::served_journal::ServedJournal;
 use mold_wire::laws::{front_law, packet_length_law, true_packet_law};
 use mold_wire::{MAX_BURST, MAX_LIMIT, MESSAGE_OVERHEAD, MIN_LIMIT, Packer};
 use std::alloc::Global;
@@ -189,10 +193,30 @@ impl Server {
         ensures journal { IsJournal journal.now }
         ensures server { IsServer self.old }
     {
+        self.plan_from(&journal, below, request)
+    }
+
+    /// Plans the responses to a request as `plan_below` does, from a journal in memory or in a file. No message is
+    /// read.
+    pub fn plan_from<J: ServedJournal>(
+        &mut self,
+        journal: &J,
+        below: u64,
+        request: &[u8],
+    ) -> Result<Plan, AnswerError>
+        ensures planned { (shown : JournalState) → J.shows journal.now shown →
+            result ≡ planning (journal_below shown below) self.old.burst request.now }
+        ensures plan { (shown : JournalState) → J.shows journal.now shown → IfOk result (IsPlanOf shown) }
+        ensures below { IfOk result (λ plan. plan.to ≤ below) }
+        ensures counted { self.new ≡ counted_if (is_ok result) self.old }
+        ensures journal { (shown : JournalState) → J.shows journal.now shown → IsJournal shown }
+        ensures server { IsServer self.old }
+    {
         let burst = self.burst;
-        let request = check_request(journal, below, request)?;
+        let next = below.max(1).min(journal.next());
+        let request = check_request(journal.session(), next, request)?;
         self.answered = self.answered.saturating_add(1);
-        Ok(Plan::new(journal, below, &request, burst))
+        Ok(Plan::new(next, &request, burst))
     }
 
     /// Returns the next datagram of a plan, with as many of its remaining messages as fit, and advances the plan past
@@ -228,5 +252,45 @@ impl Server {
         let count = pack_next(&mut self.packer, journal, plan);
         plan.advance(count);
         Some(self.packer.bytes())
+    }
+
+    /// Returns the next datagram of a plan as `datagram` does, from a journal in memory or in a file. The journal must
+    /// be the one that the plan was made from, or one of the same session that has at least the messages of the plan.
+    ///
+    /// `Read` is returned if a read fails. If the file was damaged after it was opened, another error states its fault.
+    /// A journal in memory returns no error. After an error, the next call packs the same datagram.
+    pub fn datagram_from<J: ServedJournal>(
+        &mut self,
+        journal: &mut J,
+        plan: &mut Plan,
+    ) -> Result<Option<&[u8]>, FileError>
+        ensures* after { sem 𝓛 (Rests the_row self.entry (λ new. new ≡ self.old)) }
+        ensures sent { IfOk result (λ datagram. IfSome datagram (λ bytes. (shown : JournalState) →
+            J.shows journal.old shown → shown.max_message ≤ self.old.max_message → IsPlanOf shown plan.old →
+            HasSentNext shown self.old.limit plan.old plan.new bytes.now)) }
+        ensures within { IfOk result (λ datagram. IfSome datagram (λ bytes. length bytes.now ≤ self.old.limit)) }
+        ensures left { IfOk result (λ datagram. OnSome datagram (plan.new.left + 1 ≡ plan.old.left)) }
+        ensures more { IfOk result (λ datagram. OnSome datagram (¬ IsSpent plan.old)) }
+        ensures none { IfOk result (λ datagram. IfNone datagram (IsSpent plan.old)) }
+        ensures same { IfOk result (λ datagram. IfNone datagram (plan.new ≡ plan.old)) }
+        ensures session { plan.new.session ≡ plan.old.session }
+        ensures to { plan.new.to ≡ plan.old.to }
+        ensures refused { IfErr result (λ error. (shown : JournalState) → J.shows journal.old shown →
+            shown.max_message ≤ self.old.max_message → IsPlanOf shown plan.old → error ≡ FileError.Read) }
+        ensures unspent { OnErr result (¬ IsSpent plan.old) }
+        ensures kept { OnErr result (plan.new ≡ plan.old) }
+        ensures shown { (shown : JournalState) → J.shows journal.old shown → J.shows journal.new shown }
+        ensures failures { CountsLoad (J.failed journal.old) (J.failed journal.new) result }
+        ensures plan { IsPlan plan.old }
+        ensures server { IfOk result (λ datagram. OnSome datagram (IsServer self.old)) }
+    {
+        front_law();
+        true_packet_law();
+        if plan.is_spent() {
+            return Ok(None);
+        }
+        let count = journal.pack(&mut self.packer, plan)?;
+        plan.advance(count);
+        Ok(Some(self.packer.bytes()))
     }
 }

@@ -59,13 +59,14 @@ fn serve_on(
     requires bound { IsSocketOf order.now.bind port.old.bound }
     requires longest { journal.now.max_message ≡ order.now.limit - MESSAGE_OVERHEAD }
 {
+    let mut journal = journal;
     let mut server = make_server(rt.alloc(), order)?;
     let mut sink = standard_output(rt, order.live);
     let outcome = serve_loop(
         rt.alloc(),
         port,
         &mut server,
-        journal,
+        &mut journal,
         serve_turns(order),
         &mut sink,
     );

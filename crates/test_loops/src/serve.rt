@@ -1,6 +1,6 @@
 //! `serve_loop` over a port in memory. A case is a constant, and one function runs each case.
 
-use crate::comparisons::{holds, holds_at};
+use crate::comparisons::holds_at;
 use crate::scripts::{Given, PEER, Sent, expect_sent, expect_written, give, silent, sink};
 use mold_devices::{CommandFault, MemorySink};
 use mold_ports::{Datagrams, MemoryPort};
@@ -66,15 +66,15 @@ fn new_journal(alloc: Global) -> Result<Journal, AppendError> {
 
 // Serves the journal with a new server.
 fn serve(
-    rt: &(impl Abort + AllocGlobal),
+    rt: &impl AllocGlobal,
     journal: &Journal,
     port: &mut MemoryPort,
     case: &Case,
     sink: &mut MemorySink,
 ) -> Result<Result<u8, CommandFault>, Fail> {
     let mut server = Server::new(rt.alloc(), 64, 42, case.burst)?;
-    holds(rt, journal.max_message() <= server.max_message());
-    Ok(serve_loop(rt.alloc(), port, &mut server, journal, case.turns, sink))
+    let mut served = journal;
+    Ok(serve_loop(rt.alloc(), port, &mut server, &mut served, case.turns, sink))
 }
 
 fn expect_served(

@@ -1,4 +1,5 @@
-//! Tests of `mold_session`, `mold_index`, `mold_receiver`, `mold_rounds`, `mold_capture`, `mold_world`.
+//! Tests of `mold_session`, `mold_index`, `mold_indexed_file`, `mold_receiver`, `mold_rounds`, `mold_capture` and
+//! `mold_world`.
 #![tactic(auto)]
 
 #[cfg(test)]
@@ -10,9 +11,13 @@ mod comparisons;
 #[cfg(test)]
 mod index;
 #[cfg(test)]
+mod indexed_file;
+#[cfg(test)]
 mod journal_file;
 #[cfg(test)]
 mod journals;
+#[cfg(test)]
+mod opening;
 #[cfg(test)]
 mod publisher;
 #[cfg(test)]

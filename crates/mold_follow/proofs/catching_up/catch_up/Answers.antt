@@ -1,4 +1,4 @@
-use Rattle.std.proofs.Common.{ap, ◌∙◌, List, ℕ, arith, Bool}
+use Rattle.std.proofs.Common.{ap, ◌∙◌, List, ℕ, arith}
 use Rattle.mold_durable.specs.Follower.{Follows}
 use Rattle.mold_durable.specs.Following.{HasAll}
 use Rattle.mold_session.specs.Journal.{JournalState}

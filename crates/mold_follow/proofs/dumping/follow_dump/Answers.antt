@@ -1,4 +1,4 @@
-use Rattle.mold_follow.proofs.DumpingLemmas.{dumping_broken, dumping_ended, dumping_first, dumping_left, dumping_more}
+use Rattle.mold_follow.proofs.DumpingLemmas.{dumping_broken, dumping_ended, dumping_first, dumping_more}
 use Rattle.mold_follow.proofs.DumpingLemmas.{if_err, look_ended, look_goes_on}
 use Rattle.mold_follow.proofs.dumping.follow_dump.Goals as goal
 

@@ -1,6 +1,6 @@
 use Rattle.std.proofs.Common.{ap, refl, sym, ◌∙◌, ◌++◌, Bool, List, ℕ, Some, None}
 use Rattle.mold_durable.specs.Follower.{FollowerState}
-use Rattle.mold_follow.specs.FileError.{device_fault}
+use Rattle.mold_serve.specs.FileError.{device_fault}
 use Rattle.mold_follow.specs.Dumping.{BreaksAfter, EndsAfter, EndsOrGoesOn, GoesOn}
 use Rattle.mold_devices.specs.declared.fault.CommandFault.TheVariants as command
 use Rattle.mold_follow.proofs.DumpingLemmas.{idle_break, if_err, memory_not_read, not_of_device, with_closed, with_list}

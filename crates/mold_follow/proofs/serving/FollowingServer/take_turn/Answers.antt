@@ -4,7 +4,7 @@ use Rattle.mold_turns.specs.Outgoing.{OutgoingState}
 use Rattle.mold_ports.specs.Ports.{Datagram, Failure, Quiet}
 use Rattle.mold_serve.specs.Serving.{responder_of, service_of}
 use Rattle.mold_serve.proofs.ServingLemmas.{reached, tally_is, turn_met}
-use Rattle.mold_follow.proofs.ServingLemmas.{as_err, as_ok, over_same, turn_cut_short}
+use Rattle.mold_follow.proofs.ServingLemmas.{memory_faults, over_same, turn_cut_short}
 use Rattle.mold_follow.proofs.serving.FollowingServer.take_turn.Goals as goal
 
 pub returns-in_err-look_up-in-Ok-Some-clause-turn : goal.returns-in_err-look_up-in-Ok-Some-clause-turn
@@ -50,28 +50,17 @@ returns-in-Err-clause-turn g c modeled = (
       (ap (λ (o : OutgoingState). with_outgoing o c.args.self.now.tally) c.count_failure.ensures))),
 )
 
-pub returns-in-Ok-clause-turn : goal.returns-in-Ok-clause-turn
-returns-in-Ok-clause-turn g c modeled =
-    let replied = c.in-Ok.ensures.replied modeled in
+pub returns-in_ok-look_up-in-Ok-Some-clause-turn : goal.returns-in_ok-look_up-in-Ok-Some-clause-turn
+returns-in_ok-look_up-in-Ok-Some-clause-turn g c modeled =
+    let replied = c.answer.ensures.replied modeled in
     let came = rw c.in-Ok-Some.field-0-is at (c.in-Ok-Some.ensures.came modeled) in (
       replied.0,
-      as_ok
-          (over_same _ _ _ _ _ c.args.self.now.server replied.0 c.in-Ok.ensures.journal
+      over_same _ _ _ _ _ c.args.self.now.server replied.0 c.answer.ensures.journal
           (turn_met _ _ replied.0
           (responder_of (g.D.Datagrams.port c.args.self.now.port) c.args.self.now.tally c.args.self.now.server) _
           (Datagram c.in-Ok-Some.from (take c.in-Ok-Some.len c.receive.new.buffer)) _ _
-          (c.receive.auto.buffer ∙ c.requires.buffer) came (c.receive.ensures.left modeled) replied.1)),
+          (c.receive.auto.buffer ∙ c.requires.buffer) came (c.receive.ensures.left modeled) replied.1),
     )
 
-pub returns-in-Err-answer-clause-turn : goal.returns-in-Err-answer-clause-turn
-returns-in-Err-answer-clause-turn g c modeled =
-    let replied = c.in-Err-answer.ensures.replied modeled in
-    let came = rw c.in-Ok-Some.field-0-is at (c.in-Ok-Some.ensures.came modeled) in (
-      replied.0,
-      as_err _ _
-          (over_same _ _ _ _ _ c.args.self.now.server replied.0 c.in-Err-answer.ensures.journal
-          (turn_met _ _ replied.0
-          (responder_of (g.D.Datagrams.port c.args.self.now.port) c.args.self.now.tally c.args.self.now.server) _
-          (Datagram c.in-Ok-Some.from (take c.in-Ok-Some.len c.receive.new.buffer)) _ _
-          (c.receive.auto.buffer ∙ c.requires.buffer) came (c.receive.ensures.left modeled) replied.1)),
-    )
+pub returns-in_ok-look_up-in-Ok-Some-clause-refused : goal.returns-in_ok-look_up-in-Ok-Some-clause-refused
+returns-in_ok-look_up-in-Ok-Some-clause-refused g c = memory_faults c.answer.result _ c.answer.ensures.memory

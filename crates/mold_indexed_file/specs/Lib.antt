@@ -1,0 +1,5 @@
+pub mod Buffer
+pub mod Opened
+pub mod Packed
+pub mod Read
+pub mod Shown

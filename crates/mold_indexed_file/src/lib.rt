@@ -1,0 +1,11 @@
+//! A journal in a file that a server responds from. Only the index of the file is in memory.
+#![tactic(auto)]
+
+mod indexed_file;
+pub mod laws;
+mod opening;
+mod packing;
+mod piece_buffer;
+
+pub use indexed_file::IndexedFile;
+pub use opening::open_indexed;
