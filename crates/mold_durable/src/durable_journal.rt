@@ -36,7 +36,8 @@ use std::marker::Model;
 /// on.
 #[derive(Drop)]
 pub struct DurableJournal<S> {
-    storage: S,
+    /// The storage. Only this journal may write to it.
+    pub storage: S,
     session: Session,
     max_message: u16,
     // The number of committed messages.

@@ -24,7 +24,8 @@ use std::marker::Model;
 /// the messages of the last poll, and 65,540 bytes for a record.
 #[derive(Drop)]
 pub struct Follower<F> {
-    file: F,
+    /// The file.
+    pub file: F,
     session: Session,
     max_message: u16,
     // The records that were returned.

@@ -70,7 +70,7 @@ impl<'a, 'j, D: Datagrams, J: ServedJournal> Responder<'a, 'j, D, J> {
         };
         match self.port.send(to, datagram) {
             Ok(()) => {
-                let count = plan.from().saturating_sub(sequence);
+                let count = plan.from() - sequence;
                 let Ok(()) = self.tally.add_answered(sequence, count) else {
                     return Err(FileError::Memory);
                 };

@@ -175,29 +175,57 @@ module _ (xs ys : List ℕ) (reader : ReaderState) (messages : List (List ℕ))
       parts = block_parts;
     }
 
+    block_within : (most : ℕ) → AllByRecursion (IsWithin most) messages → (error : FileError) →
+        BlockFault most reader.count ys error → JournalFault most xs error
+    block_within most each error fault =
+        in_file reader.head most plain read.named xs (all ++ ys) parts error (record {
+          messages = messages;
+          rest = ys;
+          each = each;
+          parts = block_parts;
+          fault = subst (λ (n : ℕ). BlockFault most n ys error) read.counted fault;
+        })
+
+    miscounted_within : (most : ℕ) → AllByRecursion (IsWithin most) messages → (count found : ℕ) →
+        BlocksRestFault most reader.head.version reader.count ys (CountDiffers count found) →
+        JournalFault most xs (CountDiffers count found)
+    miscounted_within most each count found fault =
+        count_refused (Some xs) (Some (all ++ ys)) reader.head most messages count found read_head (all_read fault.0)
+        (record { few = read.listed.few; each = each })
+        (fault.1.states ∙ ap (stated_count reader.head.version) (sym fault.1.reads)) fault.1.differs
+        (fault.1.reads ∙ read.counted)
+
+    pub blocks_within : (most : ℕ) → AllByRecursion (IsWithin most) messages → (error : FileError) →
+        BlocksRestFault most reader.head.version reader.count ys error → JournalFault most xs error
+    blocks_within most each (CountDiffers count found) fault = miscounted_within most each count found fault
+    blocks_within most each Full fault = block_within most each Full fault
+    blocks_within most each (TooLong len) fault = block_within most each (TooLong len) fault
+    blocks_within most each (BlockCut number) fault = block_within most each (BlockCut number) fault
+    blocks_within most each (Damaged number) fault = absurd fault
+    blocks_within most each (Short len) fault = absurd fault
+    blocks_within most each BadMagic fault = absurd fault
+    blocks_within most each (BadFlag byte) fault = absurd fault
+    blocks_within most each Read fault = absurd fault
+    blocks_within most each Memory fault = absurd fault
+    blocks_within most each Write fault = absurd fault
+
     block_refused : (error : FileError) → BlockFault 65535 reader.count ys error →
         JournalFault 65535 xs error × AreBefore xs messages error
-    block_refused error fault =
-        let here = subst (λ (n : ℕ). BlockFault 65535 n ys error) read.counted fault in (
-          in_file reader.head 65535 plain read.named xs (all ++ ys) parts error (record {
-            messages = messages;
-            rest = ys;
-            each = read.listed.each;
-            parts = block_parts;
-            fault = here;
-          }),
-          record { rest = ys; front = has_blocks; fault = here },
-        )
+    block_refused error fault = (
+      block_within 65535 read.listed.each error fault,
+      record {
+        rest = ys;
+        front = has_blocks;
+        fault = subst (λ (n : ℕ). BlockFault 65535 n ys error) read.counted fault;
+      },
+    )
 
-    refused_block : (error : FileError) → BlocksRestFault reader.head.version reader.count ys error →
+    refused_block : (error : FileError) → BlocksRestFault 65535 reader.head.version reader.count ys error →
         Gives xs messages (Some error)
-    refused_block (CountDiffers count found) fault =
-        let behind = all_read fault.0 in (
-          count_refused (Some xs) (Some (all ++ ys)) reader.head 65535 messages count found read_head behind read.listed
-              (fault.1.states ∙ ap (stated_count reader.head.version) (sym fault.1.reads)) fault.1.differs
-              (fault.1.reads ∙ read.counted),
-          subst (HasBlocks xs messages) fault.0 has_blocks,
-        )
+    refused_block (CountDiffers count found) fault = (
+      miscounted_within 65535 read.listed.each count found fault,
+      subst (HasBlocks xs messages) fault.0 has_blocks,
+    )
     refused_block Full fault = let here = block_refused Full fault in (here.0, inl here.1)
     refused_block (TooLong len) fault = let here = block_refused (TooLong len) fault in (here.0, inl here.1)
     refused_block (BlockCut number) fault = block_refused (BlockCut number) fault
@@ -218,23 +246,32 @@ module _ (xs ys : List ℕ) (reader : ReaderState) (messages : List (List ℕ))
     body = behind_head_3 reader.head.session.0 reader.head.closed reader.head.version xs (all ++ ys) recorded read.named
         parts
 
-    has_listed : HasRecords 65535 (all ++ ys) messages ys
-    has_listed = record {
-      listed = read.listed;
+    has_listed : (most : ℕ) → AllByRecursion (IsWithin most) messages → HasRecords most (all ++ ys) messages ys
+    has_listed most each = record {
+      listed = record { few = read.listed.few; each = each };
       parts = ap (λ (t : List ℕ). t ++ ys) (as_records reader.head.version messages recorded);
     }
 
+    precede : (most : ℕ) → AllByRecursion (IsWithin most) messages → (error : FileError) →
+        RecordFault most reader.count ys error → PrecedeRecord most (all ++ ys) messages error
+    precede most each error fault = record {
+      rest = ys;
+      front = has_listed most each;
+      fault = subst (λ (n : ℕ). RecordFault most n ys error) read.counted fault;
+    }
+
+    pub records_within : (most : ℕ) → AllByRecursion (IsWithin most) messages → (error : FileError) →
+        RecordFault most reader.count ys error → JournalFault most xs error
+    records_within most each error fault =
+        in_file_3 most xs (all ++ ys) body error
+        (record { messages = messages; before = precede most each error fault })
+
     record_refused : (error : FileError) → RecordFault 65535 reader.count ys error →
         JournalFault 65535 xs error × AreBeforeRecord xs messages error
-    record_refused error fault =
-        let before : PrecedeRecord 65535 (all ++ ys) messages error = record {
-          rest = ys;
-          front = has_listed;
-          fault = subst (λ (n : ℕ). RecordFault 65535 n ys error) read.counted fault;
-        } in (
-          in_file_3 65535 xs (all ++ ys) body error (record { messages = messages; before = before }),
-          (all ++ ys, body, before),
-        )
+    record_refused error fault = (
+      records_within 65535 read.listed.each error fault,
+      (all ++ ys, body, precede 65535 read.listed.each error fault),
+    )
 
     refused_record : (error : FileError) → RecordFault 65535 reader.count ys error → Gives xs messages (Some error)
     refused_record Full fault = let here = record_refused Full fault in (here.0, inr here.1)
@@ -250,7 +287,7 @@ module _ (xs ys : List ℕ) (reader : ReaderState) (messages : List (List ℕ))
     refused_record Write fault = absurd fault
 
     pub record_front : (contents : FileContents xs) → IsFront messages contents.messages
-    record_front contents = record_begins xs (all ++ ys) ys messages contents body has_listed
+    record_front contents = record_begins xs (all ++ ys) ys messages contents body (has_listed 65535 read.listed.each)
 
 -- A version has blocks or records.
 pub by_version : {C : Type 0} (version : FileVersion) → (has_records version ≡ false → C) →
@@ -259,21 +296,31 @@ by_version One plain recorded = plain refl
 by_version (Two count) plain recorded = plain refl
 by_version Three plain recorded = recorded refl
 
-rest_fault : (version : FileVersion) (read : ℕ) (rest : List ℕ) (error : FileError) → RestFault version read rest error →
-    (has_records version ≡ false → BlocksRestFault version read rest error)
-    × (has_records version ≡ true → RecordFault MAX_MESSAGE read rest error)
-rest_fault One read rest error fault = ((λ plain. fault), (λ recorded. absurd (true≢false (sym recorded))))
-rest_fault (Two count) read rest error fault = ((λ plain. fault), (λ recorded. absurd (true≢false (sym recorded))))
-rest_fault Three read rest error fault = ((λ plain. absurd (true≢false plain)), (λ recorded. fault))
+rest_fault : (most : ℕ) (version : FileVersion) (read : ℕ) (rest : List ℕ) (error : FileError) →
+    RestFault most version read rest error → (has_records version ≡ false → BlocksRestFault most version read rest error)
+    × (has_records version ≡ true → RecordFault most read rest error)
+rest_fault most One read rest error fault = ((λ plain. fault), (λ recorded. absurd (true≢false (sym recorded))))
+rest_fault most (Two count) read rest error fault = ((λ plain. fault), (λ recorded. absurd (true≢false (sym recorded))))
+rest_fault most Three read rest error fault = ((λ plain. absurd (true≢false plain)), (λ recorded. fault))
 
 pub refused : (xs ys : List ℕ) (reader : ReaderState) (messages : List (List ℕ)) →
     HasRead (Some xs) (Some ys) reader messages → (error : FileError) →
-    RestFault reader.head.version reader.count ys error → Gives xs messages (Some error)
+    RestFault MAX_MESSAGE reader.head.version reader.count ys error → Gives xs messages (Some error)
 refused xs ys reader messages read error fault =
-    let faults = rest_fault reader.head.version reader.count ys error fault in
+    let faults = rest_fault MAX_MESSAGE reader.head.version reader.count ys error fault in
     by_version reader.head.version
     (λ plain. refused_block xs ys reader messages read plain error (faults.0 plain))
     (λ recorded. refused_record xs ys reader messages read recorded error (faults.1 recorded))
+
+-- A fault after messages of at most `most` bytes.
+refused_within : (most : ℕ) (xs ys : List ℕ) (reader : ReaderState) (messages : List (List ℕ)) →
+    HasRead (Some xs) (Some ys) reader messages → AllByRecursion (IsWithin most) messages → (error : FileError) →
+    RestFault most reader.head.version reader.count ys error → JournalFault most xs error
+refused_within most xs ys reader messages read each error fault =
+    let faults = rest_fault most reader.head.version reader.count ys error fault in
+    by_version reader.head.version
+    (λ plain. blocks_within xs ys reader messages read plain most each error (faults.0 plain))
+    (λ recorded. records_within xs ys reader messages read recorded most each error (faults.1 recorded))
 
 pub read_whole : (known left : Option (List ℕ)) (reader : ReaderState) (messages : List (List ℕ)) (head : FileHead) →
     HasRead known left reader messages → EndsWith left reader head → IfSome known (λ bytes. Gives bytes messages None)
@@ -289,20 +336,40 @@ read_file None left reader messages head read ends = tt
 read_file (Some xs) None reader messages head read ends = absurd read.consumed
 read_file (Some xs) (Some ys) reader messages head read ends = ended xs ys reader messages read head ends
 
+-- The reader over other known bytes.
+read_of : (known left after rest : Option (List ℕ)) (reader : ReaderState) (messages : List (List ℕ)) →
+    HasRead known left reader messages →
+    Consumes after rest (head_spelling reader.head.session.0 reader.head.closed reader.head.version
+    ++ messages_spelling reader.head.version messages) → HasRead after rest reader messages
+read_of known left after rest reader messages read is = record {
+  named = read.named;
+  said = read.said;
+  listed = read.listed;
+  counted = read.counted;
+  consumed = is;
+}
+
 pub read_refused : (known left : Option (List ℕ)) (reader : ReaderState) (messages : List (List ℕ)) (error : FileError) →
-    HasRead known left reader messages → Refuses (RestFault reader.head.version reader.count) left error →
+    HasRead known left reader messages → Refuses (RestFault MAX_MESSAGE reader.head.version reader.count) left error →
     Refuses (λ bytes why. Gives bytes messages (Some why)) known error
 read_refused known left reader messages error read fault =
-    refused_behind (RestFault reader.head.version reader.count) (λ bytes why. Gives bytes messages (Some why)) known left
+    refused_behind (RestFault MAX_MESSAGE reader.head.version reader.count)
+    (λ bytes why. Gives bytes messages (Some why)) known left
     (head_spelling reader.head.session.0 reader.head.closed reader.head.version
     ++ messages_spelling reader.head.version messages) read.consumed
-    (λ xs ys is why rest. refused xs ys reader messages (record {
-      named = read.named;
-      said = read.said;
-      listed = read.listed;
-      counted = read.counted;
-      consumed = is;
-    }) why rest)
+    (λ xs ys is why rest. refused xs ys reader messages
+    (read_of known left (Some xs) (Some ys) reader messages read is) why rest)
+    error fault
+
+pub read_refused_within : (most : ℕ) (known left : Option (List ℕ)) (reader : ReaderState) (messages : List (List ℕ))
+    (error : FileError) → HasRead known left reader messages → AllByRecursion (IsWithin most) messages →
+    Refuses (RestFault most reader.head.version reader.count) left error → Refuses (JournalFault most) known error
+read_refused_within most known left reader messages error read each fault =
+    refused_behind (RestFault most reader.head.version reader.count) (JournalFault most) known left
+    (head_spelling reader.head.session.0 reader.head.closed reader.head.version
+    ++ messages_spelling reader.head.version messages) read.consumed
+    (λ xs ys is why rest. refused_within most xs ys reader messages
+    (read_of known left (Some xs) (Some ys) reader messages read is) each why rest)
     error fault
 
 -- The messages that were read are a prefix of the file's messages.

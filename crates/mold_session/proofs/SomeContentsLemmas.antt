@@ -127,7 +127,7 @@ split (suc fuel) base (high ∷ low ∷ more) short are few =
 -- ---- the bytes after a head
 
 as_rest : (version : FileVersion) (count : ℕ) (rest : List ℕ) (error : FileError) → BlockFault 65535 count rest error →
-    BlocksRestFault version count rest error
+    BlocksRestFault 65535 version count rest error
 as_rest version count rest Full fault = fault
 as_rest version count rest (TooLong len) fault = fault
 as_rest version count rest (BlockCut number) fault = fault
@@ -141,14 +141,14 @@ as_rest version count rest Memory fault = absurd fault
 as_rest version count rest Write fault = absurd fault
 
 as_fault : (version : FileVersion) (count : ℕ) (rest : List ℕ) (error : FileError) → has_records version ≡ false →
-    BlocksRestFault version count rest error → RestFault version count rest error
+    BlocksRestFault 65535 version count rest error → RestFault 65535 version count rest error
 as_fault One count rest error plain fault = fault
 as_fault (Two stated) count rest error plain fault = fault
 as_fault Three count rest error plain fault = absurd (true≢false plain)
 
 -- The file states the number of its messages, or another number.
 counted : (version : FileVersion) (count : ℕ) →
-    (stated_count version count ≡ count) ⊎ BlocksRestFault version count [] (CountDiffers (stated_count version count) count)
+    (stated_count version count ≡ count) ⊎ BlocksRestFault 65535 version count [] (CountDiffers (stated_count version count) count)
 counted version count = ⊎_elim
     (λ same. inl same)
     (λ differs. inr (refl, record { states = refl; reads = refl; differs = differs }))

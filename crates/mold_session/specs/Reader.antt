@@ -71,12 +71,13 @@ EndsFile One read said closed rest = (rest ≡ []) × (closed ≡ said)
 EndsFile (Two count) read said closed rest = (rest ≡ []) × (closed ≡ said) × (count ≡ read)
 EndsFile Three read said closed rest = EndsRecords closed rest
 
--- The next message was read in the encoding of the file, and appended to the list. Otherwise the file ends.
-abbrev pub ReadsMessage : FileHead → ℕ → Option (List ℕ) → Option (List ℕ) → List (List ℕ) → List (List ℕ) →
+-- The next message was read in the encoding of the file, and appended to the list. It has at most `most` bytes.
+-- Otherwise the file ends.
+abbrev pub ReadsMessage : ℕ → FileHead → ℕ → Option (List ℕ) → Option (List ℕ) → List (List ℕ) → List (List ℕ) →
     NextMessage → Type 0
-ReadsMessage head count known left old new Message =
-    (count < MAX_MESSAGES) × TakesSpelled (message_spelling head.version) MAX_MESSAGE known left old new
-ReadsMessage head count known left old new (End closed) =
+ReadsMessage most head count known left old new Message =
+    (count < MAX_MESSAGES) × TakesSpelled (message_spelling head.version) most known left old new
+ReadsMessage most head count known left old new (End closed) =
     IfSome known (EndsFile head.version count head.closed closed)
 
 -- The head of a reader's file once its end was read.
@@ -101,13 +102,13 @@ CountFault version read (CountDiffers count found) = Misstates version read coun
 CountFault version read error = ⊥
 
 -- The rest of a file with blocks, after the messages read so far, has this fault. Either the fault is in the next block,
--- or the rest is empty and the file states another number of messages.
-abbrev pub BlocksRestFault : FileVersion → ℕ → List ℕ → FileError → Type 0
-BlocksRestFault version read rest (CountDiffers count found) = (rest ≡ []) × Misstates version read count found
-BlocksRestFault version read rest error = BlockFault MAX_MESSAGE read rest error
+-- or the rest is empty and the file states another number of messages. A message may have at most `most` bytes.
+abbrev pub BlocksRestFault : ℕ → FileVersion → ℕ → List ℕ → FileError → Type 0
+BlocksRestFault most version read rest (CountDiffers count found) = (rest ≡ []) × Misstates version read count found
+BlocksRestFault most version read rest error = BlockFault most read rest error
 
--- The rest of the file, after the messages read so far, has this fault.
-abbrev pub RestFault : FileVersion → ℕ → List ℕ → FileError → Type 0
-RestFault One read rest error = BlocksRestFault One read rest error
-RestFault (Two count) read rest error = BlocksRestFault (Two count) read rest error
-RestFault Three read rest error = RecordFault MAX_MESSAGE read rest error
+-- The rest of the file, after the messages read so far, has this fault. A message may have at most `most` bytes.
+abbrev pub RestFault : ℕ → FileVersion → ℕ → List ℕ → FileError → Type 0
+RestFault most One read rest error = BlocksRestFault most One read rest error
+RestFault most (Two count) read rest error = BlocksRestFault most (Two count) read rest error
+RestFault most Three read rest error = RecordFault most read rest error

@@ -19,6 +19,15 @@ pub record HasPackedNext (old new : PackerState) (journal : JournalState) (plan 
   pub some : plan.from < plan.to → 0 < count
   pub journaled : IsJournal journal
 
+-- The plan's next packet, with `count` messages, was begun in the packer. A plan with remaining messages sends at least
+-- one.
+pub record HasBegunNext (old new : PackerState) (plan : PlanState) (count : ℕ) : Type 0 where
+  pub messages : List (List ℕ)
+  pub begun : new ≡ record { limit = old.limit; begun = Open plan.session plan.from messages }
+  pub counted : count ≡ length messages
+  pub within : plan.from + count ≤ plan.to
+  pub some : plan.from < plan.to → 0 < count
+
 -- The plan is for messages of the journal.
 pub record IsPlanOf (journal : JournalState) (plan : PlanState) : Type 0 where
   pub session : plan.session ≡ journal.session

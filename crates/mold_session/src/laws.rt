@@ -220,8 +220,13 @@ pub fn reader_law()
         IfSome known (λ bytes. SpellsFile head messages head.version bytes) }
     ensures refused { (known left : Option (List ℕ)) (reader : ReaderState) (messages : List (List ℕ))
         (error : FileError) → HasRead known left reader messages →
-        Refuses (RestFault reader.head.version reader.count) left error →
+        Refuses (RestFault MAX_MESSAGE reader.head.version reader.count) left error →
         Refuses (λ bytes why. Gives bytes messages (Some why)) known error }
+    ensures refused_within { (most : ℕ) (known left : Option (List ℕ)) (reader : ReaderState)
+        (messages : List (List ℕ)) (error : FileError) → HasRead known left reader messages →
+        AllByRecursion (IsWithin most) messages →
+        Refuses (RestFault most reader.head.version reader.count) left error →
+        Refuses (JournalFault most) known error }
     ensures front { (known left : Option (List ℕ)) (reader : ReaderState) (messages : List (List ℕ)) →
         HasRead known left reader messages →
         IfSome known (λ bytes. (contents : FileContents bytes) → IsFront messages contents.messages) }

@@ -1,7 +1,7 @@
 //! Messages of a journal packed into one datagram.
 
-ghost use Rattle.std.specs.Prelude.{◌≡◌, ◌+◌, ◌≤◌, ◌<◌, length};
-ghost use Rattle.mold_wire.specs.Packer.{IsLimit};
+ghost use Rattle.std.specs.Prelude.{◌≡◌, ◌+◌, ◌≤◌, ◌<◌, ℕ, List, length};
+ghost use Rattle.mold_wire.specs.Packer.{IsLimit, Open};
 ghost use Rattle.mold_wire.specs.declared.limits.TheConstants.{MESSAGE_OVERHEAD};
 ghost use Rattle.mold_session.specs.Answer.{IsPlan};
 ghost use Rattle.mold_session.specs.Packing.{HasPacked};
@@ -54,8 +54,11 @@ pub fn pack_plan(packer: &mut Packer, journal: &Journal, plan: &Plan) -> u64
     ensures packed { journal.now.max_message + MESSAGE_OVERHEAD ≤ packer.old.limit →
         plan.now.to ≤ length journal.now.messages + 1 →
         HasPackedNext packer.old packer.new journal.now plan.now result }
+    ensures begun { (messages : List (List ℕ)) × (length messages ≡ result) × (packer.new ≡ record {
+      limit = packer.old.limit;
+      begun = Open plan.now.session plan.now.from messages;
+    }) }
     ensures within { plan.now.from + result ≤ plan.now.to }
-    ensures limit { packer.new.limit ≡ packer.old.limit }
 {
     front_law();
     packet_length_law();

@@ -4,6 +4,7 @@ ghost use Rattle.std.specs.Prelude.{◌≡◌, ◌<◌, ◌≤◌, false, [], If
 ghost use Rattle.std.specs.Bool.{OnFalse, OnTrue};
 ghost use Rattle.std.specs.Io.KnownBytes.{prepend_known};
 ghost use Rattle.mold_session.specs.Contents.{Gives};
+ghost use Rattle.mold_session.specs.Journal.{IsWithin};
 ghost use Rattle.mold_session.specs.Loading.{CountsLoad, Refuses, has_records, work_left};
 ghost use Rattle.mold_session.specs.Reader.{EndsWith, HasRead, ReadsMessage, ReadsNext, RestFault, TakesBlocks};
 ghost use Rattle.mold_session.specs.declared.records.NextMessage.TheVariants.{Message};
@@ -22,28 +23,29 @@ use mold_wire::MAX_MESSAGE;
 use std::alloc::Global;
 use std::marker::Model;
 
-// Reads the next message of a file with this head as one more message of the list, or what ends the file. `count`
-// messages precede it.
+// Reads the next message of a file with this head as one more message of the list, or what ends the file. The message
+// may have at most `most` bytes, and `count` messages precede it.
 fn next_message<S: Source>(
     list: &mut MessageList,
     piece: &mut Piece,
     source: &mut S,
     head: FileHead,
     count: u64,
+    most: u16,
 ) -> Result<NextMessage, FileError>
     requires { count < MAX_NUMBER }
-    ensures read { IfOk result (ReadsMessage head count (prepend_known piece.old (S.left source.old))
+    ensures read { IfOk result (ReadsMessage most head count (prepend_known piece.old (S.left source.old))
         (prepend_known piece.new (S.left source.new)) list.old.messages list.new.messages) }
-    ensures refused { IfErr result (λ error. Refuses (RestFault head.version count)
+    ensures refused { IfErr result (λ error. Refuses (RestFault most head.version count)
         (prepend_known piece.old (S.left source.old)) error) }
     ensures work { IfOk result (λ next. next ≡ Message →
         work_left (S.bound source.new) piece.new < work_left (S.bound source.old) piece.old) }
     ensures failures { CountsLoad (S.failed source.old) (S.failed source.new) result }
 {
     if head.version.has_records() {
-        return next_record(list, piece, source, MAX_MESSAGE, count);
+        return next_record(list, piece, source, most, count);
     }
-    if next_block(list, piece, source, MAX_MESSAGE, count)? {
+    if next_block(list, piece, source, most, count)? {
         return Ok(NextMessage::Message);
     }
     check_count(head.version, count)?;
@@ -63,8 +65,8 @@ fn blocks_at_once(version: FileVersion, limit: u64) -> u64
 /// Reads the file of a journal, of any version, message by message. It holds no more than the longest
 /// message so far and the bytes of one read, at most 4,096.
 ///
-/// It refuses the bytes that `Journal::load` refuses with a `max_message` of 65,535. The fault is the same, and
-/// it is returned once the reader reaches it.
+/// It refuses the bytes that `Journal::load` refuses with a `max_message` of 65,535, or with a lower one that each call
+/// of `advance_within` is given. The fault is the same, and it is returned once the reader reaches it.
 #[derive(Drop)]
 pub struct JournalReader {
     head: FileHead,
@@ -145,7 +147,28 @@ impl JournalReader {
             (prepend_known self.new.rest (S.left source.new)) self.old self.new)) }
         ensures end { IfOk result (λ more. OnFalse more (EndsWith
             (prepend_known self.old.rest (S.left source.old)) self.old self.new.head)) }
-        ensures refused { IfErr result (λ error. Refuses (RestFault self.old.head.version self.old.count)
+        ensures refused { IfErr result (λ error. Refuses (RestFault MAX_MESSAGE self.old.head.version self.old.count)
+            (prepend_known self.old.rest (S.left source.old)) error) }
+        ensures work { IfOk result (λ more. OnTrue more
+            (work_left (S.bound source.new) self.new.rest < work_left (S.bound source.old) self.old.rest)) }
+        ensures failures { CountsLoad (S.failed source.old) (S.failed source.new) result }
+    {
+        self.advance_within(source, MAX_MESSAGE)
+    }
+
+    /// Reads the next message as `advance` does, but refuses a message of more than `max_message` bytes as `TooLong`.
+    pub fn advance_within<S: Source>(
+        &mut self,
+        source: &mut S,
+        max_message: u16,
+    ) -> Result<bool, FileError>
+        ensures next { IfOk result (λ more. OnTrue more (ReadsNext
+            (prepend_known self.old.rest (S.left source.old))
+            (prepend_known self.new.rest (S.left source.new)) self.old self.new)) }
+        ensures within { IfOk result (λ more. OnTrue more (IsWithin max_message self.new.message)) }
+        ensures end { IfOk result (λ more. OnFalse more (EndsWith
+            (prepend_known self.old.rest (S.left source.old)) self.old self.new.head)) }
+        ensures refused { IfErr result (λ error. Refuses (RestFault max_message self.old.head.version self.old.count)
             (prepend_known self.old.rest (S.left source.old)) error) }
         ensures work { IfOk result (λ more. OnTrue more
             (work_left (S.bound source.new) self.new.rest < work_left (S.bound source.old) self.old.rest)) }
@@ -158,6 +181,7 @@ impl JournalReader {
             source,
             self.head,
             self.count,
+            max_message,
         )? {
             NextMessage::Message => {
                 self.count += 1;

@@ -3,7 +3,7 @@
 ghost use Rattle.std.specs.Prelude.{◌≡◌, ◌+◌, ◌≤◌, ℕ, length, IfOk, IfErr};
 ghost use Rattle.mold_session.specs.Journal.{IsJournal, JournalState};
 ghost use Rattle.mold_session.specs.Loading.{CountsLoad};
-ghost use Rattle.mold_session.specs.Serving.{HasPackedNext, MayPack};
+ghost use Rattle.mold_session.specs.Serving.{HasBegunNext, HasPackedNext, MayPack};
 ghost use Rattle.mold_session.specs.declared.error.FileError.{FileError};
 
 use crate::error::FileError;
@@ -36,12 +36,13 @@ pub trait ServedJournal {
     /// Packs the next datagram of a plan and returns the number of its messages.
     ///
     /// `Read` is returned if a read fails. If the file was damaged after it was opened, another error states its fault.
-    /// A journal in memory returns no error. After an error, the contents of the packer are unspecified.
+    /// A journal in memory returns an error only if it lacks the plan's next message, or if that is too long for a
+    /// datagram: `BlockCut` with the message's number. After an error, the contents of the packer are unspecified.
     fn pack(&mut self, packer: &mut Packer, plan: &Plan) -> Result<u64, FileError>
         ensures packed { IfOk result (λ count. (journal : JournalState) → shows self.old journal →
             MayPack journal packer.old.limit plan.now →
             HasPackedNext packer.old packer.new journal plan.now count) }
-        ensures within { IfOk result (λ count. plan.now.from + count ≤ plan.now.to) }
+        ensures begun { IfOk result (HasBegunNext packer.old packer.new plan.now) }
         ensures limit { packer.new.limit ≡ packer.old.limit }
         ensures refused { IfErr result (λ error. (journal : JournalState) → shows self.old journal →
             MayPack journal packer.old.limit plan.now → error ≡ FileError.Read) }
@@ -67,6 +68,11 @@ impl ServedJournal for &Journal {
     }
 
     fn pack(&mut self, packer: &mut Packer, plan: &Plan) -> Result<u64, FileError> {
-        Ok(pack_plan(packer, *self, plan))
+        match pack_plan(packer, *self, plan) {
+            0 if plan.from() < plan.to() => Err(FileError::BlockCut {
+                number: plan.from(),
+            }),
+            count => Ok(count),
+        }
     }
 }

@@ -1,6 +1,6 @@
 //! The re-request server of a session.
 
-ghost use Rattle.std.specs.Prelude.{◌≡◌, ◌↔◌, ◌+◌, ◌≤◌, None, Some, length, unwrap_or, is_ok, is_some, IfOk, IfErr};
+ghost use Rattle.std.specs.Prelude.{◌≡◌, ◌↔◌, ◌+◌, ◌<◌, ◌≤◌, None, Some, length, unwrap_or, is_ok, is_some, IfOk, IfErr};
 ghost use Rattle.std.specs.Prelude.{IfSome, IfNone, OnOk, OnErr};
 ghost use Rattle.std.specs.Option.{OnSome};
 ghost use Rattle.mold_wire.specs.Packet.{Spells};
@@ -258,7 +258,8 @@ impl Server {
     /// be the one that the plan was made from, or one of the same session that has at least the messages of the plan.
     ///
     /// `Read` is returned if a read fails. If the file was damaged after it was opened, another error states its fault.
-    /// A journal in memory returns no error. After an error, the next call packs the same datagram.
+    /// A journal in memory returns no error if it has the plan's messages. After an error, the next call packs the same
+    /// datagram.
     pub fn datagram_from<J: ServedJournal>(
         &mut self,
         journal: &mut J,
@@ -270,6 +271,7 @@ impl Server {
             HasSentNext shown self.old.limit plan.old plan.new bytes.now)) }
         ensures within { IfOk result (λ datagram. IfSome datagram (λ bytes. length bytes.now ≤ self.old.limit)) }
         ensures left { IfOk result (λ datagram. OnSome datagram (plan.new.left + 1 ≡ plan.old.left)) }
+        ensures further { IfOk result (λ datagram. OnSome datagram (plan.old.from < plan.new.from)) }
         ensures more { IfOk result (λ datagram. OnSome datagram (¬ IsSpent plan.old)) }
         ensures none { IfOk result (λ datagram. IfNone datagram (IsSpent plan.old)) }
         ensures same { IfOk result (λ datagram. IfNone datagram (plan.new ≡ plan.old)) }

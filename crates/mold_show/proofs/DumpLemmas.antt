@@ -20,6 +20,7 @@ use Rattle.mold_show.specs.declared.dump_options.DumpOptions.{DumpOptions}
 use Rattle.mold_show.proofs.DumpedLemmas.{first_texts, no_texts, none_pass, passes_more, printed_blocks}
 use Rattle.mold_show.proofs.DumpedLemmas.{texts_more}
 use Rattle.mold_wire.specs.Block.{blocks}
+use Rattle.mold_wire.specs.declared.block.TheConstants.{MAX_MESSAGE}
 
 -- ---- what was written so far
 
@@ -58,7 +59,7 @@ pub record ReaderLaws : Type 0 where
       PassesBlocks limit reader next more → HasRead known (prepend_known next.rest left) next (messages ++ more)
   pub refused : (known left : Option (List ℕ)) (reader : ReaderState) (messages : List (List ℕ))
       (error : FileError) → HasRead known left reader messages →
-      Refuses (RestFault reader.head.version reader.count) left error →
+      Refuses (RestFault MAX_MESSAGE reader.head.version reader.count) left error →
       Refuses (λ bytes why. Gives bytes messages (Some why)) known error
   pub front : (known left : Option (List ℕ)) (reader : ReaderState) (messages : List (List ℕ)) →
       HasRead known left reader messages →

@@ -20,6 +20,7 @@ use Rattle.mold_show.specs.declared.dump_options.DumpOptions.{DumpOptions}
 use Rattle.mold_text.specs.Line.{line_of}
 use Rattle.mold_text.specs.Text.{refused_line}
 use Rattle.mold_wire.specs.Block.{block}
+use Rattle.mold_wire.specs.declared.block.TheConstants.{MAX_MESSAGE}
 
 -- ---- the messages
 
@@ -231,7 +232,8 @@ pub record ReadsEmpty (options : DumpOptions) (known left : Option (List ℕ)) (
 abbrev pub RefusesNext : DumpOptions → Option (List ℕ) → Option (List ℕ) → ReaderState → ReaderState → DumpFault →
     Type 0
 RefusesNext options known left old new (Empty number) = ReadsEmpty options known left old new number
-RefusesNext options known left old new (File error) = Refuses (RestFault old.head.version old.count) known error
+RefusesNext options known left old new (File error) =
+    Refuses (RestFault MAX_MESSAGE old.head.version old.count) known error
 
 -- The output reports how the dump ended. It doesn't if a read or an allocation failed.
 abbrev pub IsTold : Option DumpFault → Type 0

@@ -1,4 +1,5 @@
-use Rattle.mold_session.proofs.ReaderLemmas.{read_blocks, read_file, read_front, read_more, read_refused, read_whole}
+use Rattle.mold_session.proofs.ReaderLemmas.{read_blocks, read_file, read_front, read_more, read_refused}
+use Rattle.mold_session.proofs.ReaderLemmas.{read_refused_within, read_whole}
 use Rattle.mold_session.proofs.laws.reader_law.Goals as goal
 
 pub returns : goal.returns
@@ -8,5 +9,6 @@ returns c = record {
   end = read_whole;
   file = read_file;
   refused = read_refused;
+  refused_within = read_refused_within;
   front = read_front;
 }

@@ -1,5 +1,6 @@
-use Rattle.std.proofs.Common.{ap, arith}
-use Rattle.mold_wire.specs.Packer.{PackerState}
+use Rattle.std.proofs.Common.{◌≡◌, ℕ, arith, subst, sym}
+use Rattle.mold_wire.specs.Packer.{Open}
+use Rattle.mold_wire.specs.declared.session.Session.{Session}
 use Rattle.mold_session.proofs.ServingLemmas.{packed_next}
 use Rattle.mold_session.proofs.packing.pack_plan.Goals as goal
 
@@ -12,6 +13,22 @@ returns c = record {
       (λ limit message. (c.packet_length_law.ensures.alone limit message).0)
       c.to.ensures.plan c.iter_from-messages.ensures.journal room to c.session.ensures
       c.from-from.ensures.value c.to.ensures.value c.iter_from-messages.ensures.from c.pack_front.ensures;
+  begun = (
+    c.pack_front.ensures.found,
+    sym c.pack_front.ensures.counted,
+    subst
+        (λ (s : Session). c.pack_front.new.packer ≡ record {
+          limit = c.args.packer.now.limit;
+          begun = Open s c.args.plan.now.from c.pack_front.ensures.found;
+        })
+        c.session.ensures
+        (subst
+        (λ (n : ℕ). c.pack_front.new.packer ≡ record {
+          limit = c.args.packer.now.limit;
+          begun = Open c.session.result n c.pack_front.ensures.found;
+        })
+        c.from-from.ensures.value c.pack_front.ensures.begun),
+  );
   within = omega (
     arith,
     c.pack_front.ensures.counted,
@@ -20,5 +37,4 @@ returns c = record {
     c.to.ensures.value,
     c.to.ensures.plan,
   );
-  limit = ap (λ (p : PackerState). p.limit) c.pack_front.ensures.begun;
 }

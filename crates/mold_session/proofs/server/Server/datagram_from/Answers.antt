@@ -1,4 +1,4 @@
-use Rattle.std.proofs.Common.{◌≡◌, ℕ, ◌≤◌, refl, sym, ap, subst, ◌∙◌, true, false, arith, inl}
+use Rattle.std.proofs.Common.{◌≡◌, ℕ, ◌≤◌, refl, sym, ap, subst, ◌∙◌, true, false, arith, inl, inr}
 use Rattle.mold_session.specs.Answer.{PlanState, IsSpent}
 use Rattle.mold_session.specs.Journal.{JournalState}
 use Rattle.mold_session.specs.Server.{ServerState, IsServer}
@@ -39,6 +39,15 @@ returns g c =
           arith,
           ap (λ (p : PlanState). p.left) c.advance.ensures,
           λ (none : plan.left ≡ 0). more (inl none),
+        );
+        further = omega (
+          arith,
+          ap (λ (p : PlanState). p.from) c.advance.ensures,
+          packed.begun.some (omega (
+            arith,
+            c.is_spent.ensures.plan.1,
+            λ (same : plan.from ≡ plan.to). more (inr same),
+          )),
         );
         more = more;
         none = tt;
