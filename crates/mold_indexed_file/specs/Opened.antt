@@ -1,14 +1,13 @@
 -- Which journal an opened file has, and with which error a file is refused.
-use Rattle.std.specs.Prelude.{◌≡◌, ◌⊎◌, ℕ, ◌+◌, ◌<◌, Bool, false, List, length, Some, ⊤}
+use Rattle.std.specs.Prelude.{◌≡◌, ◌⊎◌, ℕ, ◌+◌, ◌<◌, Bool, false, List, length, ⊤}
 use Rattle.std.specs.List.{AllByRecursion}
-use Rattle.mold_session.specs.Contents.{Gives}
 use Rattle.mold_session.specs.File.{SpellsJournal, SpellsJournal2}
 use Rattle.mold_session.specs.FileFault.{JournalFault}
 use Rattle.mold_session.specs.Journal.{IsJournal, IsWithin, JournalState}
 use Rattle.mold_session.specs.Loading.{SpellsFile, stated_count}
 use Rattle.mold_session.specs.Records.{SpellsJournal3}
 use Rattle.mold_session.specs.declared.error.FileError.{FileError}
-use Rattle.mold_session.specs.declared.error.FileError.TheVariants.{Full, Memory, TooLong}
+use Rattle.mold_session.specs.declared.error.FileError.TheVariants.{BadFlag, BadMagic, Full, Memory, Read, Short}
 use Rattle.mold_session.specs.declared.journal.TheConstants.{MAX_MESSAGES}
 use Rattle.mold_session.specs.declared.loading.FileHead.{FileHead}
 use Rattle.mold_index.specs.Index.{IndexState, Indexes}
@@ -45,28 +44,24 @@ pub record IsOpened {F : Type 0} (most : ℕ) (bytes : List ℕ) (indexed : Inde
 
 -- ---- the error
 
--- The file ends within a message whose length is above `most`. The error states that the message is cut.
--- `Journal::load` states that it is too long.
-pub record IsLongCut (most : ℕ) (bytes : List ℕ) (error : FileError) : Type 0 where
-  -- the messages before it
-  pub messages : List (List ℕ)
-  pub each : AllByRecursion (IsWithin most) messages
-  pub cut : Gives bytes messages (Some error)
-  pub len : ℕ
-  pub long : JournalFault most bytes (TooLong len)
-
 -- The file is longer than an index can state.
 abbrev pub IsAboveEnd : List ℕ → FileError → Type 0
 IsAboveEnd bytes error = (error ≡ Full) × (MAX_END < length bytes)
 
 -- The error states why the bytes are not opened as the file of a journal whose messages have at most `most` bytes.
 abbrev pub OpenFault : ℕ → List ℕ → FileError → Type 0
-OpenFault most bytes error = JournalFault most bytes error ⊎ (IsLongCut most bytes error ⊎ IsAboveEnd bytes error)
+OpenFault most bytes error = JournalFault most bytes error ⊎ IsAboveEnd bytes error
 
--- Why a message of `len` bytes is not added to an index: it is longer than `most`, the index is full, or an allocation
--- failed.
-abbrev pub AddFault : ℕ → IndexState → ℕ → FileError → Type 0
-AddFault most index len (TooLong stated) = (stated ≡ len) × (most < len)
-AddFault most index len Full = (index.count ≡ MAX_MESSAGES) ⊎ (MAX_END < index.end + (index.layout.overhead + len))
-AddFault most index len Memory = ⊤
-AddFault most index len error = ⊥
+-- The error for a head that is refused. A fault after the head is not an error of the head, and becomes `Memory`.
+abbrev pub head_error : FileError → FileError
+head_error (Short len) = Short len
+head_error BadMagic = BadMagic
+head_error (BadFlag byte) = BadFlag byte
+head_error Read = Read
+head_error error = Memory
+
+-- Why a message of `len` bytes is not added to an index: the index is full, or an allocation failed.
+abbrev pub AddFault : IndexState → ℕ → FileError → Type 0
+AddFault index len Full = (index.count ≡ MAX_MESSAGES) ⊎ (MAX_END < index.end + (index.layout.overhead + len))
+AddFault index len Memory = ⊤
+AddFault index len error = ⊥

@@ -7,7 +7,7 @@ ghost use Rattle.mold_session.specs.Loading.{CountsLoad, Refuses};
 ghost use Rattle.mold_session.specs.declared.error.FileError.{FileError};
 ghost use Rattle.mold_index.specs.Index.{Indexes};
 ghost use Rattle.mold_index.specs.Layouts.{layout_of};
-ghost use Rattle.mold_indexed_file.specs.Opened.{AddFault, IsIndexOf, IsLoaded, IsOpened, OpenFault};
+ghost use Rattle.mold_indexed_file.specs.Opened.{AddFault, IsIndexOf, IsLoaded, IsOpened, OpenFault, head_error};
 ghost use Rattle.mold_indexed_file.specs.Shown.{IsInFile, Shows};
 
 use crate::indexed_file::IndexedFile;
@@ -17,18 +17,30 @@ use mold_index::{Index, IndexError, Layout};
 use mold_session::{FileError, FileHead, JournalReader};
 use std::alloc::Global;
 
+// Returns the error for a head that is refused.
+//
+// For the prover: `JournalReader::new` returns only errors that this leaves as they are, but its contract also allows
+// faults of messages.
+fn head_error(error: FileError) -> FileError
+    ensures { result ≡ head_error error }
+{
+    match error {
+        FileError::Short { .. }
+        | FileError::BadMagic
+        | FileError::BadFlag { .. }
+        | FileError::Read => error,
+        _ => FileError::Memory,
+    }
+}
+
 // Adds the next message, of `len` bytes, to the index of a file. After an error the index is unchanged.
-fn add_message(index: &mut Index, max_message: u16, len: usize) -> Result<(), FileError>
-    ensures within { OnOk result (len ≤ max_message) }
+fn add_message(index: &mut Index, len: u16) -> Result<(), FileError>
     ensures indexes { (lengths : List ℕ) → Indexes index.old lengths →
         OnOk result (Indexes index.new (lengths ++ len ∷ [])) }
     ensures layout { index.new.layout ≡ index.old.layout }
-    ensures refused { IfErr result (AddFault max_message index.old len) }
+    ensures refused { IfErr result (AddFault index.old len) }
 {
-    if len > usize::from(max_message) {
-        return Err(FileError::TooLong { len });
-    }
-    match index.push(len as u16) {
+    match index.push(len) {
         Ok(()) => Ok(()),
         Err(IndexError::Full) => Err(FileError::Full),
         Err(IndexError::Memory) => Err(FileError::Memory),
@@ -63,10 +75,13 @@ fn read_index<S: Source>(
     ensures refused { IfErr result (λ error. Refuses (OpenFault max_message) (S.left source.old) error) }
     ensures failures { CountsLoad (S.failed source.old) (S.failed source.new) result }
 {
-    let mut reader = JournalReader::new(alloc, source)?;
+    let mut reader = match JournalReader::new(alloc, source) {
+        Ok(reader) => reader,
+        Err(error) => return Err(head_error(error)),
+    };
     let mut index = Index::new(alloc, Layout::of(reader.head().version));
-    'messages: while reader.advance(source)? {
-        add_message(&mut index, max_message, reader.message().len())?;
+    'messages: while reader.advance_within(source, max_message)? {
+        add_message(&mut index, reader.message().len() as u16)?;
     }
     read_to_end(source)?;
     Ok((reader.head(), index))
@@ -79,10 +94,8 @@ fn read_index<S: Source>(
 /// holds the bytes of one read and the longest message so far. Besides reading a message's bytes, it takes constant
 /// time for each message, except when the memory of the index is doubled. It reads nothing through `file`.
 ///
-/// The errors are those of `Journal::load`, with two exceptions. If the last message is cut, and its length is above
-/// `max_message`, the error is `BlockCut`, or `Damaged` in version 3, instead of `TooLong`. `Full` is also returned for
-/// a file that is longer than 9,223,372,036,854,775,807 bytes. If an allocation for the index or for the buffer fails,
-/// `Memory` is returned.
+/// The errors are those of `Journal::load`. `Full` is also returned for a file that is longer than
+/// 9,223,372,036,854,775,807 bytes, and `Memory` if an allocation for the index or for the buffer fails.
 pub fn open_indexed<F: GrowingFile + Drop, S: Source>(
     alloc: Global,
     max_message: u16,
