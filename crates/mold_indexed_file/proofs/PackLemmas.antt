@@ -1,14 +1,18 @@
 -- Messages of a piece of a file, packed into a packet one after another.
-use Rattle.std.proofs.Common.{◌≡◌, ℕ, ◌+◌, ◌≤◌, List, [], ◌∷◌, ◌++◌, length, flat_map, refl, sym}
-use Rattle.std.proofs.Common.{ap, ◌∙◌, append_assoc, append-nil, arith}
+use Rattle.std.proofs.Common.{◌≡◌, inl, inr, ℕ, ◌+◌, ◌-◌, ◌<◌, ◌≤◌, List, [], ◌∷◌, ◌++◌, length, flat_map, refl, sym}
+use Rattle.std.proofs.Common.{ap, subst, ◌∙◌, append_assoc, append-nil, arith}
 use Rattle.std.proofs.lemmas.Grind.{flat_map-append}
 use Rattle.mold_wire.proofs.BlockLemmas.{each-append}
-use Rattle.mold_wire.specs.Packer.{HasRoom, IsLimit, Open, PackerState, with_message}
+use Rattle.mold_wire.specs.Packer.{Begun, HasRoom, IsLimit, Open, PackerState, with_message}
 use Rattle.mold_wire.specs.Packing.{packet_length}
 use Rattle.mold_wire.specs.declared.session.Session.{Session}
 use Rattle.mold_session.proofs.PackingLemmas.{OneMore}
+use Rattle.mold_session.specs.Answer.{PlanState}
+use Rattle.mold_session.specs.Loading.{message_spelling}
+use Rattle.mold_session.specs.declared.file_version.FileVersion.{FileVersion}
 use Rattle.mold_index.specs.Scan.{FindsMessage, IsMessageAndRest}
-use Rattle.mold_indexed_file.specs.Packed.{HasMessages}
+use Rattle.mold_indexed_file.specs.Buffer.{BufferState}
+use Rattle.mold_indexed_file.specs.Packed.{HasMessages, HasNoRoom, HasPackedPiece, IsTooLong}
 
 -- The messages so far are in the packet.
 pub record Gathers (spelling : List ℕ → List ℕ) (skip : ℕ) (bytes : List ℕ) (session : Session) (sequence limit : ℕ)
@@ -74,3 +78,33 @@ gathers_first spelling skip bytes session sequence old started new message rest 
           added;
       same = ap (λ (p : PackerState). p.limit) added ∙ ap (λ (p : PackerState). p.limit) begun;
     }
+
+-- No message was packed, because the first one is too long.
+none_packed : (version : FileVersion) (buffer : BufferState) (plan : PlanState) (packer : PackerState)
+    (found : List (List ℕ)) (rest : List ℕ) → OneMore → 0 ≡ length found →
+    HasMessages (message_spelling version) (plan.from - buffer.entry.number) buffer.bytes plan.session plan.from packer
+    found rest → HasNoRoom (message_spelling version) packer rest → IsTooLong version buffer plan packer.limit
+none_packed version buffer plan packer [] rest one_more none has full = record {
+  message = full.message;
+  has = record {
+    rest = full.rest;
+    finds = record {
+      next = has.finds.next;
+      skipped = has.finds.skipped;
+      found = record { fits = full.begins.fits; parts = has.finds.parts ∙ full.begins.parts };
+    };
+  };
+  long = λ fits.
+      let room : HasRoom packer.limit (Open plan.session plan.from []) (length full.message) =
+      omega (arith, fits, one_more [] full.message) in
+      full.full (subst (λ (b : Begun). HasRoom packer.limit b (length full.message)) (sym has.begun) room);
+}
+none_packed version buffer plan packer (message ∷ found) rest one_more none has full = absurd (omega (arith, none))
+
+pub too_long : (version : FileVersion) (buffer : BufferState) (plan : PlanState) (packer : PackerState) → OneMore →
+    plan.from < plan.to → HasPackedPiece version buffer plan packer 0 → IsTooLong version buffer plan packer.limit
+too_long version buffer plan packer one_more some all =
+    elim all.stops [
+      | inl most ↦ absurd (omega (arith, most, some))
+      | inr full ↦ none_packed version buffer plan packer all.found all.rest one_more all.counted all.packed full
+    ]

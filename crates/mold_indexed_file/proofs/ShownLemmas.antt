@@ -100,6 +100,23 @@ shown_next history moment indexed journal plan old new count end buffer one_more
     (piece_of history moment indexed journal old.limit plan end buffer ten laid planned may shows reads)
     (rw reads.begins at all)
 
+-- The packet of a plan with remaining messages has one.
+pub shown_some : {F : Type 0} (history : F → (ℕ → List ℕ) → Type 0) (moment : F → ℕ) (indexed : IndexedState F)
+    (journal : JournalState) (plan : PlanState) (old new : PackerState) (end : ℕ) (buffer : BufferState) →
+    OneMore → Stops → OnlyFront → SomeFront → Alone → plan.from < plan.to → length indexed.session.0 ≡ 10 →
+    indexed.index.layout ≡ layout_of indexed.version → IsPlan plan → MayPack journal old.limit plan →
+    (shows : Shows history moment indexed journal) →
+    HasReadFor indexed.index plan.from plan.to (most_bytes indexed.version old.limit indexed.max_message)
+    shows.has.bytes (moment indexed.file) end indexed.buffer buffer → new.limit ≡ old.limit →
+    HasPackedFrom (message_spelling indexed.version) (plan.from - buffer.entry.number) (plan.to - plan.from)
+    buffer.bytes
+    plan.session plan.from new 0 → ⊥
+shown_some history moment indexed journal plan old new end buffer one_more stops only front alone some ten laid planned
+    may shows reads same all =
+    let next = shown_next history moment indexed journal plan old new 0 end buffer one_more stops only front alone ten
+    laid planned may shows reads same all in
+    omega (arith, next.some some)
+
 pub shown_lacks : {F : Type 0} (history : F → (ℕ → List ℕ) → Type 0) (moment : F → ℕ) (indexed : IndexedState F)
     (journal : JournalState) (plan : PlanState) (old new : PackerState) (index end : ℕ) (buffer : BufferState) →
     packet_length [] ≡ 20 → plan.from < plan.to → length indexed.session.0 ≡ 10 →

@@ -1,5 +1,5 @@
 -- Which messages of a piece of a file are packed, and which error is returned if one is missing.
-use Rattle.std.specs.Prelude.{◌≡◌, ◌⊎◌, ℕ, ◌+◌, ◌-◌, ◌<◌, ◌≤◌, List, ◌++◌, length}
+use Rattle.std.specs.Prelude.{◌≡◌, ◌⊎◌, ℕ, ◌+◌, ◌-◌, ◌<◌, ◌≤◌, List, [], ◌∷◌, ◌++◌, length}
 use Rattle.std.specs.List.{flat_map, AllByRecursion}
 use Rattle.mold_wire.specs.Block.{IsMessage}
 use Rattle.mold_wire.specs.Packer.{HasRoom, Open, PackerState}
@@ -12,7 +12,7 @@ use Rattle.mold_session.specs.declared.error.FileError.TheVariants.{BlockCut, Da
 use Rattle.mold_session.specs.declared.file_version.FileVersion.{FileVersion}
 use Rattle.mold_session.specs.declared.file_version.FileVersion.TheVariants.{One, Two, Three}
 use Rattle.mold_index.specs.Index.{HasNumber, IndexState}
-use Rattle.mold_index.specs.Scan.{AreMessagesAndRest, BeginsNoMessage, EndAfter, IsMessageAndRest}
+use Rattle.mold_index.specs.Scan.{AreMessagesAndRest, BeginsNoMessage, EndAfter, HasMessage, IsMessageAndRest}
 use Rattle.mold_indexed_file.specs.Buffer.{BufferState}
 
 -- ---- messages of some bytes. `spelling` is the encoding of a message.
@@ -95,10 +95,17 @@ pub record IsMissing (version : FileVersion) (buffer : BufferState) (plan : Plan
   pub lacks : LacksAt version buffer plan packer index
   pub named : error ≡ missing version (buffer.entry.number + index)
 
--- Why no datagram was packed: a read failed, the index does not have the plan's next message, or the piece lacks a
--- message.
+-- The piece has the plan's next message, whole, and no datagram of at most `limit` bytes has room for it.
+pub record IsTooLong (version : FileVersion) (buffer : BufferState) (plan : PlanState) (limit : ℕ) : Type 0 where
+  pub message : List ℕ
+  pub has : HasMessage (message_spelling version) (plan.from - buffer.entry.number) buffer.bytes message
+  pub long : Fits limit (message ∷ []) → ⊥
+
+-- Why no datagram was packed: a read failed, the index does not have the plan's next message, the piece lacks a
+-- message, or the plan's next message is too long for a datagram.
 abbrev pub IsPackError : FileVersion → IndexState → BufferState → PlanState → PackerState → FileError → Type 0
 IsPackError version index buffer plan packer error =
     (error ≡ Read)
     ⊎ ((error ≡ missing version plan.from) × (HasNumber index plan.from → ⊥))
     ⊎ IsMissing version buffer plan packer error
+    ⊎ ((error ≡ missing version plan.from) × IsTooLong version buffer plan packer.limit)

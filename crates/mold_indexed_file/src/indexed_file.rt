@@ -5,7 +5,7 @@ ghost use Rattle.std.specs.Prelude.{None, Ok, false, unwrap_or};
 ghost use Rattle.mold_wire.specs.declared.limits.TheConstants.{MAX_LIMIT};
 ghost use Rattle.mold_session.specs.Journal.{IsJournal, JournalState, appended};
 ghost use Rattle.mold_session.specs.Loading.{CountsLoad};
-ghost use Rattle.mold_session.specs.Serving.{HasPackedNext, MayPack};
+ghost use Rattle.mold_session.specs.Serving.{HasBegunNext, HasPackedNext, MayPack};
 ghost use Rattle.mold_session.specs.declared.error.FileError.{FileError};
 ghost use Rattle.mold_durable.specs.GrowingFile.{Passes};
 ghost use Rattle.mold_index.specs.Adding.{needs_entry, push_refusal};
@@ -210,13 +210,14 @@ impl<F: GrowingFile> ServedJournal for IndexedFile<F> {
     /// nothing is read.
     ///
     /// `Read` is returned if the read fails. If a message that the datagram needs is not whole in the file, `BlockCut`
-    /// has its number, or `Damaged` in version 3. So has the plan's next message if the index does not have it. After
-    /// an error, the contents of the packer are unspecified.
+    /// has its number, or `Damaged` in version 3. The same error has the number of the plan's next message if the index
+    /// does not have it, or if it is too long for a datagram. After an error, the contents of the packer are
+    /// unspecified.
     fn pack(&mut self, packer: &mut Packer, plan: &Plan) -> Result<u64, FileError>
         ensures packed { IfOk result (λ count. (journal : JournalState) → Shows F.history F.moment self.old journal →
             MayPack journal packer.old.limit plan.now →
             HasPackedNext packer.old packer.new journal plan.now count) }
-        ensures within { IfOk result (λ count. plan.now.from + count ≤ plan.now.to) }
+        ensures begun { IfOk result (HasBegunNext packer.old packer.new plan.now) }
         ensures limit { packer.new.limit ≡ packer.old.limit }
         ensures refused { IfErr result (λ error. (journal : JournalState) → Shows F.history F.moment self.old journal →
             MayPack journal packer.old.limit plan.now → error ≡ FileError.Read) }
@@ -253,6 +254,7 @@ impl<F: GrowingFile> ServedJournal for IndexedFile<F> {
         self.read_next(plan, packer.limit())?;
         let first = self.buffer.entry().number;
         match pack_piece(packer, plan, self.version, first, self.buffer.bytes()) {
+            Ok(0) => Err(missing(self.version, plan.from())),
             Ok(count) => Ok(count),
             Err(none) => Err(missing(self.version, first + none.index)),
         }

@@ -11,7 +11,8 @@ use mold_wire::Packer;
 use mold_wire::laws::packet_length_law;
 
 /// Packs the next datagram of a plan from a piece of a file, whose first message has number `first`. Returns the number
-/// of messages. Of the messages after them, only the first is read.
+/// of messages. It is 0 if the plan's next message is too long for a datagram. Of the messages after those that were
+/// packed, only the first is read.
 pub fn pack_piece(
     packer: &mut Packer,
     plan: &Plan,
