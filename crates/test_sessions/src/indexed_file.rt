@@ -1,4 +1,4 @@
-//! A server's journal in a small file of each version: its datagrams, a read that fails, and a file that was cut off
+//! A server's journal in a small file of each version: its datagrams, a read that fails, and a file that was damaged
 //! after it was opened.
 
 use crate::comparisons::{holds, holds_at};
@@ -38,28 +38,29 @@ const FOUR_AND_FIVE: &[u8] = b"SESSION001\0\0\0\0\0\0\0\x04\0\x02\
     \0\x14\x04\x04\x04\x04\x04\x04\x04\x04\x04\x04\x04\x04\x04\x04\x04\x04\x04\x04\x04\x04\
     \0\x14\x05\x05\x05\x05\x05\x05\x05\x05\x05\x05\x05\x05\x05\x05\x05\x05\x05\x05\x05\x05";
 
-/// The file of five messages, the k-th of which is twenty bytes of the value k.
-fn file_of(alloc: Global, head: &[u8], start: &[u8], end: &[u8]) -> Result<Vec<u8>, AllocError> {
+/// The file of five messages, the k-th of which is twenty bytes of the value k. The file states `second` as the length
+/// of message 2.
+fn file_of(alloc: Global, case: Case, second: u8) -> Result<Vec<u8>, AllocError> {
+    let (_, head, start, end) = case;
     let mut file = Vec::from_slice(alloc, head)?;
     for value in 1..=5 {
+        let len = if value == 2 { second } else { 20 };
         file.extend_from_slice(start)?;
-        file.extend_from_slice(&[0, 20])?;
+        file.extend_from_slice(&[0, len])?;
         file.extend_from_slice(&[value; 20])?;
     }
     file.extend_from_slice(end)?;
     Ok(file)
 }
 
-/// The indexed file of five messages, without its last `cut` bytes. The call of the file of this number fails.
+/// The indexed file of five messages of twenty bytes, which has these bytes now. The call of the file of this number
+/// fails.
 fn indexed(
     alloc: Global,
-    case: Case,
-    cut: usize,
+    version: FileVersion,
+    bytes: Vec<u8>,
     fails: u64,
 ) -> Result<IndexedFile<ScriptedFile>, Fail> {
-    let (version, head, start, end) = case;
-    let mut bytes = file_of(alloc, head, start, end)?;
-    bytes.truncate(bytes.len().saturating_sub(cut));
     let mut snapshots = Vec::new(alloc);
     snapshots.push(bytes)?;
     let mut file = ScriptedFile::new(snapshots, 0);
@@ -101,7 +102,8 @@ pub fn expect_sent(
 #[test]
 fn no_allocation_of_datagrams_from_files(rt: HostRuntime) -> Result<(), Fail> {
     for case in CASES {
-        let mut file = indexed(rt.alloc(), case, 0, 2)?;
+        let bytes = file_of(rt.alloc(), case, 20)?;
+        let mut file = indexed(rt.alloc(), case.0, bytes, 2)?;
         let wanted = [Ok(Some(TWO_AND_THREE)), Ok(Some(FOUR_AND_FIVE)), Ok(None)];
         expect_sent(&rt, &mut file, 6, REQUEST, &wanted)?;
         holds(&rt, file.session() == Session(*b"SESSION001"));
@@ -113,16 +115,17 @@ fn no_allocation_of_datagrams_from_files(rt: HostRuntime) -> Result<(), Fail> {
 /// After a read that failed, the same datagram is read again.
 #[test]
 fn failed_read_of_a_file(rt: HostRuntime) -> Result<(), Fail> {
-    let mut file = indexed(rt.alloc(), CASES[2], 0, 1)?;
+    let bytes = file_of(rt.alloc(), CASES[2], 20)?;
+    let mut file = indexed(rt.alloc(), FileVersion::Three, bytes, 1)?;
     let wanted = [Err(FileError::Read), Ok(Some(TWO_AND_THREE))];
     expect_sent(&rt, &mut file, 6, REQUEST, &wanted)
 }
 
-/// The error for message 4 in a file of this version.
-fn without_four(version: FileVersion) -> FileError {
+/// The error for message `number` in a file of this version.
+fn without(version: FileVersion, number: u64) -> FileError {
     match version {
-        FileVersion::Three => FileError::Damaged { number: 4 },
-        FileVersion::One | FileVersion::Two { .. } => FileError::BlockCut { number: 4 },
+        FileVersion::Three => FileError::Damaged { number },
+        FileVersion::One | FileVersion::Two { .. } => FileError::BlockCut { number },
     }
 }
 
@@ -132,9 +135,23 @@ fn without_four(version: FileVersion) -> FileError {
 #[test]
 fn files_cut_off_after_opening(rt: HostRuntime) -> Result<(), Fail> {
     for case in CASES {
-        let mut file = indexed(rt.alloc(), case, 33, 0)?;
-        expect_sent(&rt, &mut file, 6, REQUEST, &[Err(without_four(case.0))])?;
+        let mut bytes = file_of(rt.alloc(), case, 20)?;
+        bytes.truncate(bytes.len().saturating_sub(33));
+        let mut file = indexed(rt.alloc(), case.0, bytes, 0)?;
+        expect_sent(&rt, &mut file, 6, REQUEST, &[Err(without(case.0, 4))])?;
         expect_sent(&rt, &mut file, 4, REQUEST, &[Ok(Some(TWO_AND_THREE))])?;
+    }
+    Ok(())
+}
+
+/// A file was damaged after it was opened. Message 2 is now too long for a datagram, and is refused. No datagram without
+/// messages is sent.
+#[test]
+fn files_damaged_after_opening(rt: HostRuntime) -> Result<(), Fail> {
+    for case in CASES {
+        let bytes = file_of(rt.alloc(), case, 43)?;
+        let mut file = indexed(rt.alloc(), case.0, bytes, 0)?;
+        expect_sent(&rt, &mut file, 6, REQUEST, &[Err(without(case.0, 2))])?;
     }
     Ok(())
 }

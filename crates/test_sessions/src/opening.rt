@@ -93,8 +93,7 @@ fn opened_files_have_their_messages(rt: HostRuntime) -> Result<(), Fail> {
     Ok(())
 }
 
-/// A message that is too long is refused before a later fault. If the last message is cut, that is the error even if
-/// the message is too long.
+/// A message that is too long is refused before a later fault, and even if it is cut.
 #[test]
 fn files_with_a_fault_are_refused(rt: HostRuntime) -> Result<(), Fail> {
     for (head, start, end, cut) in CASES {
@@ -103,7 +102,8 @@ fn files_with_a_fault_are_refused(rt: HostRuntime) -> Result<(), Fail> {
         holds(&rt, found == Err(FileError::TooLong { len: 3 }));
         file.truncate(file.len().saturating_sub(end.len() + 1));
         holds(&rt, opened(rt.alloc(), &file, 3, 0) == Err(cut));
-        holds(&rt, opened(rt.alloc(), &file, 2, 0) == Err(cut));
+        let found = opened(rt.alloc(), &file, 2, 0);
+        holds(&rt, found == Err(FileError::TooLong { len: 3 }));
         let found = opened(rt.alloc(), &file, 1, 0);
         holds(&rt, found == Err(FileError::TooLong { len: 2 }));
         file.truncate(10);
