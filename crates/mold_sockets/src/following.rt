@@ -55,8 +55,8 @@ pub(crate) fn open_served(
     open_follower(rt, order.journal.as_str(), longest_message(order.limit))
 }
 
-// Ends the command before the port is opened, because of an error of the file.
-fn end_unserved(rt: &HostRuntime, error: FileError) -> Result<u8, CommandFault> {
+/// Ends the command before the port is opened, because of an error of the file.
+pub(crate) fn end_unserved(rt: &HostRuntime, error: FileError) -> Result<u8, CommandFault> {
     match device_fault(error) {
         Some(fault) => Err(fault),
         None => tell_refused(rt, error),

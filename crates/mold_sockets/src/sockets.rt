@@ -2,23 +2,26 @@
 
 ghost use Rattle.mold_wire.specs.declared.limits.TheConstants.{MESSAGE_OVERHEAD};
 ghost use Rattle.std.specs.Prelude.{◌≡◌, ◌-◌};
+ghost use Rattle.mold_session.specs.Journal.{JournalState};
 ghost use Rattle.mold_input.specs.Formats.{entries_of, kind_of};
 ghost use Rattle.mold_wiring.specs.Addresses.{IsSocketOf};
 
-use crate::following::{open_served, serve_followed};
+use crate::following::{end_unserved, open_served, serve_followed};
 use crate::options::{listen_options, publish_options, serve_turns};
 use crate::replacing::{open_replaced, unless_locked};
 use crate::streams::{standard_output, tell_refused};
 use mold_devices::{CommandFault, FromRead, IntoWrite};
-use mold_durable::ReplacedFile;
+use mold_durable::{FollowedFile, ReplacedFile};
+use mold_indexed_file::open_indexed;
 use mold_input::{BlocksToEmpty, HexLines, MessageBlocks, MessageFormat, MessageReader};
 use mold_listen::{ListenPorts, listen};
 use mold_ports::UdpPort;
 use mold_send::{PublishDevices, publish};
 use mold_serve::serve_loop;
-use mold_session::Journal;
+use mold_session::ServedJournal;
 use mold_wiring::{
-    ProgramFault, flushed, load_journal, make_arbiter, make_publisher, make_server, open_port,
+    ProgramFault, flushed, load_journal, longest_message, make_arbiter, make_publisher,
+    make_server, open_port,
 };
 use mold_words::{Address, ListenOrder, PublishOrder, ServeOrder};
 use std::fs::File;
@@ -30,7 +33,8 @@ const ANY: Address = Address {
     port: 0,
 };
 
-/// Serves a journal over a port, which is opened after the journal is loaded. If the order asks to follow a file of
+/// Serves a journal over a port, which is opened after the journal was read. The messages of a regular file stay in the
+/// file. The journal of any other file, such as a pipe, is loaded into memory. If the order asks to follow a file of
 /// version 3, new records are read while it serves. If the file cannot be opened, the fault is `Read`.
 pub fn run_serve(rt: &HostRuntime, order: &ServeOrder) -> Result<u8, ProgramFault> {
     if order.follow {
@@ -41,32 +45,67 @@ pub fn run_serve(rt: &HostRuntime, order: &ServeOrder) -> Result<u8, ProgramFaul
     let Ok(file) = File::open(rt, order.journal.as_str()) else {
         return Err(ProgramFault::Command(CommandFault::Read));
     };
-    let journal = match load_journal(rt.alloc(), order, &mut FromRead::new(file))? {
-        Ok(journal) => journal,
-        Err(error) => return Ok(tell_refused(rt, error)?),
+    match file.metadata() {
+        Ok(found) if found.is_file() => serve_file(rt, order, file),
+        _ => serve_loaded(rt, order, file),
+    }
+}
+
+// Serves the journal in a regular file. Only the index of its messages is in memory.
+fn serve_file(rt: &HostRuntime, order: &ServeOrder, file: File) -> Result<u8, ProgramFault> {
+    let Ok(served) = file.try_clone() else {
+        return Err(ProgramFault::Command(CommandFault::Read));
     };
+    let most = longest_message(order.limit);
+    let served = FollowedFile::new(served);
+    match open_indexed(rt.alloc(), most, served, &mut FromRead::new(file)) {
+        Ok(mut journal) => serve_journal(rt, order, &mut journal),
+        Err(error) => Ok(end_unserved(rt, error)?),
+    }
+}
+
+// Serves the journal in a file that can be read only once. All its messages are in memory.
+fn serve_loaded(rt: &HostRuntime, order: &ServeOrder, file: File) -> Result<u8, ProgramFault> {
+    match load_journal(rt.alloc(), order, &mut FromRead::new(file))? {
+        Ok(journal) => {
+            let mut journal = &journal;
+            serve_journal(rt, order, &mut journal)
+        }
+        Err(error) => Ok(tell_refused(rt, error)?),
+    }
+}
+
+// Opens the port at the order's address, and serves the journal over it.
+fn serve_journal<J: ServedJournal>(
+    rt: &HostRuntime,
+    order: &ServeOrder,
+    journal: &mut J,
+) -> Result<u8, ProgramFault>
+    requires { (shown : JournalState) → J.shows journal.old shown →
+        shown.max_message ≡ order.now.limit - MESSAGE_OVERHEAD }
+{
     let mut port = open_port(rt, order.bind)?;
-    Ok(serve_on(rt, order, &mut port, &journal)?)
+    Ok(serve_on(rt, order, &mut port, journal)?)
 }
 
 // Serves the journal over the port, which was opened at the order's address.
-fn serve_on(
+fn serve_on<J: ServedJournal>(
     rt: &HostRuntime,
     order: &ServeOrder,
     port: &mut UdpPort,
-    journal: &Journal,
+    journal: &mut J,
 ) -> Result<u8, CommandFault>
     requires bound { IsSocketOf order.now.bind port.old.bound }
-    requires longest { journal.now.max_message ≡ order.now.limit - MESSAGE_OVERHEAD }
+    requires longest { (shown : JournalState) → J.shows journal.old shown →
+        shown.max_message ≡ order.now.limit - MESSAGE_OVERHEAD }
 {
-    let mut journal = journal;
     let mut server = make_server(rt.alloc(), order)?;
     let mut sink = standard_output(rt, order.live);
     let outcome = serve_loop(
         rt.alloc(),
         port,
         &mut server,
-        &mut journal,
+        journal,
         serve_turns(order),
         &mut sink,
     );
