@@ -238,6 +238,10 @@ service_is journal same = ap (service_of journal) same.limits
 abbrev pub Keeps : {J : Type 0} → (J → JournalState → Type 0) → J → J → Type 0
 Keeps shows old new = (journal : JournalState) → shows old journal → shows new journal
 
+-- what stayed the same still does
+abbrev pub Remains : {J : Type 0} → (J → J → Type 0) → J → J → Type 0
+Remains {J} stays old new = (earlier : J) → stays earlier old → stays earlier new
+
 pub may_answer : {D J : Type 0} {shows : J → JournalState → Type 0} {journal : JournalState}
     {old new : Responder D J} → IsSame old new → Keeps shows old.journal.now new.journal.now →
     MayAnswer shows old.journal.now old.server.now journal → MayAnswer shows new.journal.now new.server.now journal
@@ -341,6 +345,10 @@ timely_so {D} known service start live old new port end is timely =
 pub kept_so : {J : Type 0} (shows : J → JournalState → Type 0) (old journal end : J) → end ≡ journal →
     Keeps shows old journal → Keeps shows old end
 kept_so {J} shows old journal end is kept = subst (λ (j : J). Keeps shows old j) (sym is) kept
+
+pub remains_so : {J : Type 0} (stays : J → J → Type 0) (old journal end : J) → end ≡ journal →
+    Remains stays old journal → Remains stays old end
+remains_so {J} stays old journal end is remains = subst (λ (j : J). Remains stays old j) (sym is) remains
 
 pub failures_so : {J T : Type 0} (failed : J → ℕ) (result : Result T CommandFault) (old journal end : J)
     (sink_old sink_new : ℕ) → end ≡ journal →

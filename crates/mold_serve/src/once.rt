@@ -63,6 +63,7 @@ pub fn answer_once<D: Datagrams, J: ServedJournal>(
     ensures refused { IfErr result (λ error. (shown : JournalState) →
         MayAnswer J.shows journal.old server.old shown → IsReadOrMemory error) }
     ensures shown { (shown : JournalState) → J.shows journal.old shown → J.shows journal.new shown }
+    ensures stays { (earlier : J) → J.stays earlier journal.old → J.stays earlier journal.new }
     ensures failures { CountsLoad (J.failed journal.old) (J.failed journal.new) result }
     ensures server { server.new ≡ record server.old { answered = server.new.answered } }
 {

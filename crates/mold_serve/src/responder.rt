@@ -58,6 +58,8 @@ impl<'a, 'j, D: Datagrams, J: ServedJournal> Responder<'a, 'j, D, J> {
             MayOffer J.shows self.old.journal.now self.old.server.now plan.old journal → IsReadOrMemory error) }
         ensures shown { (journal : JournalState) →
             J.shows self.old.journal.now journal → J.shows self.new.journal.now journal }
+        ensures stays { (earlier : J) →
+            J.stays earlier self.old.journal.now → J.stays earlier self.new.journal.now }
         ensures failures { CountsLoad (J.failed self.old.journal.now) (J.failed self.new.journal.now) result }
         ensures same { IsSame self.old self.new }
     {
@@ -93,6 +95,8 @@ impl<'a, 'j, D: Datagrams, J: ServedJournal> Responder<'a, 'j, D, J> {
             MayOffer J.shows self.old.journal.now self.old.server.now plan.old journal → IsReadOrMemory error) }
         ensures shown { (journal : JournalState) →
             J.shows self.old.journal.now journal → J.shows self.new.journal.now journal }
+        ensures stays { (earlier : J) →
+            J.stays earlier self.old.journal.now → J.stays earlier self.new.journal.now }
         ensures failures { CountsLoad (J.failed self.old.journal.now) (J.failed self.new.journal.now) result }
         ensures same { IsSame self.old self.new }
     {
@@ -117,6 +121,8 @@ impl<'a, 'j, D: Datagrams, J: ServedJournal> Responder<'a, 'j, D, J> {
             MayAnswer J.shows self.old.journal.now self.old.server.now journal → IsReadOrMemory error) }
         ensures shown { (journal : JournalState) →
             J.shows self.old.journal.now journal → J.shows self.new.journal.now journal }
+        ensures stays { (earlier : J) →
+            J.stays earlier self.old.journal.now → J.stays earlier self.new.journal.now }
         ensures failures { CountsLoad (J.failed self.old.journal.now) (J.failed self.new.journal.now) result }
         ensures same { IsSame self.old self.new }
     {

@@ -17,6 +17,9 @@ pub trait ServedJournal {
     // The journals that this may be. If nothing is known of a file's bytes, there are none.
     ghost shows: { Self → JournalState → Type 0 };
 
+    // What stays the same while the journal is served, as a relation of an earlier state and the present one.
+    ghost stays: { Self → Self → Type 0 };
+
     // The number of failures. It stays at `u64::MAX` once it is there.
     ghost failed: { Self → ℕ };
 
@@ -47,11 +50,14 @@ pub trait ServedJournal {
         ensures refused { IfErr result (λ error. (journal : JournalState) → shows self.old journal →
             MayPack journal packer.old.limit plan.now → error ≡ FileError.Read) }
         ensures shown { (journal : JournalState) → shows self.old journal → shows self.new journal }
+        ensures stays { (earlier : Self) → stays earlier self.old → stays earlier self.new }
         ensures failures { CountsLoad (failed self.old) (failed self.new) result };
 }
 
 impl ServedJournal for &Journal {
     ghost shows = { λ j journal. journal ≡ j.now };
+
+    ghost stays = { λ earlier j. j.now ≡ earlier.now };
 
     ghost failed = { λ _. 0 };
 

@@ -282,6 +282,7 @@ impl Server {
         ensures unspent { OnErr result (¬ IsSpent plan.old) }
         ensures kept { OnErr result (plan.new ≡ plan.old) }
         ensures shown { (shown : JournalState) → J.shows journal.old shown → J.shows journal.new shown }
+        ensures stays { (earlier : J) → J.stays earlier journal.old → J.stays earlier journal.new }
         ensures failures { CountsLoad (J.failed journal.old) (J.failed journal.new) result }
         ensures plan { IsPlan plan.old }
         ensures server { IfOk result (λ datagram. OnSome datagram (IsServer self.old)) }

@@ -1,5 +1,5 @@
 use Rattle.std.proofs.Common.{◌≡◌, rules, subst, sym}
-use Rattle.mold_serve.proofs.ServingLemmas.{kept_so, loads_so}
+use Rattle.mold_serve.proofs.ServingLemmas.{kept_so, loads_so, remains_so}
 use Rattle.mold_session.specs.Server.{ServerState}
 use Rattle.mold_serve.proofs.once.answer_once.Goals as goal
 
@@ -21,6 +21,11 @@ pub returns-clause-shown : goal.returns-clause-shown
 returns-clause-shown g c =
     kept_so g.J.ServedJournal.shows c.args.journal.now c.answer_request.new.self.journal.now _
     (let same = sym c.answer_request.ensures.same.journal in search rules) c.answer_request.ensures.shown
+
+pub returns-clause-stays : goal.returns-clause-stays
+returns-clause-stays g c =
+    remains_so g.J.ServedJournal.stays c.args.journal.now c.answer_request.new.self.journal.now _
+    (let same = sym c.answer_request.ensures.same.journal in search rules) c.answer_request.ensures.stays
 
 pub returns-clause-failures : goal.returns-clause-failures
 returns-clause-failures g c =

@@ -26,6 +26,7 @@ packets-preserved g c =
       prints = begins_trans was.prints c.in_ok-offer_next.ensures.prints;
       comes = λ t. c.in_ok-offer_next.ensures.comes t ∙ was.comes t;
       shown = λ journal shows. c.in_ok-offer_next.ensures.shown journal (was.shown journal shows);
+      stays = λ earlier stays. c.in_ok-offer_next.ensures.stays earlier (was.stays earlier stays);
       failures = c.in_ok-offer_next.ensures.failures ∙ was.failures;
       same = same_twice was.same c.in_ok-offer_next.ensures.same;
     }

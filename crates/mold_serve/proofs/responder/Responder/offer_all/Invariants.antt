@@ -4,7 +4,7 @@ use Rattle.mold_serve.specs.Serving.{IsSame, service_of, state}
 use Rattle.mold_session.specs.Journal.{JournalState}
 use Rattle.mold_turns.specs.Runs.{Begins}
 use Rattle.mold_serve.proofs.AnsweringLemmas.{Offering}
-use Rattle.mold_serve.proofs.ServingLemmas.{Keeps}
+use Rattle.mold_serve.proofs.ServingLemmas.{Keeps, Remains}
 use Rattle.mold_serve.proofs.responder.Responder.offer_all.Given as goal
 
 -- some packets were offered, and those that the plan still sends remain
@@ -26,6 +26,7 @@ invariant-packets g l = record {
       g.D.Datagrams.modeled ≡ true →
       (g.D.Datagrams.port l.self.port.now).comes ≡ (g.D.Datagrams.port l.fn.self.port.now).comes;
   shown : Keeps g.J.ServedJournal.shows l.fn.self.journal.now l.self.journal.now;
+  stays : Remains g.J.ServedJournal.stays l.fn.self.journal.now l.self.journal.now;
   failures : g.J.ServedJournal.failed l.self.journal.now ≡ g.J.ServedJournal.failed l.fn.self.journal.now;
   same : IsSame l.fn.self l.self;
 }

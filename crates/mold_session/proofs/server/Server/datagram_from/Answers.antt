@@ -58,6 +58,7 @@ returns g c =
         unspent = tt;
         kept = tt;
         shown = packed.shown;
+        stays = packed.stays;
         failures = packed.failures;
         plan = c.is_spent.ensures.plan;
         server = server;
