@@ -22,6 +22,32 @@ pub record FollowerState (F : Type 0) : Type 0 where
   -- the messages of the last poll
   pub news : List (List ℕ)
 
+-- The state of a follower without its file.
+pub record RecordFollowerState : Type 0 where
+  pub session : Session
+  -- the largest length of a message, in bytes
+  pub max_message : ℕ
+  -- how many messages it has returned
+  pub count : ℕ
+  -- as in `FollowerState`
+  pub end : ℕ
+  -- whether it has read the closing record
+  pub closed : Bool
+  -- the messages of the last poll
+  pub news : List (List ℕ)
+
+-- The state of a follower of this file.
+abbrev pub follower_of : {F : Type 0} → F → RecordFollowerState → FollowerState F
+follower_of file records = record {
+  file = file;
+  session = records.session;
+  max_message = records.max_message;
+  count = records.count;
+  end = records.end;
+  closed = records.closed;
+  news = records.news;
+}
+
 -- The follower has returned these messages of the writer's journal. They are durable. If it has read the closing
 -- record, they are all messages of the journal.
 pub record Follows {F : Type 0} (history : F → (ℕ → List ℕ) → Type 0) (synced : F → ℕ) (writer : Writer)

@@ -11,10 +11,8 @@ ghost use Rattle.mold_durable.specs.declared.error.OpenError.{OpenError};
 ghost use Rattle.mold_durable.specs.declared.following.TheConstants.{LONGEST_RECORD, LOOK_BYTES};
 
 use crate::error::OpenError;
-use crate::following::{LONGEST_RECORD, read_durable, read_head};
 use crate::growing_file::GrowingFile;
-use crate::head::HEAD_LENGTH;
-use crate::recovery::Records;
+use crate::record_follower::RecordFollower;
 use mold_messages::MessageList;
 use mold_wire::Session;
 use std::alloc::Global;
@@ -26,33 +24,16 @@ use std::marker::Model;
 pub struct Follower<F> {
     /// The file.
     pub file: F,
-    session: Session,
-    max_message: u16,
-    // The records that were returned.
-    records: Records,
-    // The messages of the last poll.
-    news: MessageList,
-    // Memory for the longest record, with the gate after it.
-    buffer: Vec<u8>,
+    /// The records that were read, and the messages of the last poll.
+    pub records: RecordFollower,
 }
 
 impl<F> Model for Follower<F> {
-    ghost use Rattle.std.specs.Prelude.{length};
-    ghost use Rattle.mold_durable.specs.Follower.{FollowerState, IsFollower};
+    ghost use Rattle.mold_durable.specs.Follower.{FollowerState, follower_of};
 
     ghost Value = { FollowerState F };
 
-    ghost view = { λ f. record {
-      file = f.file;
-      session = f.session;
-      max_message = f.max_message;
-      count = f.records.count;
-      end = f.records.end;
-      closed = f.records.closed;
-      news = f.news.messages;
-    } };
-
-    ghost invariant = { λ f. IsFollower f.records.count f.records.end (length f.buffer.items) };
+    ghost view = { λ f. follower_of f.file f.records };
 }
 
 impl<F: GrowingFile + Drop> Follower<F> {
@@ -78,25 +59,8 @@ impl<F: GrowingFile + Drop> Follower<F> {
         ensures failures { IfOk result (λ follower. F.failed follower.file ≡ F.failed file) }
     {
         let mut file = file;
-        let session = match read_head(&mut file) {
-            Ok(session) => session,
-            Err(error) => return Err(error),
-        };
-        let Ok(buffer) = vec![in alloc; 0; LONGEST_RECORD] else {
-            return Err(OpenError::Memory);
-        };
-        Ok(Follower {
-            file,
-            session,
-            max_message,
-            records: Records {
-                count: 0,
-                end: HEAD_LENGTH as u64,
-                closed: false,
-            },
-            news: MessageList::new(alloc),
-            buffer,
-        })
+        let records = RecordFollower::open(alloc, max_message, &mut file)?;
+        Ok(Follower { file, records })
     }
 }
 
@@ -105,35 +69,35 @@ impl<F> Follower<F> {
     pub fn session(&self) -> Session
         ensures { result ≡ self.now.session }
     {
-        self.session
+        self.records.session()
     }
 
     /// Returns the largest length of a message, in bytes.
     pub fn max_message(&self) -> u16
         ensures { result ≡ self.now.max_message }
     {
-        self.max_message
+        self.records.max_message()
     }
 
     /// Returns the sequence number of the next message: one more than the number of messages that were returned.
     pub fn next(&self) -> u64
         ensures { result ≡ self.now.count + 1 }
     {
-        self.records.count + 1
+        self.records.next()
     }
 
     /// Returns true if the closing record was read, and is durable.
     pub fn is_closed(&self) -> bool
         ensures { result ≡ self.now.closed }
     {
-        self.records.closed
+        self.records.is_closed()
     }
 
     /// Returns the messages that the last poll gained, in order. After an error, there are none.
     pub fn news(&self) -> &MessageList
         ensures { result.now.messages ≡ self.now.news }
     {
-        &self.news
+        self.records.news()
     }
 }
 
@@ -172,25 +136,6 @@ impl<F: GrowingFile> Follower<F> {
         ensures passes { Passes F.history F.moment F.synced self.old.file self.new.file }
         ensures cause { CountsOpen (F.failed self.old.file) (F.failed self.new.file) result }
     {
-        self.news.clear();
-        if self.records.closed {
-            return Ok(false);
-        }
-        match read_durable(
-            &mut self.file,
-            &mut self.buffer,
-            &mut self.news,
-            self.max_message,
-            self.records,
-        ) {
-            Ok(look) => {
-                self.records = look.records;
-                Ok(look.more)
-            }
-            Err(error) => {
-                self.news.clear();
-                Err(error)
-            }
-        }
+        self.records.poll(&mut self.file)
     }
 }

@@ -1,75 +1,21 @@
-use Rattle.std.proofs.Common.{◌++◌, refl, sym, ap, subst}
-use Rattle.mold_messages.specs.Listed.{Listed}
+use Rattle.std.proofs.Common.{◌≡◌, ◌++◌, false, sym, subst}
+use Rattle.std.specs.Prelude.{IfOk}
 use Rattle.mold_durable.specs.Follower.{FollowerState, Follows}
-use Rattle.mold_durable.specs.Following.{AllWithin, HasAll}
-use Rattle.mold_durable.proofs.FollowerLemmas.{follows_on, follows_still, told_by}
+use Rattle.mold_durable.specs.Following.{HasAll}
 use Rattle.mold_durable.proofs.follower.Follower.poll.Goals as goal
 
-pub returns-in-Ok-clause-gained : goal.returns-in-Ok-clause-gained
-returns-in-Ok-clause-gained g c = λ writer bytes told writes follows.
-    let history = g.F.GrowingFile.history in
-    let moment = g.F.GrowingFile.moment in
-    let synced = g.F.GrowingFile.synced in
-    let f = c.self.inside in
-    let look = c.in-Ok.look in
-    let has = subst (λ (s : FollowerState g.row.F.Denot). Follows history synced writer bytes s told)
-    (sym c.self.view_is) follows in
-    let new : FollowerState g.row.F.Denot = record {
-      file = c.read_durable.new.file;
-      session = f.session;
-      max_message = f.max_message;
-      count = look.records.count;
-      end = look.records.end;
-      closed = look.records.closed;
-      news = c.read_durable.new.news.messages;
-    } in
-    follows_on history moment synced writer bytes writes told _ new look c.read_durable.ensures.passes refl refl refl
-    refl has (c.in-Ok.ensures.found writer bytes told has.shown writes
-    (told_by history moment synced writer bytes writes told _ (g.met.F.GrowingFile.synced_now f.file) c.if-self.false
-    has))
+pub returns-clause-gained : goal.returns-clause-gained
+returns-clause-gained g c = λ writer bytes told writes follows.
+    c.poll.ensures.gained writer bytes told writes
+    (subst (λ (s : FollowerState g.row.F.Denot).
+    Follows g.F.GrowingFile.history g.F.GrowingFile.synced writer bytes s told) (sym c.self.view_is) follows)
 
-pub returns-in-Ok-clause-nothing : goal.returns-in-Ok-clause-nothing
-returns-in-Ok-clause-nothing g c = λ writer bytes told writes follows none.
-    let history = g.F.GrowingFile.history in
-    let moment = g.F.GrowingFile.moment in
-    let synced = g.F.GrowingFile.synced in
-    let f = c.self.inside in
-    let has = subst (λ (s : FollowerState g.row.F.Denot). Follows history synced writer bytes s told)
-    (sym c.self.view_is) follows in
+pub returns-clause-nothing : goal.returns-clause-nothing
+returns-clause-nothing g c = λ writer bytes told writes follows.
     subst (λ (s : FollowerState g.row.F.Denot).
-    HasAll writer (told ++ c.read_durable.new.news.messages) c.in-Ok.look.records.closed (moment s.file)) c.self.view_is
-    ((c.in-Ok.ensures.found writer bytes told has.shown writes
-    (told_by history moment synced writer bytes writes told _ (g.met.F.GrowingFile.synced_now f.file) c.if-self.false
-    has)).all none)
-
-pub returns-in-Err-clause-gained : goal.returns-in-Err-clause-gained
-returns-in-Err-clause-gained g c = λ writer bytes told writes follows.
-    let history = g.F.GrowingFile.history in
-    let synced = g.F.GrowingFile.synced in
-    let f = c.self.inside in
-    let has = subst (λ (s : FollowerState g.row.F.Denot). Follows history synced writer bytes s told)
-    (sym c.self.view_is) follows in
-    let new : FollowerState g.row.F.Denot = record {
-      file = c.read_durable.new.file;
-      session = f.session;
-      max_message = f.max_message;
-      count = f.records.count;
-      end = f.records.end;
-      closed = f.records.closed;
-      news = c.clear-in-Err.new.self.messages;
-    } in
-    follows_still history g.F.GrowingFile.moment synced writer bytes writes told _ new c.read_durable.ensures.passes
-    refl refl refl refl (ap (λ (l : Listed). l.messages) c.clear-in-Err.ensures) has
-
-pub returns-in-Err-clause-accepted : goal.returns-in-Err-clause-accepted
-returns-in-Err-clause-accepted g c = λ writer bytes told writes each follows.
-    let history = g.F.GrowingFile.history in
-    let moment = g.F.GrowingFile.moment in
-    let synced = g.F.GrowingFile.synced in
-    let f = c.self.inside in
-    let has = subst (λ (s : FollowerState g.row.F.Denot). Follows history synced writer bytes s told)
-    (sym c.self.view_is) follows in
-    c.in-Err.ensures.accepted writer bytes told has.shown writes
-    (subst (λ (s : FollowerState g.row.F.Denot). AllWithin s.max_message writer) (sym c.self.view_is) each)
-    (told_by history moment synced writer bytes writes told _ (g.met.F.GrowingFile.synced_now f.file) c.if-self.false
-    has)
+    IfOk c.poll.result (λ more. more ≡ false →
+    HasAll writer (told ++ c.poll.new.self.news) c.poll.new.self.closed (g.F.GrowingFile.moment s.file)))
+    c.self.view_is
+    (c.poll.ensures.nothing writer bytes told writes
+    (subst (λ (s : FollowerState g.row.F.Denot).
+    Follows g.F.GrowingFile.history g.F.GrowingFile.synced writer bytes s told) (sym c.self.view_is) follows))

@@ -2,7 +2,7 @@ use Rattle.std.proofs.Common.{[], refl, sym, arith, length-append}
 use Rattle.std.proofs.lemmas.Bool.{true≢false}
 use Rattle.mold_session.specs.Records.{head_3}
 use Rattle.mold_durable.proofs.HeadLemmas.{length-head_3}
-use Rattle.mold_durable.proofs.follower.Follower.open.Goals as goal
+use Rattle.mold_durable.proofs.record_follower.RecordFollower.open.Goals as goal
 
 pub returns-clause-follows : goal.returns-clause-follows
 returns-clause-follows g c = λ writer bytes shown writes. record {
