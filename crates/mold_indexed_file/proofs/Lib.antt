@@ -5,3 +5,4 @@ pub mod FileLemmas
 pub mod ShownLemmas
 pub mod OpeningLemmas
 pub mod OpenedLemmas
+pub mod GrowingLemmas

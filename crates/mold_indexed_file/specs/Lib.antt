@@ -3,3 +3,4 @@ pub mod Opened
 pub mod Packed
 pub mod Read
 pub mod Shown
+pub mod Growing

@@ -9,13 +9,14 @@ ghost use Rattle.mold_session.specs.Serving.{HasBegunNext, HasPackedNext, MayPac
 ghost use Rattle.mold_session.specs.declared.error.FileError.{FileError};
 ghost use Rattle.mold_durable.specs.GrowingFile.{Passes};
 ghost use Rattle.mold_index.specs.Adding.{needs_entry, push_refusal};
-ghost use Rattle.mold_index.specs.Index.{HasNumber, fresh_index};
+ghost use Rattle.mold_index.specs.Index.{HasNumber, IsIndex, fresh_index};
 ghost use Rattle.mold_index.specs.Layouts.{layout_of};
 ghost use Rattle.mold_index.specs.declared.error.IndexError.{IndexError};
 ghost use Rattle.mold_indexed_file.specs.Packed.{HasPackedPiece, IsPackError, missing};
 ghost use Rattle.mold_indexed_file.specs.Buffer.{most_bytes};
+ghost use Rattle.mold_indexed_file.specs.Growing.{WasRead};
 ghost use Rattle.mold_indexed_file.specs.Read.{HasReadFor};
-ghost use Rattle.mold_indexed_file.specs.Shown.{IsInFile, Shows};
+ghost use Rattle.mold_indexed_file.specs.Shown.{IndexedState, IsInFile, Shows};
 
 use crate::packing::{missing, pack_piece};
 use crate::piece_buffer::PieceBuffer;
@@ -45,7 +46,7 @@ fn most_bytes(version: FileVersion, limit: usize, max_message: u16) -> u64
 /// Besides the entries of the index, it holds a buffer of at most 229,317 bytes.
 #[derive(Drop)]
 pub struct IndexedFile<F> {
-    file: F,
+    pub(crate) file: F,
     session: Session,
     version: FileVersion,
     max_message: u16,
@@ -140,7 +141,11 @@ impl<F: GrowingFile> IndexedFile<F> {
             error ≡ unwrap_or (push_refusal self.old.index len) IndexError.Memory) }
         ensures same { OnErr result (self.new ≡ self.old) }
         ensures succeeds { push_refusal self.old.index len ≡ None → needs_entry self.old.index ≡ false → IsOk result }
+        ensures counted { OnOk result (self.new.index.count ≡ self.old.index.count + 1) }
+        ensures index { IsIndex self.old.index }
     {
+        // `count` ensures that the index is that of some messages.
+        let _count = self.index.count();
         self.index.push(len)
     }
 
@@ -179,6 +184,8 @@ impl<F: GrowingFile> IndexedFile<F> {
 
 impl<F: GrowingFile> ServedJournal for IndexedFile<F> {
     ghost shows = { λ f journal. Shows F.history F.moment f journal };
+
+    ghost stays = { λ earlier f. WasRead F.history F.moment F.synced earlier f };
 
     ghost failed = { λ f. F.failed f.file };
 
@@ -223,6 +230,8 @@ impl<F: GrowingFile> ServedJournal for IndexedFile<F> {
             MayPack journal packer.old.limit plan.now → error ≡ FileError.Read) }
         ensures shown { (journal : JournalState) → Shows F.history F.moment self.old journal →
             Shows F.history F.moment self.new journal }
+        ensures stays { (earlier : IndexedState F) → WasRead F.history F.moment F.synced earlier self.old →
+            WasRead F.history F.moment F.synced earlier self.new }
         ensures failures { CountsLoad (F.failed self.old.file) (F.failed self.new.file) result }
 
         // What is packed, and which errors are returned, even if the file does not have the journal.

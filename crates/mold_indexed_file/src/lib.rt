@@ -1,6 +1,7 @@
 //! A journal in a file that a server responds from. Only the index of the file is in memory.
 #![tactic(auto)]
 
+mod growing;
 mod indexed_file;
 pub mod laws;
 mod opening;

@@ -1,8 +1,10 @@
-use Rattle.std.proofs.Common.{[], ◌∷◌, ◌++◌, refl, sym, subst, ℕ}
+use Rattle.std.proofs.Common.{[], ◌∷◌, ◌++◌, ◌≡◌, ◌+◌, refl, sym, subst, ℕ}
+use Rattle.std.specs.Prelude.{OnOk}
 use Rattle.mold_session.specs.Journal.{appended}
 use Rattle.mold_index.specs.Index.{Indexes}
 use Rattle.mold_index.specs.Layouts.{lengths_of}
 use Rattle.mold_indexed_file.specs.Shown.{IndexedState, IsInFile, Shows}
+use Rattle.mold_indexed_file.proofs.GrowingLemmas.{counts_more}
 use Rattle.mold_indexed_file.proofs.ShownLemmas.{on_ok, shows_more}
 use Rattle.mold_indexed_file.proofs.indexed_file.IndexedFile.push.Goals as goal
 
@@ -30,3 +32,10 @@ returns-clause-shown g c = λ journal message shows long journaled has.
     shows_more history moment old new journal message refl was journaled had
     (subst (λ (n : ℕ). Indexes c.push.new.self (lengths_of journal.messages ++ n ∷ [])) (sym long) indexes))
     (c.push.ensures.indexes (lengths_of journal.messages) was.indexes)
+
+pub returns-clause-counted : goal.returns-clause-counted
+returns-clause-counted g c =
+    subst (λ (s : IndexedState g.row.F.Denot). OnOk c.push.result (c.push.new.self.count ≡ s.index.count + 1))
+    c.self.view_is
+    (counts_more c.push.result c.self.inside.index c.push.new.self c.args.len c.count-count.ensures.index
+    c.push.ensures.indexes)
