@@ -11,6 +11,7 @@ pub mod LoadingLemmas
 pub mod MovingLemmas
 pub mod OneFaultLemmas
 pub mod PackingLemmas
+pub mod PassingLemmas
 pub mod PublisherLemmas
 pub mod PuttingLemmas
 pub mod SavingLemmas

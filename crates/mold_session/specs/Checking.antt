@@ -1,11 +1,12 @@
 -- How the bytes of a file are checked without memory for its messages.
-use Rattle.std.specs.Prelude.{◌≡◌, ℕ, ◌≤◌, Bool, List, ◌++◌, length, take, drop}
+use Rattle.std.specs.Prelude.{◌≡◌, ℕ, ◌≤◌, Bool, List, ◌++◌, length, map, take, drop}
 use Rattle.std.specs.List.{AllByRecursion}
 use Rattle.byteorder.specs.Endian.{big_number}
 use Rattle.mold_wire.specs.Block.{block, blocks}
 use Rattle.mold_wire.specs.declared.block.TheConstants.{MAX_MESSAGE}
 use Rattle.mold_session.specs.FileFault.{IsBody1, IsBody2, IsBody3, HasRecords}
 use Rattle.mold_session.specs.Journal.{AreMessages, IsWithin}
+use Rattle.mold_session.specs.Loading.{messages_spelling}
 use Rattle.mold_session.specs.Records.{record_of, EndsRecords}
 use Rattle.mold_session.specs.declared.file_version.FileVersion.{FileVersion}
 use Rattle.mold_session.specs.declared.file_version.FileVersion.TheVariants.{One, Two, Three}
@@ -61,3 +62,31 @@ pub record AreWholeBlocks (limit : ℕ) (bytes : List ℕ) (len count : ℕ) : T
   pub counted : count ≡ length messages
   pub within : len ≤ length bytes
   pub parts : take len bytes ≡ blocks messages
+
+-- The bytes are the encoding of a message of `len` bytes, which is at most `most`, and then the bytes `behind`.
+pub record HasLength (spelling : List ℕ → List ℕ) (most : ℕ) (bytes : List ℕ) (len : ℕ) (behind : List ℕ) : Type 0 where
+  pub message : List ℕ
+  pub within : IsWithin most message
+  pub counted : len ≡ length message
+  pub parts : bytes ≡ spelling message ++ behind
+
+-- The bytes are the encodings of `count` messages with at most `most` bytes in a file of this version, and then the
+-- bytes `rest`. Their lengths were appended to `lengths`.
+pub record HasPassed (version : FileVersion) (most count : ℕ) (bytes rest lengths more : List ℕ) : Type 0 where
+  pub messages : List (List ℕ)
+  pub each : AllByRecursion (IsWithin most) messages
+  pub counted : count ≡ length messages
+  pub parts : bytes ≡ messages_spelling version messages ++ rest
+  pub appended : more ≡ lengths ++ map (λ message. length message) messages
+
+-- The first `len` bytes are the encodings of `count` messages with at most `most` bytes in a file of this version, and
+-- there are at most `limit` of them. Their lengths were appended to `lengths`.
+pub record PassesWhole (version : FileVersion) (most limit : ℕ) (bytes : List ℕ) (len count : ℕ)
+    (lengths more : List ℕ) : Type 0 where
+  pub messages : List (List ℕ)
+  pub few : length messages ≤ limit
+  pub each : AllByRecursion (IsWithin most) messages
+  pub counted : count ≡ length messages
+  pub within : len ≤ length bytes
+  pub parts : take len bytes ≡ messages_spelling version messages
+  pub appended : more ≡ lengths ++ map (λ message. length message) messages

@@ -1,5 +1,5 @@
 -- How a file is read message by message.
-use Rattle.std.specs.Prelude.{◌≡◌, ℕ, ◌+◌, ◌<◌, ◌≤◌, Bool, List, [], ◌++◌, length, Option, IfSome}
+use Rattle.std.specs.Prelude.{◌≡◌, ℕ, ◌+◌, ◌<◌, ◌≤◌, Bool, List, [], ◌++◌, length, map, Option, IfSome}
 use Rattle.std.specs.Io.KnownBytes.{Consumes}
 use Rattle.std.specs.List.{AllByRecursion}
 use Rattle.mold_wire.specs.Block.{blocks}
@@ -62,6 +62,14 @@ pub record TakesBlocks (limit : ℕ) (old new : ReaderState) (text more : List �
   pub messages : List (List ℕ)
   pub passes : PassesBlocks limit old new messages
   pub appended : more ≡ text ++ blocks messages
+
+-- Messages at the start of the unused bytes, each with at most `most` bytes, were passed, and their lengths appended to
+-- `lengths`.
+pub record PassesMessages (most : ℕ) (old new : ReaderState) (lengths more : List ℕ) : Type 0 where
+  pub messages : List (List ℕ)
+  pub passes : PassesBlocks (length messages) old new messages
+  pub within : AllByRecursion (IsWithin most) messages
+  pub appended : more ≡ lengths ++ map (λ message. length message) messages
 
 -- The bytes `rest`, which follow `read` messages, end a file of this version. `said` is what its head states of the
 -- session, and `closed` is whether the session is closed. Versions 1 and 2 end with the file, and version 2 with the

@@ -2,7 +2,11 @@
 
 ghost use Rattle.std.specs.Prelude.{◌≡◌, ◌<◌, ◌∷◌, ℕ, [], length, IfOk, IfErr, IfSome, MatchOption, OnOk};
 ghost use Rattle.mold_wire.specs.declared.limits.TheConstants.{MAX_NUMBER};
-ghost use Rattle.mold_session.specs.Checking.{AreWholeBlocks, IsBody, IsEnd, HasBlock, HasCounted, HasEnded, HasRecord};
+ghost use Rattle.mold_wire.specs.Block.{block};
+ghost use Rattle.mold_session.specs.Checking.{AreWholeBlocks, IsBody, IsEnd, HasBlock, HasCounted, HasEnded, HasLength};
+ghost use Rattle.mold_session.specs.Checking.{HasRecord, PassesWhole};
+ghost use Rattle.mold_session.specs.Loading.{message_spelling};
+ghost use Rattle.mold_session.specs.Records.{record_of};
 ghost use Rattle.mold_session.specs.FileFault.{BlockFault, BlocksFault, JournalFault, RecordFault, RecordsFault};
 ghost use Rattle.mold_session.specs.declared.error.FileError.{FileError as AFault};
 ghost use Rattle.mold_session.specs.declared.journal.TheConstants.{MAX_MESSAGES};
@@ -179,6 +183,76 @@ pub fn whole_blocks(bytes: &[u8], limit: u64) -> (usize, u64)
         count += 1;
     }
     (bytes.len() - rest.len(), count)
+}
+
+// Returns the length of the message whose whole block is at the start of the bytes, and the bytes after it. Returns
+// `None` if the block is cut or the message has more than `most` bytes.
+fn block_length(most: u16, bytes: &[u8]) -> Option<(u16, &[u8])>
+    ensures { IfSome result (λ found. HasLength block most bytes.now found.0 found.1.now) }
+{
+    if bytes.len() < LENGTH_BYTES {
+        return None;
+    }
+    let (head, behind) = bytes.split_at(LENGTH_BYTES);
+    let len = BigEndian::read_u16(head);
+    if len > most || behind.len() < usize::from(len) {
+        return None;
+    }
+    let (_, after) = behind.split_at(usize::from(len));
+    Some((len, after))
+}
+
+// Returns what `block_length` returns, for a message's record. Returns `None` before any other record and a shut gate.
+fn record_length(most: u16, bytes: &[u8]) -> Option<(u16, &[u8])>
+    ensures { IfSome result (λ found. HasLength record_of most bytes.now found.0 found.1.now) }
+{
+    let (gate, record) = bytes.split_first()?;
+    if *gate != OPEN_GATE {
+        return None;
+    }
+    let (kind, body) = record.split_first()?;
+    if *kind != MESSAGE_KIND {
+        return None;
+    }
+    block_length(most, body)
+}
+
+// Returns the length of the whole message at the start of the bytes of a file of this version, and the bytes after it.
+fn message_length(version: FileVersion, most: u16, bytes: &[u8]) -> Option<(u16, &[u8])>
+    ensures { IfSome result (λ found. HasLength (message_spelling version) most bytes.now found.0 found.1.now) }
+{
+    match version {
+        FileVersion::One | FileVersion::Two { .. } => block_length(most, bytes),
+        FileVersion::Three => record_length(most, bytes),
+    }
+}
+
+/// Appends the lengths of the whole messages at the start of the bytes of a file of this version: at most `limit` of
+/// them, up to one of more than `most` bytes or an allocation that fails. Returns the length in bytes of their
+/// encodings, and their number.
+pub fn whole_messages(
+    version: FileVersion,
+    most: u16,
+    limit: u64,
+    bytes: &[u8],
+    lengths: &mut Vec<u16>,
+) -> (usize, u64)
+    ensures { PassesWhole version most limit bytes.now result.0 result.1 lengths.old.items lengths.new.items }
+{
+    let mut rest = bytes;
+    let mut count = 0;
+    'passed: while count < limit {
+        let Some((len, behind)) = message_length(version, most, rest) else {
+            break;
+        };
+        let Ok(()) = lengths.push(len) else {
+            break;
+        };
+        rest = behind;
+        count += 1;
+    }
+    let len = bytes.len() - rest.len();
+    (len, count)
 }
 
 /// Checks that the bytes are the file of a journal, of any version, whose messages have at most `most` bytes.

@@ -5,12 +5,13 @@ ghost use Rattle.std.specs.Bool.{OnFalse, OnTrue};
 ghost use Rattle.std.specs.Io.KnownBytes.{prepend_known};
 ghost use Rattle.mold_session.specs.Contents.{Gives};
 ghost use Rattle.mold_session.specs.Journal.{IsWithin};
-ghost use Rattle.mold_session.specs.Loading.{CountsLoad, Refuses, has_records, work_left};
-ghost use Rattle.mold_session.specs.Reader.{EndsWith, HasRead, ReadsMessage, ReadsNext, RestFault, TakesBlocks};
+ghost use Rattle.mold_session.specs.Loading.{CountsLoad, IsOfHead, Refuses, has_records, work_left};
+ghost use Rattle.mold_session.specs.Reader.{EndsWith, HasRead, PassesMessages, ReadsMessage, ReadsNext, RestFault};
+ghost use Rattle.mold_session.specs.Reader.{TakesBlocks};
 ghost use Rattle.mold_session.specs.declared.records.NextMessage.TheVariants.{Message};
 ghost use Rattle.mold_wire.specs.declared.limits.TheConstants.{MAX_NUMBER};
 
-use crate::checking::whole_blocks;
+use crate::checking::{whole_blocks, whole_messages};
 use crate::error::FileError;
 use crate::file_version::FileVersion;
 use crate::journal::MAX_MESSAGES;
@@ -100,6 +101,7 @@ impl JournalReader {
             (prepend_known reader.rest (S.left source.new)) reader []) }
         ensures refused { IfErr result (λ error.
             Refuses (λ bytes why. Gives bytes [] (Some why)) (S.left source.old) error) }
+        ensures headed { IfErr result IsOfHead }
         ensures failures { CountsLoad (S.failed source.old) (S.failed source.new) result }
     {
         let mut piece = Piece::new();
@@ -210,5 +212,18 @@ impl JournalReader {
             self.piece.skip(len);
             self.count += count;
         }
+    }
+
+    /// Passes the next messages that the last read got whole, and appends their lengths to `lengths`. It reads nothing.
+    /// It stops before a message of more than `max_message` bytes, before one that is not whole, and before what ends the
+    /// file. If an allocation fails, it passes fewer messages, and `advance` still reads the next one.
+    pub fn pass_messages(&mut self, max_message: u16, lengths: &mut Vec<u16>)
+        ensures { PassesMessages max_message self.old self.new lengths.old.items lengths.new.items }
+    {
+        let limit = MAX_MESSAGES - self.count;
+        let bytes = self.piece.rest();
+        let (len, count) = whole_messages(self.head.version, max_message, limit, bytes, lengths);
+        self.piece.skip(len);
+        self.count += count;
     }
 }
