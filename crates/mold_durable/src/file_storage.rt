@@ -91,6 +91,9 @@ pub fn read_all_at(file: &File, at: u64, buffer: &mut [u8]) -> io::Result<usize>
             break;
         }
         count += read;
+        if count == buffer.len() {
+            break;
+        }
     }
     Ok(count)
 }
