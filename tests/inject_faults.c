@@ -1,5 +1,5 @@
 /* A library for LD_PRELOAD that makes allocations and system calls fail. FAULT names the kind of call: allocation,
- * read, write, receive, send or wait. The call number FAULT_AT of that kind fails, counted from 1. With FAULT_ALL all
+ * read (also `pread`), write, receive, send or wait. The call number FAULT_AT of that kind fails, counted from 1. With FAULT_ALL all
  * later calls of that kind fail too. With FAULT_SINGLE_BYTES each read or write transfers one byte. The counts are
  * mapped to the file FAULT_COUNTS, of sizeof(struct counts) bytes, so they are kept however the program ends.
  * tests/out-of-memory and tests/io-errors use this library. */
@@ -79,6 +79,10 @@ static size_t moved(size_t size) { return single_bytes && size ? 1 : size; }
 ssize_t read(int file, void *buffer, size_t size) {
     NEXT(read);
     return FAILS("read") ? -1 : next(file, buffer, moved(size));
+}
+ssize_t pread(int file, void *buffer, size_t size, off_t at) {
+    NEXT(pread);
+    return FAILS("read") ? -1 : next(file, buffer, moved(size), at);
 }
 ssize_t getdents64(int folder, void *buffer, size_t size) {
     NEXT(getdents64);
