@@ -147,7 +147,8 @@ impl RecordFollower {
             Follows F.history F.synced writer bytes (follower_of file.old self.old) told →
             Follows F.history F.synced writer bytes (follower_of file.new self.new) (told ++ self.new.news) }
         ensures nothing { (writer : Writer) (bytes : ℕ → List ℕ) (told : List (List ℕ)) → Writes writer bytes →
-            Follows F.history F.synced writer bytes (follower_of file.old self.old) told → IfOk result (λ more. more ≡ false →
+            Follows F.history F.synced writer bytes (follower_of file.old self.old) told →
+            IfOk result (λ more. more ≡ false →
             HasAll writer (told ++ self.new.news) self.new.closed (F.moment file.old)) }
         ensures more { IfOk result (λ more. more ≡ true →
             (0 < length self.new.news) × (self.new.closed ≡ false)) }
@@ -159,7 +160,8 @@ impl RecordFollower {
           news = self.new.news;
         } }
         ensures accepted { (writer : Writer) (bytes : ℕ → List ℕ) (told : List (List ℕ)) → Writes writer bytes →
-            AllWithin self.old.max_message writer → Follows F.history F.synced writer bytes (follower_of file.old self.old) told →
+            AllWithin self.old.max_message writer →
+            Follows F.history F.synced writer bytes (follower_of file.old self.old) told →
             IfErr result IsOfDevice }
         ensures bounded { length (records self.new.news) < LOOK_BYTES + LONGEST_RECORD }
         ensures passes { Passes F.history F.moment F.synced file.old file.new }

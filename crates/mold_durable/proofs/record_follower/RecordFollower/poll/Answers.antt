@@ -12,8 +12,8 @@ returns-in-Ok-clause-gained g c = λ writer bytes told writes follows.
     let synced = g.F.GrowingFile.synced in
     let f = c.self.inside in
     let look = c.in-Ok.look in
-    let has = subst (λ (s : RecordFollowerState). Follows history synced writer bytes (follower_of c.args.file.now s) told)
-    (sym c.self.view_is) follows in
+    let has = subst (λ (s : RecordFollowerState).
+    Follows history synced writer bytes (follower_of c.args.file.now s) told) (sym c.self.view_is) follows in
     let new : RecordFollowerState = record {
       session = f.session;
       max_message = f.max_message;
@@ -22,10 +22,10 @@ returns-in-Ok-clause-gained g c = λ writer bytes told writes follows.
       closed = look.records.closed;
       news = c.read_durable.new.news.messages;
     } in
-    follows_on history moment synced writer bytes writes told _ (follower_of c.read_durable.new.file new) look c.read_durable.ensures.passes refl refl refl
-    refl has (c.in-Ok.ensures.found writer bytes told has.shown writes
-    (told_by history moment synced writer bytes writes told _ (g.met.F.GrowingFile.synced_now c.args.file.now) c.if-self.false
-    has))
+    follows_on history moment synced writer bytes writes told _ (follower_of c.read_durable.new.file new) look
+    c.read_durable.ensures.passes refl refl refl refl has (c.in-Ok.ensures.found writer bytes told has.shown writes
+    (told_by history moment synced writer bytes writes told _ (g.met.F.GrowingFile.synced_now c.args.file.now)
+    c.if-self.false has))
 
 pub returns-in-Ok-clause-nothing : goal.returns-in-Ok-clause-nothing
 returns-in-Ok-clause-nothing g c = λ writer bytes told writes follows none.
@@ -33,19 +33,19 @@ returns-in-Ok-clause-nothing g c = λ writer bytes told writes follows none.
     let moment = g.F.GrowingFile.moment in
     let synced = g.F.GrowingFile.synced in
     let f = c.self.inside in
-    let has = subst (λ (s : RecordFollowerState). Follows history synced writer bytes (follower_of c.args.file.now s) told)
-    (sym c.self.view_is) follows in
-    ((c.in-Ok.ensures.found writer bytes told has.shown writes
-    (told_by history moment synced writer bytes writes told _ (g.met.F.GrowingFile.synced_now c.args.file.now) c.if-self.false
-    has)).all none)
+    let has = subst (λ (s : RecordFollowerState).
+    Follows history synced writer bytes (follower_of c.args.file.now s) told) (sym c.self.view_is) follows in
+    (c.in-Ok.ensures.found writer bytes told has.shown writes
+    (told_by history moment synced writer bytes writes told _ (g.met.F.GrowingFile.synced_now c.args.file.now)
+    c.if-self.false has)).all none
 
 pub returns-in-Err-clause-gained : goal.returns-in-Err-clause-gained
 returns-in-Err-clause-gained g c = λ writer bytes told writes follows.
     let history = g.F.GrowingFile.history in
     let synced = g.F.GrowingFile.synced in
     let f = c.self.inside in
-    let has = subst (λ (s : RecordFollowerState). Follows history synced writer bytes (follower_of c.args.file.now s) told)
-    (sym c.self.view_is) follows in
+    let has = subst (λ (s : RecordFollowerState).
+    Follows history synced writer bytes (follower_of c.args.file.now s) told) (sym c.self.view_is) follows in
     let new : RecordFollowerState = record {
       session = f.session;
       max_message = f.max_message;
@@ -54,8 +54,9 @@ returns-in-Err-clause-gained g c = λ writer bytes told writes follows.
       closed = f.records.closed;
       news = c.clear-in-Err.new.self.messages;
     } in
-    follows_still history g.F.GrowingFile.moment synced writer bytes writes told _ (follower_of c.read_durable.new.file new) c.read_durable.ensures.passes
-    refl refl refl refl (ap (λ (l : Listed). l.messages) c.clear-in-Err.ensures) has
+    follows_still history g.F.GrowingFile.moment synced writer bytes writes told _
+    (follower_of c.read_durable.new.file new) c.read_durable.ensures.passes refl refl refl refl
+    (ap (λ (l : Listed). l.messages) c.clear-in-Err.ensures) has
 
 pub returns-in-Err-clause-accepted : goal.returns-in-Err-clause-accepted
 returns-in-Err-clause-accepted g c = λ writer bytes told writes each follows.
@@ -63,9 +64,9 @@ returns-in-Err-clause-accepted g c = λ writer bytes told writes each follows.
     let moment = g.F.GrowingFile.moment in
     let synced = g.F.GrowingFile.synced in
     let f = c.self.inside in
-    let has = subst (λ (s : RecordFollowerState). Follows history synced writer bytes (follower_of c.args.file.now s) told)
-    (sym c.self.view_is) follows in
+    let has = subst (λ (s : RecordFollowerState).
+    Follows history synced writer bytes (follower_of c.args.file.now s) told) (sym c.self.view_is) follows in
     c.in-Err.ensures.accepted writer bytes told has.shown writes
     (subst (λ (s : RecordFollowerState). AllWithin s.max_message writer) (sym c.self.view_is) each)
-    (told_by history moment synced writer bytes writes told _ (g.met.F.GrowingFile.synced_now c.args.file.now) c.if-self.false
-    has)
+    (told_by history moment synced writer bytes writes told _ (g.met.F.GrowingFile.synced_now c.args.file.now)
+    c.if-self.false has)
