@@ -8,7 +8,7 @@ mod file_error;
 mod looked;
 mod serving;
 
-pub use catching_up::catch_up;
+pub use catching_up::{catch_up, index_followed};
 pub use dump_devices::DumpDevices;
 pub use dumping::follow_dump;
 pub use file_error::load_error;

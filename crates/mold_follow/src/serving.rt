@@ -1,37 +1,40 @@
 //! `mold serve --follow`: serves requests from a journal file that another process writes.
 
-ghost use Rattle.std.specs.Prelude.{◌≡◌, ◌≤◌, ◌⊎◌, None, true, false, Bool, List, ℕ, length, take, IfErr, IfNone, IfOk};
-ghost use Rattle.std.specs.Prelude.{IfSome, OnErr, OnOk};
-ghost use Rattle.mold_durable.specs.Follower.{Follows};
-ghost use Rattle.mold_durable.specs.Following.{HasAll, Writer, Writes};
-ghost use Rattle.mold_follow.specs.Serving.{is_ahead, is_looked_up};
+ghost use Rattle.std.specs.Prelude.{◌≡◌, ◌≤◌, ◌+◌, ◌⊎◌, None, true, false, Bool, List, ℕ, length, take, IfErr, IfNone};
+ghost use Rattle.std.specs.Prelude.{IfOk, IfSome, OnErr, OnOk};
+ghost use Rattle.mold_durable.specs.Following.{Writer, Writes};
+ghost use Rattle.mold_follow.specs.Serving.{HasLooked, Serves, ServesAll, ServesMore, is_ahead, is_looked_up};
+ghost use Rattle.mold_follow.specs.Serving.{journal_of};
+ghost use Rattle.mold_indexed_file.specs.Growing.{WasRead};
+ghost use Rattle.mold_indexed_file.specs.Shown.{Shows};
 ghost use Rattle.mold_ports.specs.Ports.{cut, next_of};
 ghost use Rattle.mold_serve.specs.Answering.{Reaches};
-ghost use Rattle.mold_serve.specs.FileError.{device_fault};
-ghost use Rattle.mold_serve.specs.Serving.{replied, reply, responder_of, serve_turn, service_of};
+ghost use Rattle.mold_serve.specs.FileError.{IsReadOrMemory, device_fault};
+ghost use Rattle.mold_serve.specs.Serving.{MayAnswer, replied, reply, responder_of, serve_turn, service_of};
 ghost use Rattle.mold_serve.specs.Tally.{served_line, with_outgoing};
-ghost use Rattle.mold_session.specs.declared.error.FileError.{FileError};
+ghost use Rattle.mold_session.specs.Journal.{JournalState};
 ghost use Rattle.mold_turns.specs.Outgoing.{with_more};
 ghost use Rattle.mold_turns.specs.Runs.{Begins};
 ghost use Rattle.mold_wire.specs.declared.limits.TheConstants.{MAX_LIMIT};
 
 use crate::catching_up::catch_up;
 use mold_devices::{CommandFault, Sink};
-use mold_durable::{Follower, GrowingFile};
+use mold_durable::{GrowingFile, RecordFollower};
+use mold_indexed_file::IndexedFile;
 use mold_ports::Datagrams;
 use mold_serve::{Asked, Tally, answer_once, end_refused};
-use mold_session::{FileError, Journal, Server};
+use mold_session::{FileError, ServedJournal, Server};
 use mold_text::Word;
-use mold_wire::{MAX_LIMIT, Request};
+use mold_wire::{MAX_LIMIT, Request, Session};
 use std::alloc::{AllocError, Global};
 
 /// A server that follows the file of its journal.
 #[derive(Drop)]
 pub struct FollowingServer<F, D> {
-    /// The follower of the file.
-    pub follower: Follower<F>,
-    /// The messages that the follower returned.
-    pub journal: Journal,
+    /// The file, and the index of the messages that the follower returned.
+    pub indexed: IndexedFile<F>,
+    /// The follower of that file.
+    pub follower: RecordFollower,
     /// The server, which counts the requests that it answers.
     pub server: Server,
     /// The port that requests are received on and responses are sent from.
@@ -40,15 +43,16 @@ pub struct FollowingServer<F, D> {
     pub tally: Tally,
 }
 
-// Whether the bytes are a request that is refused because the journal does not have its first message yet.
-fn is_ahead(journal: &Journal, bytes: &[u8]) -> bool
-    ensures { result ≡ is_ahead journal.now bytes.now }
+// Whether the bytes are a request that is refused because a journal of this session, whose next message has number
+// `next`, does not have its first message yet.
+fn is_ahead(session: Session, next: u64, bytes: &[u8]) -> bool
+    ensures { (journal : JournalState) → journal.session ≡ session → length journal.messages + 1 ≡ next →
+        result ≡ is_ahead journal bytes.now }
 {
-    let next = journal.next();
     let Ok(request) = Request::decode(bytes) else {
         return false;
     };
-    if request.session != journal.session() {
+    if request.session != session {
         return false;
     }
     if request.sequence == 0 {
@@ -62,22 +66,28 @@ fn is_ahead(journal: &Journal, bytes: &[u8]) -> bool
 
 // Reads the new records of the file if the request would be refused as `Ahead`.
 fn look_up<F: GrowingFile>(
-    follower: &mut Follower<F>,
-    journal: &mut Journal,
+    indexed: &mut IndexedFile<F>,
+    follower: &mut RecordFollower,
     request: &[u8],
 ) -> Result<(), FileError>
-    ensures follows { (writer : Writer) (bytes : ℕ → List ℕ) → Writes writer bytes →
-        Follows F.history F.synced writer bytes follower.old journal.old.messages →
-        OnOk result (Follows F.history F.synced writer bytes follower.new journal.new.messages) }
-    ensures all { (writer : Writer) (bytes : ℕ → List ℕ) → Writes writer bytes →
-        Follows F.history F.synced writer bytes follower.old journal.old.messages →
-        is_ahead journal.old request.now ≡ true →
-        OnOk result (HasAll writer journal.new.messages follower.new.closed (F.moment follower.old.file)) }
-    ensures waits { is_ahead journal.old request.now ≡ false → journal.new ≡ journal.old }
-    ensures kept { journal.new ≡ record journal.old { messages = journal.new.messages } }
+    ensures all { (writer : Writer) (bytes : ℕ → List ℕ) (told : List (List ℕ)) → Writes writer bytes →
+        Serves F.history F.moment F.synced writer bytes indexed.old follower.old told →
+        is_ahead (journal_of follower.old told) request.now ≡ true →
+        OnOk result (ServesAll F.history F.moment F.synced writer bytes indexed.new follower.new told
+        (F.moment indexed.old.file)) }
+    ensures waits { (journal : JournalState) → Shows F.history F.moment indexed.old journal →
+        is_ahead journal request.now ≡ false →
+        (indexed.new ≡ indexed.old) × (follower.new ≡ follower.old) }
+    ensures kept { indexed.new ≡ record indexed.old { file = indexed.new.file; index = indexed.new.index } }
+    ensures follower { follower.new ≡ record follower.old {
+      count = follower.new.count;
+      end = follower.new.end;
+      closed = follower.new.closed;
+      news = follower.new.news;
+    } }
 {
-    if is_ahead(journal, request) {
-        return catch_up(follower, journal);
+    if is_ahead(indexed.session(), indexed.next(), request) {
+        return catch_up(indexed, follower);
     }
     Ok(())
 }
@@ -103,21 +113,22 @@ fn push_served(tally: &mut Tally) -> Result<(), AllocError>
 }
 
 impl<F: GrowingFile, D: Datagrams> FollowingServer<F, D> {
-    // Answers a request from the journal, or refuses it, as `serve` does. The journal is in memory, so the only error is
-    // `Memory`.
+    // Answers a request from the indexed file, or refuses it, as `serve` does.
     fn answer(&mut self, from: D::Peer, request: &[u8]) -> Result<(), FileError>
-        requires { self.old.journal.max_message ≤ self.old.server.max_message }
-        ensures replied { D.modeled ≡ true → (fails : List Bool) × Reaches result
-            (responder_of (D.port self.new.port) self.new.tally self.new.server)
-            (replied from fails (reply (service_of self.old.journal self.old.server) request.now)
+        ensures replied { (journal : JournalState) →
+            MayAnswer (Shows F.history F.moment) self.old.indexed self.old.server journal → D.modeled ≡ true →
+            (fails : List Bool) × Reaches result (responder_of (D.port self.new.port) self.new.tally self.new.server)
+            (replied from fails (reply (service_of journal self.old.server) request.now)
             (responder_of (D.port self.old.port) self.old.tally self.old.server)) }
         ensures prints { Begins self.old.tally.outgoing.text self.new.tally.outgoing.text }
+        ensures refused { IfErr result (λ error. (journal : JournalState) →
+            MayAnswer (Shows F.history F.moment) self.old.indexed self.old.server journal → IsReadOrMemory error) }
+        ensures shown { (journal : JournalState) →
+            Shows F.history F.moment self.old.indexed journal → Shows F.history F.moment self.new.indexed journal }
+        ensures read { WasRead F.history F.moment F.synced self.old.indexed self.new.indexed }
         ensures limits { self.new.server ≡ record self.old.server { answered = self.new.server.answered } }
-        ensures journal { self.new.journal ≡ self.old.journal }
         ensures follower { self.new.follower ≡ self.old.follower }
-        ensures memory { IfErr result (λ error. error ≡ FileError.Memory) }
     {
-        let mut journal = &self.journal;
         let asked = Asked {
             from,
             bytes: request,
@@ -125,7 +136,7 @@ impl<F: GrowingFile, D: Datagrams> FollowingServer<F, D> {
         answer_once(
             &mut self.port,
             &mut self.server,
-            &mut journal,
+            &mut self.indexed,
             &mut self.tally,
             asked,
         )
@@ -134,39 +145,48 @@ impl<F: GrowingFile, D: Datagrams> FollowingServer<F, D> {
     /// Makes one turn: receives once, and answers or refuses what was received. Before a request is refused as `Ahead`,
     /// and if nothing was received, it reads the new records of the file. `buffer` has `MAX_LIMIT` bytes.
     ///
-    /// The error is that of a record, or `Read`, `Write` or `Memory` if a read, a sync or an allocation failed. A request
-    /// is then not answered, or only in part if memory ran out.
+    /// The error is that of a record, or `Read`, `Write` or `Memory` if a read, a sync or an allocation failed. If the
+    /// file was damaged after a record was read, it states that fault. A request is then not answered, or only in part.
     pub fn take_turn(&mut self, buffer: &mut [u8]) -> Result<(), FileError>
-        requires longest { self.old.journal.max_message ≤ self.old.server.max_message }
+        requires longest { self.old.follower.max_message ≤ self.old.server.max_message }
         requires buffer { length buffer.old ≡ MAX_LIMIT }
-        ensures turn { D.modeled ≡ true → (fails : List Bool) × Reaches result
+        ensures turn { (writer : Writer) (bytes : ℕ → List ℕ) (told : List (List ℕ)) → Writes writer bytes →
+            Serves F.history F.moment F.synced writer bytes self.old.indexed self.old.follower told →
+            D.modeled ≡ true → (after : List (List ℕ)) × (HasLooked F.history F.moment F.synced writer bytes result
+            (is_looked_up (journal_of self.old.follower told) (cut MAX_LIMIT (next_of (D.port self.old.port))))
+            (F.moment self.old.indexed.file) told self.new.indexed self.new.follower after
+            × ((fails : List Bool) × Reaches result
             (responder_of (D.port self.new.port) self.new.tally self.new.server)
-            (serve_turn (service_of self.new.journal self.old.server) fails
-            (responder_of (D.port self.old.port) self.old.tally self.old.server)) }
-        ensures looks { D.modeled ≡ true → (writer : Writer) (bytes : ℕ → List ℕ) → Writes writer bytes →
-            Follows F.history F.synced writer bytes self.old.follower self.old.journal.messages →
-            is_looked_up self.old.journal (cut MAX_LIMIT (next_of (D.port self.old.port))) ≡ true →
-            OnOk result (HasAll writer self.new.journal.messages self.new.follower.closed
-            (F.moment self.old.follower.file)) }
-        ensures waits { D.modeled ≡ true →
-            is_looked_up self.old.journal (cut MAX_LIMIT (next_of (D.port self.old.port))) ≡ false →
-            self.new.journal ≡ self.old.journal }
-        ensures follows { (writer : Writer) (bytes : ℕ → List ℕ) → Writes writer bytes →
-            Follows F.history F.synced writer bytes self.old.follower self.old.journal.messages →
-            OnOk result (Follows F.history F.synced writer bytes self.new.follower self.new.journal.messages) }
+            (serve_turn (service_of (journal_of self.old.follower after) self.old.server) fails
+            (responder_of (D.port self.old.port) self.old.tally self.old.server)))) }
+        ensures serves { (writer : Writer) (bytes : ℕ → List ℕ) (told : List (List ℕ)) → Writes writer bytes →
+            Serves F.history F.moment F.synced writer bytes self.old.indexed self.old.follower told →
+            OnOk result (ServesMore F.history F.moment F.synced writer bytes self.new.indexed self.new.follower told) }
+        ensures refused { IfErr result (λ error. (writer : Writer) (bytes : ℕ → List ℕ) (told : List (List ℕ)) →
+            Writes writer bytes →
+            Serves F.history F.moment F.synced writer bytes self.old.indexed self.old.follower told →
+            device_fault error ≡ None → self.new.tally.outgoing.text ≡ self.old.tally.outgoing.text) }
         ensures prints { Begins self.old.tally.outgoing.text self.new.tally.outgoing.text }
-        ensures refused { IfErr result (λ error. device_fault error ≡ None →
-            self.new.tally.outgoing.text ≡ self.old.tally.outgoing.text) }
         ensures limits { self.new.server ≡ record self.old.server { answered = self.new.server.answered } }
-        ensures kept { self.new.journal ≡ record self.old.journal { messages = self.new.journal.messages } }
+        ensures kept { self.new.indexed ≡ record self.old.indexed {
+          file = self.new.indexed.file;
+          index = self.new.indexed.index;
+          buffer = self.new.indexed.buffer;
+        } }
+        ensures follower { self.new.follower ≡ record self.old.follower {
+          count = self.new.follower.count;
+          end = self.new.follower.end;
+          closed = self.new.follower.closed;
+          news = self.new.follower.news;
+        } }
     {
         match self.port.receive(buffer) {
             Ok(Some((len, from))) => {
-                look_up(&mut self.follower, &mut self.journal, &buffer[..len])?;
+                look_up(&mut self.indexed, &mut self.follower, &buffer[..len])?;
                 self.answer(from, &buffer[..len])
             }
             Ok(None) => {
-                catch_up(&mut self.follower, &mut self.journal)?;
+                catch_up(&mut self.indexed, &mut self.follower)?;
                 self.tally.quiet = self.tally.quiet.saturating_add(1);
                 Ok(())
             }
@@ -184,15 +204,20 @@ impl<F: GrowingFile, D: Datagrams> FollowingServer<F, D> {
         buffer: &mut [u8],
         sink: &mut K,
     ) -> Result<Option<u8>, CommandFault>
-        requires longest { self.old.journal.max_message ≤ self.old.server.max_message }
+        requires longest { self.old.follower.max_message ≤ self.old.server.max_message }
         requires buffer { length buffer.old ≡ MAX_LIMIT }
-        ensures follows { (writer : Writer) (bytes : ℕ → List ℕ) → Writes writer bytes →
-            Follows F.history F.synced writer bytes self.old.follower self.old.journal.messages →
+        ensures serves { (writer : Writer) (bytes : ℕ → List ℕ) (told : List (List ℕ)) → Writes writer bytes →
+            Serves F.history F.moment F.synced writer bytes self.old.indexed self.old.follower told →
             IfOk result (λ ended. IfNone ended
-            (Follows F.history F.synced writer bytes self.new.follower self.new.journal.messages)) }
+            (ServesMore F.history F.moment F.synced writer bytes self.new.indexed self.new.follower told)) }
         ensures status { IfOk result (λ ended. IfSome ended (λ status. status ≡ 2)) }
         ensures limits { OnOk result (self.new.server ≡ record self.old.server { answered = self.new.server.answered }) }
-        ensures kept { OnOk result (self.new.journal ≡ record self.old.journal { messages = self.new.journal.messages }) }
+        ensures follower { OnOk result (self.new.follower ≡ record self.old.follower {
+          count = self.new.follower.count;
+          end = self.new.follower.end;
+          closed = self.new.follower.closed;
+          news = self.new.follower.news;
+        }) }
     {
         let told = self.tally.outgoing.unwritten();
         if let Err(error) = self.take_turn(buffer) {
@@ -209,12 +234,12 @@ impl<F: GrowingFile, D: Datagrams> FollowingServer<F, D> {
         buffer: &mut [u8],
         sink: &mut K,
     ) -> Result<Option<u8>, CommandFault>
-        requires longest { self.old.journal.max_message ≤ self.old.server.max_message }
+        requires longest { self.old.follower.max_message ≤ self.old.server.max_message }
         requires buffer { length buffer.old ≡ MAX_LIMIT }
-        ensures follows { (writer : Writer) (bytes : ℕ → List ℕ) → Writes writer bytes →
-            Follows F.history F.synced writer bytes self.old.follower self.old.journal.messages →
+        ensures serves { (writer : Writer) (bytes : ℕ → List ℕ) (told : List (List ℕ)) → Writes writer bytes →
+            Serves F.history F.moment F.synced writer bytes self.old.indexed self.old.follower told →
             IfOk result (λ ended. IfNone ended
-            (Follows F.history F.synced writer bytes self.new.follower self.new.journal.messages)) }
+            (ServesMore F.history F.moment F.synced writer bytes self.new.indexed self.new.follower told)) }
         ensures status { IfOk result (λ ended. IfSome ended (λ status. status ≡ 2)) }
     {
         for _turn in 0..turns {
@@ -233,12 +258,12 @@ impl<F: GrowingFile, D: Datagrams> FollowingServer<F, D> {
         buffer: &mut [u8],
         sink: &mut K,
     ) -> Result<u8, CommandFault>
-        requires longest { self.old.journal.max_message ≤ self.old.server.max_message }
+        requires longest { self.old.follower.max_message ≤ self.old.server.max_message }
         requires buffer { length buffer.old ≡ MAX_LIMIT }
-        ensures follows { (writer : Writer) (bytes : ℕ → List ℕ) → Writes writer bytes →
-            Follows F.history F.synced writer bytes self.old.follower self.old.journal.messages →
+        ensures serves { (writer : Writer) (bytes : ℕ → List ℕ) (told : List (List ℕ)) → Writes writer bytes →
+            Serves F.history F.moment F.synced writer bytes self.old.indexed self.old.follower told →
             IfOk result (λ status. status ≡ 0 →
-            Follows F.history F.synced writer bytes self.new.follower self.new.journal.messages) }
+            ServesMore F.history F.moment F.synced writer bytes self.new.indexed self.new.follower told) }
         ensures status { IfOk result (λ status. (status ≡ 0) ⊎ (status ≡ 2)) }
     {
         match self.take_turns(turns, buffer, sink)? {
@@ -262,20 +287,21 @@ impl<F: GrowingFile, D: Datagrams> FollowingServer<F, D> {
 /// each. It does what `serve_loop` does, but reads the new records of the file before a request is refused as `Ahead`,
 /// and after each receive that gave nothing.
 ///
-/// The journal has the messages that the follower returned, and its maximum message length must not exceed the
-/// server's. After all turns the status is 0. At a record that is refused, its line is written after the text of the
-/// turns before, and the status is 2. If a read of the file, its sync or an allocation failed, that is the fault.
+/// The index has the messages that the follower returned, and the follower's maximum message length must not exceed the
+/// server's. After all turns the status is 0. At a record that is refused, and if the file was damaged, its line is
+/// written after the text of the turns before, and the status is 2. If a read of the file, its sync or an allocation
+/// failed, that is the fault.
 pub fn follow_serve<F: GrowingFile, D: Datagrams, K: Sink>(
     alloc: Global,
     server: &mut FollowingServer<F, D>,
     turns: u64,
     sink: &mut K,
 ) -> Result<u8, CommandFault>
-    requires { server.old.journal.max_message ≤ server.old.server.max_message }
-    ensures follows { (writer : Writer) (bytes : ℕ → List ℕ) → Writes writer bytes →
-        Follows F.history F.synced writer bytes server.old.follower server.old.journal.messages →
+    requires { server.old.follower.max_message ≤ server.old.server.max_message }
+    ensures serves { (writer : Writer) (bytes : ℕ → List ℕ) (told : List (List ℕ)) → Writes writer bytes →
+        Serves F.history F.moment F.synced writer bytes server.old.indexed server.old.follower told →
         IfOk result (λ status. status ≡ 0 →
-        Follows F.history F.synced writer bytes server.new.follower server.new.journal.messages) }
+        ServesMore F.history F.moment F.synced writer bytes server.new.indexed server.new.follower told) }
     ensures status { IfOk result (λ status. (status ≡ 0) ⊎ (status ≡ 2)) }
 {
     let mut buffer = vec![in alloc; 0; MAX_LIMIT]?;

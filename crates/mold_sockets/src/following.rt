@@ -8,14 +8,15 @@ ghost use Rattle.std.specs.Prelude.{◌≡◌, ◌≤◌, ◌-◌, IfOk, IfSome}
 use crate::options::serve_turns;
 use crate::streams::{standard_output, tell_refused};
 use mold_devices::{CommandFault, IntoWrite};
-use mold_durable::{FollowedFile, Follower, OpenError};
+use mold_durable::{FollowedFile, Follower, OpenError, RecordFollower};
 use mold_follow::{
-    DumpDevices, FollowingServer, catch_up, device_fault, follow_dump, follow_serve,
+    DumpDevices, FollowingServer, catch_up, device_fault, follow_dump, follow_serve, index_followed,
 };
+use mold_indexed_file::IndexedFile;
 use mold_port_set::UdpPortSet;
 use mold_ports::UdpPort;
 use mold_serve::Tally;
-use mold_session::{FileError, Journal, Server};
+use mold_session::{FileError, Server};
 use mold_show::DumpOptions;
 use mold_wire::MAX_MESSAGE;
 use mold_wiring::{ProgramFault, flushed, longest_message, make_server, open_port};
@@ -71,10 +72,11 @@ pub(crate) fn serve_followed(
 ) -> Result<u8, ProgramFault>
     requires { follower.max_message ≡ order.now.limit - MESSAGE_OVERHEAD }
 {
-    let mut follower = follower;
-    let mut journal = Journal::new(rt.alloc(), follower.session(), follower.max_message());
-    match catch_up(&mut follower, &mut journal) {
-        Ok(()) => serve_journal(rt, order, follower, journal),
+    let Ok((mut indexed, mut records)) = index_followed(rt.alloc(), follower) else {
+        return Err(ProgramFault::Command(CommandFault::Memory));
+    };
+    match catch_up(&mut indexed, &mut records) {
+        Ok(()) => serve_indexed(rt, order, indexed, records),
         Err(error) => Ok(end_unserved(rt, error)?),
     }
 }
@@ -98,19 +100,19 @@ fn open_server(rt: &HostRuntime, order: &ServeOrder) -> Result<ServerPort, Progr
     }
 }
 
-// Serves the journal of the follower, which has its messages.
-fn serve_journal(
+// Serves the messages of the file that the follower returned.
+fn serve_indexed(
     rt: &HostRuntime,
     order: &ServeOrder,
-    follower: Follower<FollowedFile>,
-    journal: Journal,
+    indexed: IndexedFile<FollowedFile>,
+    follower: RecordFollower,
 ) -> Result<u8, ProgramFault>
-    requires { journal.max_message ≡ order.now.limit - MESSAGE_OVERHEAD }
+    requires { follower.max_message ≡ order.now.limit - MESSAGE_OVERHEAD }
 {
     let ServerPort { server, port } = open_server(rt, order)?;
     let mut serving = FollowingServer {
+        indexed,
         follower,
-        journal,
         server,
         port,
         tally: Tally::new(rt.alloc()),
@@ -125,7 +127,7 @@ fn serve_over(
     serving: &mut FollowingServer<FollowedFile, UdpPort>,
 ) -> Result<u8, ProgramFault>
     requires bound { IsSocketOf order.now.bind serving.old.port.bound }
-    requires longest { serving.old.journal.max_message ≤ serving.old.server.max_message }
+    requires longest { serving.old.follower.max_message ≤ serving.old.server.max_message }
 {
     let mut sink = standard_output(rt, order.live);
     let outcome = follow_serve(rt.alloc(), serving, serve_turns(order), &mut sink);
