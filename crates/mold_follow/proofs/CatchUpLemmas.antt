@@ -3,10 +3,15 @@ use Rattle.std.proofs.Common.{◌≡◌, ◌≤◌, ℕ, List, [], ◌∷◌, �
 use Rattle.std.proofs.Common.{subst, sym, ◌∙◌, append_assoc, append-nil}
 use Rattle.mold_durable.specs.Follower.{Follows, RecordFollowerState, follower_of}
 use Rattle.mold_durable.specs.Following.{HasAll, Writer, Writes}
-use Rattle.mold_follow.specs.Serving.{Serves, ServesMore, journal_of, with_messages}
+use Rattle.mold_durable.specs.DurableJournal.{CountsOpenError}
+use Rattle.mold_durable.specs.Reading.{file_error}
+use Rattle.mold_durable.specs.declared.error.OpenError.{OpenError}
+use Rattle.mold_durable.specs.declared.error.OpenError.TheVariants as opening
+use Rattle.mold_follow.specs.Serving.{CountsFileError, Serves, ServesMore, journal_of, with_messages}
 use Rattle.mold_indexed_file.specs.Shown.{HasSince, IndexedState, IsInFile, Shows}
 use Rattle.mold_session.specs.Contents.{IsFront}
 use Rattle.mold_session.specs.Journal.{JournalState}
+use Rattle.mold_session.specs.declared.error.FileError.{FileError}
 use Rattle.mold_session.specs.declared.file_version.FileVersion.{FileVersion}
 use Rattle.mold_session.specs.declared.file_version.FileVersion.TheVariants.{Three}
 
@@ -31,6 +36,25 @@ has_all_earlier {writer} {bytes} {messages} {closed} writes earlier later before
   front = front_twice (writes.grows earlier later before) all.front;
   end = λ was. all.end (writes.ends earlier later before was).0;
 }
+
+-- ---- failures
+
+-- The error of a follower is that of a file.
+counts_error : (error : OpenError) (old new : ℕ) → CountsOpenError old new error →
+    CountsFileError old new (file_error error)
+counts_error opening.Read old new counts = counts
+counts_error opening.Write old new counts = counts
+counts_error opening.Memory old new counts = counts
+counts_error (opening.Short len) old new counts = counts
+counts_error opening.BadMagic old new counts = counts
+counts_error opening.Full old new counts = counts
+counts_error (opening.TooLong len) old new counts = counts
+counts_error (opening.Damaged number) old new counts = counts
+
+pub counts_poll : (error : OpenError) (met : FileError) (first old new : ℕ) → met ≡ file_error error → old ≡ first →
+    CountsOpenError old new error → CountsFileError first new met
+counts_poll error met first old new is same counts =
+    rw is (counts_error error first new (subst (λ (n : ℕ). CountsOpenError n new error) same counts))
 
 -- ---- the journal in the file
 

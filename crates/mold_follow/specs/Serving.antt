@@ -1,5 +1,6 @@
 -- What a server that follows a file has of it, and when it reads new records.
-use Rattle.std.specs.Prelude.{◌≡◌, ℕ, Bool, true, false, List, Result, Err, OnOk}
+use Rattle.std.specs.Prelude.{◌≡◌, ℕ, Bool, true, false, List, Result, Ok, Err, OnOk}
+use Rattle.mold_devices.specs.Devices.{one_more}
 use Rattle.mold_durable.specs.Follower.{Follows, RecordFollowerState, follower_of}
 use Rattle.mold_durable.specs.Following.{HasAll, Writer}
 use Rattle.mold_indexed_file.specs.Shown.{IndexedState, Shows}
@@ -10,6 +11,7 @@ use Rattle.mold_session.specs.Server.{checked_request}
 use Rattle.mold_session.specs.declared.error.AnswerError.{AnswerError}
 use Rattle.mold_session.specs.declared.error.AnswerError.TheVariants.{Ahead}
 use Rattle.mold_session.specs.declared.error.FileError.{FileError}
+use Rattle.mold_session.specs.declared.error.FileError.TheVariants.{Read, Write}
 use Rattle.mold_session.specs.declared.file_version.FileVersion.TheVariants.{Three}
 use Rattle.mold_wire.specs.declared.request.Request.{Request}
 
@@ -72,6 +74,22 @@ is_looked_up journal Quiet = true
 is_looked_up journal Failure = false
 
 -- ---- a turn
+
+-- How an error of a call that reads and syncs a file changes the count of the file's failures.
+abbrev pub CountsFileError : ℕ → ℕ → FileError → Type 0
+CountsFileError old new Read = new ≡ one_more old
+CountsFileError old new Write = new ≡ one_more old
+CountsFileError old new error = new ≡ old
+
+-- How the result of such a call changes it.
+abbrev pub CountsFile : {T : Type 0} → ℕ → ℕ → Result T FileError → Type 0
+CountsFile old new (Ok done) = new ≡ old
+CountsFile old new (Err error) = CountsFileError old new error
+
+-- How the result of a turn changes it: it stays the same, and `Read` means that a read failed.
+abbrev pub CountsTurn : {T : Type 0} → ℕ → ℕ → Result T FileError → Type 0
+CountsTurn old new (Ok done) = new ≡ old
+CountsTurn old new (Err error) = error ≡ Read → new ≡ one_more old
 
 -- The messages that a server has after a turn, `told`, begin with those that it had before. If the turn read new
 -- records, they are all that the journal had at moment `start`; otherwise they are the same.

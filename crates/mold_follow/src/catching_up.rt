@@ -4,7 +4,7 @@ ghost use Rattle.std.specs.Prelude.{◌≡◌, ◌+◌, ◌<◌, ◌^◌, ◌++�
 ghost use Rattle.mold_session.specs.Journal.{JournalState, appended};
 ghost use Rattle.mold_durable.specs.Follower.{Follows, follower_of};
 ghost use Rattle.mold_durable.specs.Following.{Writer, Writes};
-ghost use Rattle.mold_follow.specs.Serving.{Serves, ServesAll, with_messages};
+ghost use Rattle.mold_follow.specs.Serving.{CountsFile, Serves, ServesAll, with_messages};
 ghost use Rattle.mold_index.specs.Index.{IsIndex};
 ghost use Rattle.mold_indexed_file.specs.Shown.{IsInFile, Shows};
 
@@ -48,6 +48,7 @@ fn push_message<F: GrowingFile>(indexed: &mut IndexedFile<F>, len: usize) -> Res
     ensures counted { OnOk result (indexed.new.index.count ≡ indexed.old.index.count + 1) }
     ensures index { OnOk result (IsIndex indexed.old.index) }
     ensures kept { indexed.new ≡ record indexed.old { index = indexed.new.index } }
+    ensures failures { CountsFile (F.failed indexed.old.file) (F.failed indexed.new.file) result }
 {
     if len > usize::from(indexed.max_message()) {
         return Err(FileError::TooLong { len });
@@ -72,6 +73,7 @@ fn push_news<F: GrowingFile>(
     ensures counted { OnOk result (indexed.new.index.count ≡ indexed.old.index.count + length news.now.messages) }
     ensures few { OnOk result (0 < length news.now.messages → indexed.old.index.count < 2 ^ 64) }
     ensures kept { indexed.new ≡ record indexed.old { index = indexed.new.index } }
+    ensures failures { CountsFile (F.failed indexed.old.file) (F.failed indexed.new.file) result }
 {
     prefix_law();
     for message in news.iter() {
@@ -94,6 +96,7 @@ pub fn catch_up<F: GrowingFile>(
         OnOk result (ServesAll F.history F.moment F.synced writer bytes indexed.new follower.new told
         (F.moment indexed.old.file)) }
     ensures kept { indexed.new ≡ record indexed.old { file = indexed.new.file; index = indexed.new.index } }
+    ensures failures { CountsFile (F.failed indexed.old.file) (F.failed indexed.new.file) result }
     ensures follower { follower.new ≡ record follower.old {
       count = follower.new.count;
       end = follower.new.end;

@@ -3,8 +3,8 @@
 ghost use Rattle.std.specs.Prelude.{◌≡◌, ◌≤◌, ◌+◌, ◌⊎◌, None, true, false, Bool, List, ℕ, length, take, IfErr, IfNone};
 ghost use Rattle.std.specs.Prelude.{IfOk, IfSome, OnErr, OnOk};
 ghost use Rattle.mold_durable.specs.Following.{Writer, Writes};
-ghost use Rattle.mold_follow.specs.Serving.{HasLooked, Serves, ServesAll, ServesMore, is_ahead, is_looked_up};
-ghost use Rattle.mold_follow.specs.Serving.{journal_of};
+ghost use Rattle.mold_follow.specs.Serving.{CountsFile, CountsTurn, HasLooked, Serves, ServesAll};
+ghost use Rattle.mold_follow.specs.Serving.{ServesMore, is_ahead, is_looked_up, journal_of};
 ghost use Rattle.mold_indexed_file.specs.Growing.{WasRead};
 ghost use Rattle.mold_indexed_file.specs.Shown.{Shows};
 ghost use Rattle.mold_ports.specs.Ports.{cut, next_of};
@@ -13,6 +13,7 @@ ghost use Rattle.mold_serve.specs.FileError.{IsReadOrMemory, device_fault};
 ghost use Rattle.mold_serve.specs.Serving.{MayAnswer, replied, reply, responder_of, serve_turn, service_of};
 ghost use Rattle.mold_serve.specs.Tally.{served_line, with_outgoing};
 ghost use Rattle.mold_session.specs.Journal.{JournalState};
+ghost use Rattle.mold_session.specs.Loading.{CountsLoad};
 ghost use Rattle.mold_turns.specs.Outgoing.{with_more};
 ghost use Rattle.mold_turns.specs.Runs.{Begins};
 ghost use Rattle.mold_wire.specs.declared.limits.TheConstants.{MAX_LIMIT};
@@ -79,6 +80,7 @@ fn look_up<F: GrowingFile>(
         is_ahead journal request.now ≡ false →
         (indexed.new ≡ indexed.old) × (follower.new ≡ follower.old) }
     ensures kept { indexed.new ≡ record indexed.old { file = indexed.new.file; index = indexed.new.index } }
+    ensures failures { CountsFile (F.failed indexed.old.file) (F.failed indexed.new.file) result }
     ensures follower { follower.new ≡ record follower.old {
       count = follower.new.count;
       end = follower.new.end;
@@ -126,6 +128,7 @@ impl<F: GrowingFile, D: Datagrams> FollowingServer<F, D> {
         ensures shown { (journal : JournalState) →
             Shows F.history F.moment self.old.indexed journal → Shows F.history F.moment self.new.indexed journal }
         ensures read { WasRead F.history F.moment F.synced self.old.indexed self.new.indexed }
+        ensures failures { CountsLoad (F.failed self.old.indexed.file) (F.failed self.new.indexed.file) result }
         ensures limits { self.new.server ≡ record self.old.server { answered = self.new.server.answered } }
         ensures follower { self.new.follower ≡ self.old.follower }
     {
@@ -166,6 +169,7 @@ impl<F: GrowingFile, D: Datagrams> FollowingServer<F, D> {
             Writes writer bytes →
             Serves F.history F.moment F.synced writer bytes self.old.indexed self.old.follower told →
             device_fault error ≡ None → self.new.tally.outgoing.text ≡ self.old.tally.outgoing.text) }
+        ensures failures { CountsTurn (F.failed self.old.indexed.file) (F.failed self.new.indexed.file) result }
         ensures prints { Begins self.old.tally.outgoing.text self.new.tally.outgoing.text }
         ensures limits { self.new.server ≡ record self.old.server { answered = self.new.server.answered } }
         ensures kept { self.new.indexed ≡ record self.old.indexed {

@@ -3,7 +3,7 @@ use Rattle.mold_durable.specs.Follower.{RecordFollowerState}
 use Rattle.mold_durable.specs.Following.{Writer, Writes}
 use Rattle.mold_indexed_file.specs.Shown.{IndexedState}
 use Rattle.mold_follow.specs.Serving.{Serves}
-use Rattle.mold_follow.proofs.CatchUpLemmas.{front_twice, has_all_earlier, serves_longer, serves_news}
+use Rattle.mold_follow.proofs.CatchUpLemmas.{counts_poll, front_twice, has_all_earlier, serves_longer, serves_news}
 use Rattle.mold_follow.proofs.catching_up.catch_up.Given.{Over}
 use Rattle.mold_follow.proofs.catching_up.catch_up.Goals.{In_ok-push_news}
 use Rattle.mold_follow.proofs.catching_up.catch_up.Goals as goal
@@ -45,6 +45,8 @@ looks-preserved g c =
           serves_longer g.F.GrowingFile.history g.F.GrowingFile.moment g.F.GrowingFile.synced writer bytes
           c.push_news.new.indexed c.poll.new.follower told was.told c.poll.new.follower.news was.longer
           (looked g (goal.at.looks-preserved g c).In_ok-push_news writer bytes was.told writes was.serves);
+      failures = ap (λ (s : IndexedState g.row.F.Denot). g.F.GrowingFile.failed s.file) pushed
+          ∙ (c.in-Ok.ensures.cause ∙ c.looks.invariant.failures);
       later = omega (
         arith,
         c.looks.invariant.later,
@@ -64,3 +66,13 @@ looks-preserved g c =
             news = c.poll.new.follower.news;
           }) c.looks.invariant.follower;
     }
+
+pub returns-in-Err-clause-failures : goal.returns-in-Err-clause-failures
+returns-in-Err-clause-failures g c =
+    counts_poll c.in-Err.error c.load_error.result _ _ _ c.load_error.ensures c.looks.invariant.failures
+    c.in-Err.ensures.cause
+
+pub returns-then-not-more-clause-failures : goal.returns-then-not-more-clause-failures
+returns-then-not-more-clause-failures g c =
+    ap (λ (s : IndexedState g.row.F.Denot). g.F.GrowingFile.failed s.file) c.in_ok-push_news.ensures.kept
+    ∙ (c.in-Ok.ensures.cause ∙ c.looks.invariant.failures)

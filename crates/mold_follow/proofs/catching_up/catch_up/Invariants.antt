@@ -12,6 +12,7 @@ invariant-looks g l = record {
       l.fn.follower told →
       ServesMore g.F.GrowingFile.history g.F.GrowingFile.moment g.F.GrowingFile.synced writer bytes l.indexed l.follower
       told;
+  failures : g.F.GrowingFile.failed l.indexed.file ≡ g.F.GrowingFile.failed l.fn.indexed.file;
   later : g.F.GrowingFile.moment l.fn.indexed.file ≤ g.F.GrowingFile.moment l.indexed.file;
   kept : l.indexed ≡ record l.fn.indexed { file = l.indexed.file; index = l.indexed.index };
   follower : l.follower ≡ record l.fn.follower {
