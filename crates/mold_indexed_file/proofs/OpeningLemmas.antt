@@ -1,17 +1,17 @@
 -- What is read of a file that is opened, and with which error it is refused.
 use Rattle.std.proofs.Common.{◌≡◌, inl, inr, ℕ, ◌+◌, ◌-◌, ◌<◌, ◌≤◌, Bool, List, [], ◌∷◌}
 use Rattle.std.proofs.Common.{◌++◌, length, length-append, take, Option, None, Some, refl, sym, ap, subst, ◌∙◌}
-use Rattle.std.proofs.Common.{arith}
+use Rattle.std.proofs.Common.{append-nil, append_assoc, arith, drop}
 use Rattle.std.proofs.KnownBytes.{Consumes-nil}
-use Rattle.std.proofs.lemmas.List.{length-map, map-append, take_all}
+use Rattle.std.proofs.lemmas.List.{length-map, map-append, take-append-drop, take_all, take_at}
 use Rattle.std.specs.Prelude.{IfSome}
-use Rattle.std.specs.List.{AllByRecursion}
-use Rattle.mold_wire.specs.Block.{be16}
+use Rattle.std.specs.List.{AllByRecursion, sum_by}
+use Rattle.std.specs.Io.KnownBytes.{prepend_known}
 use Rattle.mold_session.specs.FileFault.{JournalFault}
 use Rattle.mold_session.specs.Journal.{IsWithin}
-use Rattle.mold_session.specs.Loading.{head_spelling, message_spelling, messages_spelling, stated_count}
+use Rattle.mold_session.specs.Loading.{head_spelling, messages_spelling, stated_count}
 use Rattle.mold_session.specs.Loading.{Refuses}
-use Rattle.mold_session.specs.Reader.{EndsFile, EndsWith, HasRead, ReaderState, ReadsNext, RestFault}
+use Rattle.mold_session.specs.Reader.{EndsFile, EndsWith, HasRead, PassesMessages, ReaderState, ReadsNext, RestFault}
 use Rattle.mold_session.specs.declared.error.FileError.{FileError}
 use Rattle.mold_session.specs.declared.error.FileError.TheVariants.{TooLong, Memory, BadMagic, Short, BlockCut, Read}
 use Rattle.mold_session.specs.declared.error.FileError.TheVariants.{Write, Full, CountDiffers, BadFlag, Damaged}
@@ -19,13 +19,14 @@ use Rattle.mold_session.specs.declared.file_version.FileVersion.{FileVersion}
 use Rattle.mold_session.specs.declared.file_version.FileVersion.TheVariants.{One, Two, Three}
 use Rattle.mold_session.specs.declared.loading.FileHead.{FileHead}
 use Rattle.mold_session.proofs.HeadLemmas.{refused_behind}
-use Rattle.mold_session.proofs.ReaderLemmas.{read_file, read_more, read_refused_within}
+use Rattle.mold_session.proofs.ReaderLemmas.{read_blocks, read_file, read_more, read_refused_within}
 use Rattle.mold_index.proofs.LayoutLemmas.{length-before}
+use Rattle.mold_index.proofs.OffsetLemmas.{end-push, offset_last}
 use Rattle.mold_index.proofs.PushLemmas.{indexes_none}
 use Rattle.mold_index.specs.Index.{IndexState, Indexes, fresh_index, offset_of}
 use Rattle.mold_index.specs.Layouts.{layout_of, lengths_of}
 use Rattle.mold_index.specs.declared.layout.Layout.{Layout}
-use Rattle.mold_indexed_file.specs.Opened.{AddFault, IsIndexOf, OpenFault}
+use Rattle.mold_indexed_file.specs.Opened.{AddFault, IndexFault, IsIndexOf, OpenFault}
 
 -- ---- faults
 
@@ -80,6 +81,28 @@ reading_more most known left after reader next index new reading more within sam
       (sym (map-append (λ (m : List ℕ). length m) reading.messages (next.message ∷ []))) indexes;
 }
 
+each_all : (most : ℕ) (messages more : List (List ℕ)) → AllByRecursion (IsWithin most) messages →
+    AllByRecursion (IsWithin most) more → AllByRecursion (IsWithin most) (messages ++ more)
+each_all most [] more each all = all
+each_all most (first ∷ messages) more each all = (each.0, each_all most messages more each.1 all)
+
+-- Messages were passed.
+pub reading_passed : (most : ℕ) (known left : Option (List ℕ)) (reader next : ReaderState) (index new : IndexState)
+    (lengths : List ℕ) → (reading : Reading most known (prepend_known reader.rest left) reader index) →
+    PassesMessages most reader next [] lengths → new.layout ≡ index.layout →
+    Indexes new (lengths_of reading.messages ++ lengths) → Reading most known (prepend_known next.rest left) next new
+reading_passed most known left reader next index new lengths reading passed same indexes = record {
+  messages = reading.messages ++ passed.messages;
+  read = read_blocks known left reader next (length passed.messages) reading.messages passed.messages reading.read
+      passed.passes;
+  each = each_all most reading.messages passed.messages reading.each passed.within;
+  layout = same ∙ reading.layout ∙ ap (λ (h : FileHead). layout_of h.version) (sym passed.passes.same);
+  indexes = subst (Indexes new)
+      (ap (λ (t : List ℕ). lengths_of reading.messages ++ t) passed.appended
+      ∙ sym (map-append (λ (m : List ℕ). length m) reading.messages passed.messages))
+      indexes;
+}
+
 -- ---- the end
 
 ended_stated : (version : FileVersion) (read : ℕ) (said closed : Bool) (rest : List ℕ) →
@@ -122,75 +145,148 @@ reading_refused most known left reader index error reading refused =
     fault_opens most known error
     (read_refused_within most known left reader reading.messages error reading.read reading.each refused)
 
-length_spelled : (version : FileVersion) (message : List ℕ) →
-    length (message_spelling version message) ≡ (layout_of version).overhead + length message
-length_spelled One message = length-append (be16 (length message)) message
-length_spelled (Two count) message = length-append (be16 (length message)) message
-length_spelled Three message = omega (arith, length-append (be16 (length message)) message)
+-- ---- limits
 
-module _ (most : ℕ) (xs ys zs : List ℕ) (reader next : ReaderState) (index : IndexState)
-    (reading : Reading most (Some xs) (Some ys) reader index) (more : ReadsNext (Some ys) (Some zs) reader next) where
-  abbrev all : List ℕ
-  all = messages_spelling reader.head.version reading.messages
+-- A message is not added to an index. The file, which may have more messages, is beyond that limit.
+pub full_more : (index : IndexState) (lengths rest : List ℕ) (len : ℕ) (error : FileError) → Indexes index lengths →
+    AddFault index len error → IndexFault index.layout ((lengths ++ len ∷ []) ++ rest) error
+full_more index lengths rest len Full indexes (inl full) =
+    inl (omega (
+      arith,
+      full,
+      indexes.counted,
+      length-append (lengths ++ len ∷ []) rest,
+      length-append lengths (len ∷ []),
+    ))
+full_more index lengths rest len Full indexes (inr far) =
+    let layout = index.layout in
+    let some : List ℕ = lengths ++ len ∷ [] in
+    let all : List ℕ = some ++ rest in
+    let count = length some + 1 - 1 in
+    let same : offset_of layout all (length some + 1) ≡ offset_of layout some (length some + 1) =
+    ap (λ (t : List ℕ). layout.start + sum_by (λ l. layout.overhead + l) t)
+    (take_at some rest count (omega arith) ∙ sym (take_all count some (omega arith)))
+    in
+    inr (omega (
+      arith,
+      far,
+      indexes.ends,
+      end-push layout lengths len,
+      same,
+      offset_last layout all (length some + 1),
+    ))
+full_more index lengths rest len Memory indexes fault = tt
+full_more index lengths rest len Read indexes fault = fault
+full_more index lengths rest len Write indexes fault = fault
+full_more index lengths rest len BadMagic indexes fault = fault
+full_more index lengths rest len (Short n) indexes fault = fault
+full_more index lengths rest len (BadFlag byte) indexes fault = fault
+full_more index lengths rest len (TooLong n) indexes fault = fault
+full_more index lengths rest len (BlockCut number) indexes fault = fault
+full_more index lengths rest len (CountDiffers count found) indexes fault = fault
+full_more index lengths rest len (Damaged number) indexes fault = fault
 
-  few : length reading.messages < 18446744073709551614
-  few = omega (arith, more.few, reading.read.counted)
+-- The messages at index `i` and after it are not added.
+pub full_at : (index : IndexState) (before lengths : List ℕ) (i len : ℕ) (error : FileError) →
+    Indexes index (before ++ take i lengths) → take (i + 1) lengths ≡ take i lengths ++ len ∷ [] →
+    AddFault index len error → IndexFault index.layout (before ++ lengths) error
+full_at index before lengths i len error indexes next fault =
+    let some = take i lengths in
+    let rest = drop (i + 1) lengths in
+    let all : ((before ++ some) ++ len ∷ []) ++ rest ≡ before ++ lengths =
+    ap (λ (t : List ℕ). t ++ rest) (append_assoc before some (len ∷ []))
+    ∙ append_assoc before (some ++ len ∷ []) rest
+    ∙ ap (λ (t : List ℕ). before ++ t)
+    (ap (λ (t : List ℕ). t ++ rest) (sym next) ∙ take-append-drop (i + 1) lengths)
+    in
+    subst (λ (t : List ℕ). IndexFault index.layout t error) all
+    (full_more index (before ++ some) rest len error indexes fault)
 
-  -- The file has all bytes up to the end of the message.
-  pub past_end : 9223372036854775807 < index.end + (index.layout.overhead + length next.message) →
-      9223372036854775807 < length xs
-  past_end above =
-      let version = reader.head.version in
-      let messages = reading.messages in
-      let head = head_spelling reader.head.session.0 reader.head.closed version in
-      let last = length (lengths_of messages) + 1 in
-      let whole : take (last - 1) messages ≡ messages =
-      take_all (last - 1) messages (omega (arith, length-map messages (λ (m : List ℕ). length m))) in
-      let before : length (head ++ all) ≡ index.end =
-      sym (ap (λ (t : List (List ℕ)). length (head ++ messages_spelling version t)) whole)
-      ∙ length-before reader.head.session.0 reader.head.closed version messages last reading.read.named
-      ∙ sym (subst (λ (l : Layout). index.end ≡ offset_of l (lengths_of messages) last)
-      reading.layout reading.indexes.ends) in
-      omega (
-        arith,
-        above,
-        before,
-        ap (λ (t : List ℕ). length t) reading.read.consumed,
-        length-append (head ++ all) ys,
-        ap (λ (t : List ℕ). length t) more.consumed,
-        length-append (message_spelling version next.message) zs,
-        length_spelled version next.message,
-        ap (λ (l : Layout). l.overhead) reading.layout,
-      )
+-- The messages were read, so they are not too many for an index.
+not_many : (known left : Option (List ℕ)) (reader : ReaderState) (messages : List (List ℕ)) →
+    HasRead known left reader messages → 18446744073709551614 < length (lengths_of messages) → ⊥
+not_many known left reader messages read many =
+    absurd (omega (arith, many, read.listed.few, length-map messages (λ (m : List ℕ). length m)))
 
-  pub not_full : index.count ≡ 18446744073709551614 → ⊥
-  not_full full =
-      absurd (omega (
-        arith,
-        full,
-        few,
-        reading.indexes.counted,
-        length-map reading.messages (λ (m : List ℕ). length m),
-      ))
+-- The file has all bytes up to the end of the messages.
+above_end : (xs ys : List ℕ) (reader : ReaderState) (messages : List (List ℕ)) →
+    HasRead (Some xs) (Some ys) reader messages →
+    9223372036854775807
+    < offset_of (layout_of reader.head.version) (lengths_of messages) (length (lengths_of messages) + 1) →
+    9223372036854775807 < length xs
+above_end xs ys reader messages read above =
+    let version = reader.head.version in
+    let head = head_spelling reader.head.session.0 reader.head.closed version in
+    let last = length (lengths_of messages) + 1 in
+    let whole : take (last - 1) messages ≡ messages =
+    take_all (last - 1) messages (omega (arith, length-map messages (λ (m : List ℕ). length m))) in
+    omega (
+      arith,
+      above,
+      length-before reader.head.session.0 reader.head.closed version messages last read.named,
+      ap (λ (t : List (List ℕ)). length (head ++ messages_spelling version t)) whole,
+      ap (λ (t : List ℕ). length t) read.consumed,
+      length-append (head ++ messages_spelling version messages) ys,
+    )
+
+-- The messages were read, but have no index.
+full_refused : (most : ℕ) (known left : Option (List ℕ)) (reader : ReaderState) (messages : List (List ℕ))
+    (error : FileError) → HasRead known left reader messages →
+    IndexFault (layout_of reader.head.version) (lengths_of messages) error → Refuses (OpenFault most) known error
+full_refused most None left reader messages Full read fault = tt
+full_refused most (Some xs) None reader messages Full read fault = absurd read.consumed
+full_refused most (Some xs) (Some ys) reader messages Full read (inl many) =
+    absurd (not_many (Some xs) (Some ys) reader messages read many)
+full_refused most (Some xs) (Some ys) reader messages Full read (inr above) =
+    inr (refl, above_end xs ys reader messages read above)
+full_refused most known left reader messages Memory read fault = tt
+full_refused most known left reader messages Read read fault = tt
+full_refused most known left reader messages Write read fault = fault
+full_refused most known left reader messages BadMagic read fault = absurd fault
+full_refused most known left reader messages (Short len) read fault = absurd fault
+full_refused most known left reader messages (BadFlag byte) read fault = absurd fault
+full_refused most known left reader messages (TooLong len) read fault = absurd fault
+full_refused most known left reader messages (BlockCut number) read fault = absurd fault
+full_refused most known left reader messages (CountDiffers count found) read fault = absurd fault
+full_refused most known left reader messages (Damaged number) read fault = absurd fault
 
 -- A message that was read is refused.
 pub adding_refused : (most : ℕ) (known left after : Option (List ℕ)) (reader next : ReaderState) (index : IndexState)
     (error : FileError) → Reading most known left reader index → ReadsNext left after reader next →
     AddFault index (length next.message) error → Refuses (OpenFault most) known error
-adding_refused most known left after reader next index Memory reading more fault = tt
-adding_refused most known left after reader next index Read reading more fault = tt
-adding_refused most known left after reader next index Write reading more fault = fault
-adding_refused most known left after reader next index BadMagic reading more fault = absurd fault
-adding_refused most known left after reader next index (Short len) reading more fault = absurd fault
-adding_refused most known left after reader next index (BadFlag byte) reading more fault = absurd fault
-adding_refused most known left after reader next index (TooLong len) reading more fault = absurd fault
-adding_refused most known left after reader next index (BlockCut number) reading more fault = absurd fault
-adding_refused most known left after reader next index (CountDiffers count found) reading more fault = absurd fault
-adding_refused most known left after reader next index (Damaged number) reading more fault = absurd fault
-adding_refused most None left after reader next index Full reading more fault = tt
-adding_refused most (Some xs) None after reader next index Full reading more fault = absurd reading.read.consumed
-adding_refused most (Some xs) (Some ys) None reader next index Full reading more fault = absurd more.consumed
-adding_refused most (Some xs) (Some ys) (Some zs) reader next index Full reading more (inl fault) =
-    absurd (not_full most xs ys zs reader next index reading more fault)
-adding_refused most (Some xs) (Some ys) (Some zs) reader next index Full reading more (inr fault) =
-    inr (refl, past_end most xs ys zs reader next index reading more fault)
+adding_refused most known left after reader next index error reading more fault =
+    let lengths = lengths_of reading.messages in
+    let all = reading.messages ++ next.message ∷ [] in
+    let listed : (lengths ++ length next.message ∷ []) ++ [] ≡ lengths_of all =
+    append-nil (lengths ++ length next.message ∷ [])
+    ∙ sym (map-append (λ (m : List ℕ). length m) reading.messages (next.message ∷ []))
+    in
+    let layout : index.layout ≡ layout_of next.head.version =
+    reading.layout ∙ ap (λ (h : FileHead). layout_of h.version) (sym more.same)
+    in
+    full_refused most known after next all error
+    (read_more known left after reader next reading.messages reading.read more)
+    (subst (λ (l : Layout). IndexFault l (lengths_of all) error) layout
+    (subst (λ (t : List ℕ). IndexFault index.layout t error) listed
+    (full_more index lengths [] (length next.message) error reading.indexes fault)))
+
+-- One of the messages that were passed is refused.
+pub passed_refused : (most : ℕ) (known left : Option (List ℕ)) (reader next : ReaderState) (index : IndexState)
+    (lengths : List ℕ) (error : FileError) →
+    (reading : Reading most known (prepend_known reader.rest left) reader index) →
+    PassesMessages most reader next [] lengths →
+    IndexFault index.layout (lengths_of reading.messages ++ lengths) error → Refuses (OpenFault most) known error
+passed_refused most known left reader next index lengths error reading passed fault =
+    let all = reading.messages ++ passed.messages in
+    let listed : lengths_of reading.messages ++ lengths ≡ lengths_of all =
+    ap (λ (t : List ℕ). lengths_of reading.messages ++ t) passed.appended
+    ∙ sym (map-append (λ (m : List ℕ). length m) reading.messages passed.messages)
+    in
+    let layout : index.layout ≡ layout_of next.head.version =
+    reading.layout ∙ ap (λ (h : FileHead). layout_of h.version) (sym passed.passes.same)
+    in
+    full_refused most known (prepend_known next.rest left) next all error
+    (read_blocks known left reader next (length passed.messages) reading.messages passed.messages reading.read
+    passed.passes)
+    (subst (λ (l : Layout). IndexFault l (lengths_of all) error) layout
+    (subst (λ (t : List ℕ). IndexFault index.layout t error) listed fault))

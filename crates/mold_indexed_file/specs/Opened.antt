@@ -7,12 +7,13 @@ use Rattle.mold_session.specs.Journal.{IsJournal, IsWithin, JournalState}
 use Rattle.mold_session.specs.Loading.{SpellsFile, stated_count}
 use Rattle.mold_session.specs.Records.{SpellsJournal3}
 use Rattle.mold_session.specs.declared.error.FileError.{FileError}
-use Rattle.mold_session.specs.declared.error.FileError.TheVariants.{BadFlag, BadMagic, Full, Memory, Read, Short}
+use Rattle.mold_session.specs.declared.error.FileError.TheVariants.{Full, Memory}
 use Rattle.mold_session.specs.declared.journal.TheConstants.{MAX_MESSAGES}
 use Rattle.mold_session.specs.declared.loading.FileHead.{FileHead}
-use Rattle.mold_index.specs.Index.{IndexState, Indexes}
+use Rattle.mold_index.specs.Index.{IndexState, Indexes, offset_of}
 use Rattle.mold_index.specs.Layouts.{lengths_of}
 use Rattle.mold_index.specs.declared.index.TheConstants.{MAX_END}
+use Rattle.mold_index.specs.declared.layout.Layout.{Layout}
 use Rattle.mold_indexed_file.specs.Shown.{IndexedState}
 
 -- ---- the journal
@@ -52,16 +53,15 @@ IsAboveEnd bytes error = (error ≡ Full) × (MAX_END < length bytes)
 abbrev pub OpenFault : ℕ → List ℕ → FileError → Type 0
 OpenFault most bytes error = JournalFault most bytes error ⊎ IsAboveEnd bytes error
 
--- The error for a head that is refused. A fault after the head is not an error of the head, and becomes `Memory`.
-abbrev pub head_error : FileError → FileError
-head_error (Short len) = Short len
-head_error BadMagic = BadMagic
-head_error (BadFlag byte) = BadFlag byte
-head_error Read = Read
-head_error error = Memory
-
 -- Why a message of `len` bytes is not added to an index: the index is full, or an allocation failed.
 abbrev pub AddFault : IndexState → ℕ → FileError → Type 0
 AddFault index len Full = (index.count ≡ MAX_MESSAGES) ⊎ (MAX_END < index.end + (index.layout.overhead + len))
 AddFault index len Memory = ⊤
 AddFault index len error = ⊥
+
+-- Why a file has no index if its messages have these lengths: they are too many or too long, or an allocation failed.
+abbrev pub IndexFault : Layout → List ℕ → FileError → Type 0
+IndexFault layout lengths Full =
+    (MAX_MESSAGES < length lengths) ⊎ (MAX_END < offset_of layout lengths (length lengths + 1))
+IndexFault layout lengths Memory = ⊤
+IndexFault layout lengths error = ⊥

@@ -7,7 +7,7 @@ ghost use Rattle.mold_session.specs.Loading.{CountsLoad, Refuses};
 ghost use Rattle.mold_session.specs.declared.error.FileError.{FileError};
 ghost use Rattle.mold_index.specs.Index.{Indexes};
 ghost use Rattle.mold_index.specs.Layouts.{layout_of};
-ghost use Rattle.mold_indexed_file.specs.Opened.{AddFault, IsIndexOf, IsLoaded, IsOpened, OpenFault, head_error};
+ghost use Rattle.mold_indexed_file.specs.Opened.{AddFault, IndexFault, IsIndexOf, IsLoaded, IsOpened, OpenFault};
 ghost use Rattle.mold_indexed_file.specs.Shown.{IsInFile, Shows};
 
 use crate::indexed_file::IndexedFile;
@@ -16,22 +16,6 @@ use mold_durable::GrowingFile;
 use mold_index::{Index, IndexError, Layout};
 use mold_session::{FileError, FileHead, JournalReader};
 use std::alloc::Global;
-
-// Returns the error for a head that is refused.
-//
-// For the prover: `JournalReader::new` returns only errors that this leaves as they are, but its contract also allows
-// faults of messages.
-fn head_error(error: FileError) -> FileError
-    ensures { result ≡ head_error error }
-{
-    match error {
-        FileError::Short { .. }
-        | FileError::BadMagic
-        | FileError::BadFlag { .. }
-        | FileError::Read => error,
-        _ => FileError::Memory,
-    }
-}
 
 // Adds the next message, of `len` bytes, to the index of a file. After an error the index is unchanged.
 fn add_message(index: &mut Index, len: u16) -> Result<(), FileError>
@@ -45,6 +29,20 @@ fn add_message(index: &mut Index, len: u16) -> Result<(), FileError>
         Err(IndexError::Full) => Err(FileError::Full),
         Err(IndexError::Memory) => Err(FileError::Memory),
     }
+}
+
+// Adds the next messages, which have these lengths, to the index of a file. After an error, some of them may be added.
+fn add_messages(index: &mut Index, lengths: &[u16]) -> Result<(), FileError>
+    ensures indexes { (before : List ℕ) → Indexes index.old before →
+        OnOk result (Indexes index.new (before ++ lengths.now)) }
+    ensures layout { index.new.layout ≡ index.old.layout }
+    ensures refused { IfErr result (λ error. (before : List ℕ) → Indexes index.old before →
+        IndexFault index.old.layout (before ++ lengths.now) error) }
+{
+    for len in lengths {
+        add_message(index, *len)?;
+    }
+    Ok(())
 }
 
 // Reads on to the end of the source.
@@ -75,13 +73,15 @@ fn read_index<S: Source>(
     ensures refused { IfErr result (λ error. Refuses (OpenFault max_message) (S.left source.old) error) }
     ensures failures { CountsLoad (S.failed source.old) (S.failed source.new) result }
 {
-    let mut reader = match JournalReader::new(alloc, source) {
-        Ok(reader) => reader,
-        Err(error) => return Err(head_error(error)),
-    };
+    let mut reader = JournalReader::new(alloc, source)?;
     let mut index = Index::new(alloc, Layout::of(reader.head().version));
+    let mut lengths = Vec::new(alloc);
     'messages: while reader.advance_within(source, max_message)? {
         add_message(&mut index, reader.message().len() as u16)?;
+        // The other messages of the same read are passed, and only their lengths are kept.
+        lengths.clear();
+        reader.pass_messages(max_message, &mut lengths);
+        add_messages(&mut index, &lengths)?;
     }
     read_to_end(source)?;
     Ok((reader.head(), index))
@@ -91,8 +91,9 @@ fn read_index<S: Source>(
 /// the same file from its beginning.
 ///
 /// It reads the source once, to its end, in reads of at most 4,096 bytes, and keeps only the index. While it reads, it
-/// holds the bytes of one read and the longest message so far. Besides reading a message's bytes, it takes constant
-/// time for each message, except when the memory of the index is doubled. It reads nothing through `file`.
+/// holds the bytes of one read, the lengths of the messages in them, and at most the longest message so far. Besides
+/// reading a message's bytes, it takes constant time for each message, except when the memory of the index is doubled.
+/// It reads nothing through `file`.
 ///
 /// The errors are those of `Journal::load`. `Full` is also returned for a file that is longer than
 /// 9,223,372,036,854,775,807 bytes, and `Memory` if an allocation for the index or for the buffer fails.
