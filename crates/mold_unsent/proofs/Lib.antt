@@ -1,0 +1,2 @@
+mod UnsentLemmas
+mod Walks
