@@ -1,5 +1,6 @@
 pub mod OffsetLemmas
 pub mod PushLemmas
+pub mod RetractLemmas
 pub mod FindLemmas
 pub mod PieceLemmas
 pub mod SizeLemmas

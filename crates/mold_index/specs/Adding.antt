@@ -1,5 +1,6 @@
 -- How a message is appended to an index.
-use Rattle.std.specs.Prelude.{ℕ, ◌+◌, ◌-◌, Bool, true, ◌==◌, ◌||◌, List, [], ◌∷◌, ◌++◌, length, nat_le, nat_lt, slice_get}
+use Rattle.std.specs.Prelude.{ℕ, ◌+◌, ◌-◌, Bool, true, false, ◌==◌, ◌||◌, List, [], ◌∷◌, ◌++◌, length, nat_le, nat_lt, slice_get}
+use Rattle.std.specs.Prelude.{take}
 use Rattle.std.specs.Prelude.{Option, None, Some, if◌then◌else◌}
 use Rattle.mold_session.specs.declared.journal.TheConstants.{MAX_MESSAGES}
 use Rattle.mold_index.specs.Index.{IndexState}
@@ -35,6 +36,16 @@ needs_entry index = is_due (slice_get index.entries (length index.entries - 1)) 
 abbrev pub with_entry : List Entry → Entry → List Entry
 with_entry entries next =
     if is_due (slice_get entries (length entries - 1)) next then entries ++ next ∷ [] else entries
+
+-- Whether the entry is above message `number`.
+abbrev pub is_above : ℕ → Option Entry → Bool
+is_above number None = false
+is_above number (Some entry) = nat_lt number entry.number
+
+-- The entries, without the last one if it is above message `number`.
+abbrev pub without_above : ℕ → List Entry → List Entry
+without_above number entries =
+    if is_above number (slice_get entries (length entries - 1)) then take (length entries - 1) entries else entries
 
 -- The offset of an entry, or `end` if there is no entry.
 abbrev pub offset_or : Option Entry → ℕ → ℕ

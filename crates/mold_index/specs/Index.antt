@@ -1,5 +1,5 @@
 -- The index of a file: which entries it has, and where they lead.
-use Rattle.std.specs.Prelude.{◌≡◌, ◌⊎◌, ℕ, ◌+◌, ◌-◌, ◌<◌, ◌≤◌, List, [], length, take, sum_by}
+use Rattle.std.specs.Prelude.{◌≡◌, ◌⊎◌, ℕ, ◌+◌, ◌-◌, ◌<◌, ◌≤◌, List, [], ◌∷◌, ◌++◌, length, take, sum_by}
 use Rattle.std.specs.List.{All, AllAdjacentBelow, Any}
 use Rattle.mold_session.specs.declared.journal.TheConstants.{MAX_MESSAGES}
 use Rattle.mold_index.specs.declared.entries.TheConstants.{STRIDE_BYTES, STRIDE_MESSAGES}
@@ -58,6 +58,12 @@ pub record IsIndex (index : IndexState) : Type 0 where
   pub indexes : Indexes index lengths
   pub few : index.count ≤ MAX_MESSAGES
   pub below : index.end ≤ MAX_END
+
+-- The last message of the file has `len` bytes.
+pub record HasLast (index : IndexState) (len : ℕ) : Type 0 where
+  -- the lengths of the messages before it
+  pub lengths : List ℕ
+  pub indexes : Indexes index (lengths ++ len ∷ [])
 
 -- The file has a message with this number.
 abbrev pub HasNumber : IndexState → ℕ → Type 0

@@ -2,7 +2,7 @@
 
 ghost use Rattle.std.specs.Prelude.{◌≡◌, ◌-◌, ◌<◌, ◌≤◌, false, length, slice_get, IsOk, OnErr, OnOk};
 ghost use Rattle.std.specs.List.Sorted.{IsNonDecreasingBy, IsPartitionPoint};
-ghost use Rattle.mold_index.specs.Adding.{is_due, offset_or, with_entry};
+ghost use Rattle.mold_index.specs.Adding.{is_due, offset_or, with_entry, without_above};
 
 use crate::entry::Entry;
 use std::alloc::AllocError;
@@ -38,6 +38,18 @@ pub(crate) fn add_if_due(entries: &mut Vec<Entry>, next: Entry) -> Result<(), Al
     }
     entries.push(next)?;
     Ok(())
+}
+
+/// Removes the last entry if it is above message `number`.
+pub(crate) fn remove_above(entries: &mut Vec<Entry>, number: u64)
+    ensures { entries.new.items ≡ without_above number entries.old.items }
+{
+    let Some(last) = entries.last() else {
+        return;
+    };
+    if last.number > number {
+        entries.truncate(entries.len() - 1);
+    }
 }
 
 /// Returns the number of entries up to message `number`.

@@ -4,11 +4,11 @@ ghost use Rattle.std.specs.Prelude.{◌≡◌, ◌<◌, ◌≤◌, ◌↔◌, �
 ghost use Rattle.std.specs.Prelude.{false, IfErr, IsOk, IsTrue, OnErr, OnOk};
 ghost use Rattle.mold_session.specs.declared.journal.TheConstants.{MAX_MESSAGES};
 ghost use Rattle.mold_index.specs.Adding.{needs_entry, push_refusal};
-ghost use Rattle.mold_index.specs.Index.{HasNumber, Indexes, IsIndex, LeadsTo, fresh_index};
+ghost use Rattle.mold_index.specs.Index.{HasLast, HasNumber, Indexes, IsIndex, LeadsTo, fresh_index};
 ghost use Rattle.mold_index.specs.Piece.{IsPiece};
 ghost use Rattle.mold_index.specs.declared.error.IndexError.{IndexError};
 
-use crate::entries::{STRIDE_BYTES, add_if_due, count_up_to, offset_or};
+use crate::entries::{STRIDE_BYTES, add_if_due, count_up_to, offset_or, remove_above};
 use crate::entry::Entry;
 use crate::error::IndexError;
 use crate::layout::Layout;
@@ -109,6 +109,18 @@ impl Index {
         self.count += 1;
         self.end += size;
         Ok(())
+    }
+
+    /// Removes the last message, which has `len` bytes. So a caller that also keeps the message elsewhere can undo `push`
+    /// if that fails. It takes constant time and keeps the memory.
+    pub fn retract(&mut self, len: u16)
+        requires last { HasLast self.old len }
+        ensures indexes { (lengths : List ℕ) → Indexes self.old (lengths ++ len ∷ []) → Indexes self.new lengths }
+        ensures layout { self.new.layout ≡ self.old.layout }
+    {
+        self.count -= 1;
+        self.end -= u64::from(self.layout.overhead) + u64::from(len);
+        remove_above(&mut self.entries, self.count);
     }
 
     // Returns whether the file has a message with this number.
