@@ -3,6 +3,7 @@ pub mod FoundLemmas
 pub mod NextLemmas
 pub mod FileLemmas
 pub mod ShownLemmas
+pub mod StoredLemmas
 pub mod OpeningLemmas
 pub mod OpenedLemmas
 pub mod GrowingLemmas

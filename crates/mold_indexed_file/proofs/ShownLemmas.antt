@@ -168,7 +168,7 @@ part_none those buffer none =
     none ∙ ap (λ (t : List ℕ). take (length t) (drop buffer.entry.offset those)) (sym none)
 
 -- A part of some bytes is a part of those bytes and of what follows them.
-part_longer : (those more : List ℕ) (buffer : BufferState) → IsPartOf those buffer → IsPartOf (those ++ more) buffer
+pub part_longer : (those more : List ℕ) (buffer : BufferState) → IsPartOf those buffer → IsPartOf (those ++ more) buffer
 part_longer those more buffer part =
     let at = buffer.entry.offset in
     let few : length buffer.bytes ≤ length (drop at those) =

@@ -4,3 +4,4 @@ pub mod Packed
 pub mod Read
 pub mod Shown
 pub mod Growing
+pub mod Stored

@@ -29,7 +29,7 @@ use std::alloc::{AllocError, Global};
 use std::marker::Model;
 
 // Returns the number of bytes that the messages of a datagram, and the first message that no longer fits, have at most.
-fn most_bytes(version: FileVersion, limit: usize, max_message: u16) -> u64
+pub(crate) fn most_bytes(version: FileVersion, limit: usize, max_message: u16) -> u64
     requires { limit ≤ MAX_LIMIT }
     ensures { result ≡ most_bytes version limit max_message }
 {

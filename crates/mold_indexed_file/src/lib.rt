@@ -7,6 +7,8 @@ pub mod laws;
 mod opening;
 mod packing;
 mod piece_buffer;
+mod storage_index;
 
 pub use indexed_file::IndexedFile;
 pub use opening::open_indexed;
+pub use storage_index::StorageIndex;

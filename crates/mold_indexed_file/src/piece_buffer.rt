@@ -1,18 +1,22 @@
-//! A buffer for pieces of a file.
+//! A buffer for pieces of a file or a storage.
 
 ghost use Rattle.std.specs.Prelude.{◌≡◌, ◌↔◌, ◌≤◌, ℕ, List, [], length, take, OnErr, OnOk, IfOk, IsTrue};
 ghost use Rattle.mold_devices.specs.Devices.{Counts};
 ghost use Rattle.mold_durable.specs.GrowingFile.{Passes};
+ghost use Rattle.mold_durable.specs.Storage.{OnlyReads};
 ghost use Rattle.mold_indexed_file.specs.Read.{IsRead};
 
 use mold_devices::DeviceFault;
-use mold_durable::GrowingFile;
+use mold_durable::{GrowingFile, Storage};
 use mold_index::{Entry, Piece};
 use std::alloc::{AllocError, Global};
 use std::boxed::BoxedSlice;
 use std::marker::Model;
 
-/// A buffer of fixed size, and the piece of a file that was read into it last.
+// The length of no piece.
+const NONE: usize = 0;
+
+/// A buffer of fixed size, and the piece of a file or a storage that was read into it last.
 #[derive(Drop)]
 pub struct PieceBuffer {
     buffer: BoxedSlice<u8>,
@@ -78,6 +82,13 @@ impl PieceBuffer {
             && self.len as u64 == piece.len
     }
 
+    /// Removes the piece.
+    pub fn clear(&mut self)
+        ensures { self.new ≡ record self.old { bytes = [] } }
+    {
+        self.len = NONE;
+    }
+
     /// Reads a piece of a file. If the file ends before the piece, the bytes up to there are taken.
     pub fn read<F: GrowingFile>(&mut self, file: &mut F, piece: Piece) -> Result<(), DeviceFault>
         requires { piece.len ≤ self.old.size }
@@ -94,6 +105,31 @@ impl PieceBuffer {
         self.entry = piece.entry;
         self.len = count;
         Ok(())
+    }
+
+    /// Reads a piece of a storage. If the storage ends before the piece, the bytes up to there are taken.
+    pub fn read_stored<S: Storage>(
+        &mut self,
+        storage: &mut S,
+        piece: Piece,
+    ) -> Result<(), DeviceFault>
+        requires { piece.len ≤ self.old.size }
+        ensures read { (bytes : List ℕ) → S.shows storage.old bytes → OnOk result
+            (IsRead (λ moment. bytes) 0 0 piece self.new.bytes) }
+        ensures entry { OnOk result (self.new.entry ≡ piece.entry) }
+        ensures none { OnErr result (self.new.bytes ≡ []) }
+        ensures size { self.new.size ≡ self.old.size }
+        ensures storage { OnlyReads S.shows S.may_leave S.moment S.left_since storage.old storage.new }
+        ensures failures { Counts (S.failed storage.old) (S.failed storage.new) result }
+    {
+        let Piece { entry, len: _ } = piece;
+        let (len, done) = match read_stored_piece(storage, piece, &mut self.buffer) {
+            Ok(len) => (len, Ok(())),
+            Err(fault) => (NONE, Err(fault)),
+        };
+        self.entry = entry;
+        self.len = len;
+        done
     }
 }
 
@@ -112,5 +148,23 @@ fn read_piece<F: GrowingFile>(
     ensures failures { Counts (F.failed file.old) (F.failed file.new) result }
 {
     let count = file.read_at(piece.entry.offset, &mut buffer[..piece.len as usize])?;
+    Ok(count)
+}
+
+// Reads a piece of a storage to the start of the buffer, and returns the number of its bytes.
+fn read_stored_piece<S: Storage>(
+    storage: &mut S,
+    piece: Piece,
+    buffer: &mut [u8],
+) -> Result<usize, DeviceFault>
+    requires { piece.len ≤ length buffer.old }
+    ensures few { IfOk result (λ count. count ≤ piece.len) }
+    ensures read { (bytes : List ℕ) → S.shows storage.old bytes → IfOk result (λ count.
+        IsRead (λ moment. bytes) 0 0 piece (take count buffer.new)) }
+    ensures same { length buffer.new ≡ length buffer.old }
+    ensures storage { OnlyReads S.shows S.may_leave S.moment S.left_since storage.old storage.new }
+    ensures failures { Counts (S.failed storage.old) (S.failed storage.new) result }
+{
+    let count = storage.read_at(piece.entry.offset, &mut buffer[..piece.len as usize])?;
     Ok(count)
 }
