@@ -33,9 +33,13 @@ const ANY: Address = Address {
     port: 0,
 };
 
-/// Serves a journal over a port, which is opened after the journal was read. The messages of a regular file stay in the
-/// file. The journal of any other file, such as a pipe, is loaded into memory. If the order asks to follow a file of
-/// version 3, new records are read while it serves. If the file cannot be opened, the fault is `Read`.
+/// The greatest length of a regular file that is loaded into memory, in bytes. A response from memory takes less time.
+const MOST_LOADED: u64 = 1 << 24;
+
+/// Serves a journal over a port, which is opened after the journal was read. The messages of a regular file of more than
+/// 16,777,216 bytes stay in the file. The journal of any other file, such as a pipe, is loaded into memory. If the order
+/// asks to follow a file of version 3, new records are read while it serves. If the file cannot be opened, the fault is
+/// `Read`.
 pub fn run_serve(rt: &HostRuntime, order: &ServeOrder) -> Result<u8, ProgramFault> {
     if order.follow {
         if let Some(follower) = open_served(rt, order)? {
@@ -46,12 +50,12 @@ pub fn run_serve(rt: &HostRuntime, order: &ServeOrder) -> Result<u8, ProgramFaul
         return Err(ProgramFault::Command(CommandFault::Read));
     };
     match file.metadata() {
-        Ok(found) if found.is_file() => serve_file(rt, order, file),
+        Ok(found) if found.is_file() && found.len() > MOST_LOADED => serve_file(rt, order, file),
         _ => serve_loaded(rt, order, file),
     }
 }
 
-// Serves the journal in a regular file. Only the index of its messages is in memory.
+// Serves the journal in a large regular file. Only the index of its messages is in memory.
 fn serve_file(rt: &HostRuntime, order: &ServeOrder, file: File) -> Result<u8, ProgramFault> {
     let Ok(served) = file.try_clone() else {
         return Err(ProgramFault::Command(CommandFault::Read));
@@ -64,7 +68,7 @@ fn serve_file(rt: &HostRuntime, order: &ServeOrder, file: File) -> Result<u8, Pr
     }
 }
 
-// Serves the journal in a file that can be read only once. All its messages are in memory.
+// Serves the journal in a small file, or in one that can be read only once. All its messages are in memory.
 fn serve_loaded(rt: &HostRuntime, order: &ServeOrder, file: File) -> Result<u8, ProgramFault> {
     match load_journal(rt.alloc(), order, &mut FromRead::new(file))? {
         Ok(journal) => {
