@@ -6,7 +6,6 @@ ghost use Rattle.mold_session.specs.FileFault.{JournalFault};
 ghost use Rattle.mold_session.specs.Journal.{AreMessages};
 ghost use Rattle.mold_session.specs.Loading.{CountsLoad, Refuses, SpellsFile};
 ghost use Rattle.mold_session.specs.declared.error.FileError.{FileError};
-ghost use Rattle.mold_unsent.specs.Loading.{head_error};
 
 use crate::forgotten_messages::{ForgottenMessages, Message};
 use mold_devices::Piece;
@@ -21,22 +20,6 @@ pub struct CountedFile {
     pub head: FileHead,
     pub count: u64,
     pub forgotten: ForgottenMessages,
-}
-
-// Returns the error for a head that is refused.
-//
-// For the prover: `JournalReader::new` returns only errors that this leaves as they are, but its contract also allows
-// faults of messages.
-fn head_error(error: FileError) -> FileError
-    ensures { result ≡ head_error error }
-{
-    match error {
-        FileError::Short { .. }
-        | FileError::BadMagic
-        | FileError::BadFlag { .. }
-        | FileError::Read => error,
-        _ => FileError::Memory,
-    }
 }
 
 // Reads on to the end of the source.
@@ -71,10 +54,7 @@ pub fn count_messages<S: Source>(
     ensures failures { CountsLoad (S.failed source.old) (S.failed source.new) result }
 {
     reader_law();
-    let mut reader = match JournalReader::new(alloc, source) {
-        Ok(reader) => reader,
-        Err(error) => return Err(head_error(error)),
-    };
+    let mut reader = JournalReader::new(alloc, source)?;
     let mut count: u64 = 0;
     let mut forgotten = ForgottenMessages::new();
     'messages: while reader.advance_within(source, most)? {
