@@ -14,3 +14,4 @@ mod OpenLemmas
 mod ReadingLemmas
 mod RecordLemmas
 mod ScriptedLemmas
+mod StepwiseLemmas

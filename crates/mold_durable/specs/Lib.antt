@@ -10,4 +10,5 @@ pub mod Life
 pub mod Memory
 pub mod Reading
 pub mod ScriptedFile
+pub mod Stepwise
 pub mod Storage
