@@ -1,0 +1,9 @@
+pub mod Carried
+pub mod Lent
+pub mod Steps
+pub mod Udp
+pub mod Ipv4
+pub mod Ipv6
+pub mod Link
+pub mod Written
+pub mod Addresses
