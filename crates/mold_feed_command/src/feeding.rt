@@ -10,7 +10,7 @@ use crate::request_port::RequestPort;
 use mold_devices::{CommandFault, FromRead, IntoWrite, Sink, Source};
 use mold_durable::{FileStorage, create_file, open_file, sync_folder};
 use mold_durable_publisher::{DurablePublisher, StartError};
-use mold_feeder::{Feed, Feeder, PieceInput, PieceReader, Requests, feed_loop};
+use mold_feeder::{Feed, Feeder, JournalMessages, PieceInput, PieceReader, Requests, feed_loop};
 use mold_input::{HexLines, MessageBlocks};
 use mold_session::{FileError, Journal, Server};
 use mold_wire::Session;
@@ -49,6 +49,21 @@ fn open_ports(rt: &HostRuntime, order: &FeedOrder) -> Result<Ports, ProgramFault
     }
 }
 
+// Opens the journal's file once more, for its messages, with which the input is compared.
+fn open_messages(
+    rt: &HostRuntime,
+    order: &FeedOrder,
+) -> Result<JournalMessages<FromRead<File>>, CommandFault> {
+    let Ok(file) = File::open(rt, order.journal.as_str()) else {
+        return Err(CommandFault::Read);
+    };
+    match JournalMessages::open(rt.alloc(), FromRead::new(file)) {
+        Ok(journal) => Ok(journal),
+        Err(FileError::Memory) => Err(CommandFault::Memory),
+        Err(_) => Err(CommandFault::Read),
+    }
+}
+
 // Publishes the messages of the input, and prints the last line.
 fn run<M: PieceReader, K: Source + Drop>(
     rt: &HostRuntime,
@@ -61,7 +76,9 @@ fn run<M: PieceReader, K: Source + Drop>(
     requires input { IsInput M.unread K.left feed.old.input }
 {
     let mut sink = IntoWrite::new(rt.stdout());
-    let outcome = feed_loop(rt.alloc(), feed, &feed_options(order, resumed), &mut sink);
+    let mut journal = open_messages(rt, order)?;
+    let options = feed_options(order, resumed);
+    let outcome = feed_loop(rt.alloc(), feed, &options, &mut journal, &mut sink);
     flushed(outcome, sink.into_inner().flush())
 }
 

@@ -1,16 +1,20 @@
 -- The entries of an input that are compared one by one.
 use Rattle.std.proofs.Common.{◌≡◌, ℕ, zero, suc, ◌+◌, ◌-◌, ◌≤◌, cond, Bool, true, false, nat_lt, List, [], ◌∷◌, ◌++◌, length}
-use Rattle.std.proofs.Common.{map, take, Option, None, Some, Ok, Err, refl, sym, ap, ◌∙◌, append_assoc, arith}
+use Rattle.std.proofs.Common.{map, take, Option, None, Some, Ok, Err, refl, sym, subst, ap, ◌∙◌, append_assoc, arith}
 use Rattle.std.proofs.lemmas.List.{map-append}
 use Rattle.std.proofs.lemmas.Slice.Eq.{bytes_eq-Decides}
-use Rattle.std.specs.Prelude.{⊤}
+use Rattle.std.specs.Prelude.{⊤, IfErr, Result}
 use Rattle.std.specs.List.{slice_get}
 use Rattle.std.specs.Str.{bytes_eq}
 use Rattle.mold_input.specs.Entries.{Entry}
 use Rattle.mold_publish.specs.declared.refusal_reason.RefusalReason.{RefusalReason}
 use Rattle.mold_session.specs.Journal.{JournalState, message_numbered}
 use Rattle.mold_feeder.specs.Comparison.{ComparesAll, ComparesFirst, ComparesNext, StopsAt, compared_entry}
-use Rattle.mold_feeder.specs.Comparison.{compared_with}
+use Rattle.mold_feeder.specs.Comparison.{IsDeviceFault, compared_with, number_after}
+use Rattle.mold_feeder.specs.JournalMessages.{IsOfDevice}
+use Rattle.mold_feeder.specs.declared.compare_fault.CompareFault.{CompareFault}
+use Rattle.mold_feeder.specs.declared.compare_fault.CompareFault.TheVariants.{File}
+use Rattle.mold_session.specs.declared.error.FileError.{FileError}
 use Rattle.mold_feeder.specs.declared.compared.Compared.{Compared}
 use Rattle.mold_feeder.specs.declared.compared.Compared.TheVariants.{Same, Differs, Refused, End}
 
@@ -98,6 +102,25 @@ compared_more journal from at (Some all) None left some so_far next = absurd so_
 compared_more journal from at (Some all) (Some entries) None some so_far next = absurd next
 compared_more journal from at (Some all) (Some entries) (Some left) some so_far next =
     one_more journal from at all entries left some so_far next
+
+-- A fault of the file that is passed on.
+pub file_fault : {T : Type 0} (result : Result T CompareFault) (error : FileError) →
+    ((x : CompareFault) × (result ≡ Err x) × (x ≡ File error)) → IsOfDevice error → IfErr result IsDeviceFault
+file_fault {T} result error found is =
+    subst (λ (r : Result T CompareFault). IfErr r IsDeviceFault) (sym found.1)
+    (subst IsDeviceFault (sym found.2) is)
+
+pub same_fault : {T : Type 0} (result : Result T CompareFault) (fault : CompareFault) →
+    ((x : CompareFault) × (result ≡ Err x) × (x ≡ fault)) → IsDeviceFault fault → IfErr result IsDeviceFault
+same_fault {T} result fault found is =
+    subst (λ (r : Result T CompareFault). IfErr r IsDeviceFault) (sym found.1) (subst IsDeviceFault (sym found.2) is)
+
+-- The number of the message at which a comparison stops.
+pub number_kept : (compared : Compared) (number : ℕ) → (compared ≡ Same → ⊥) → number_after compared number ≡ number
+number_kept Same number other = absurd (other refl)
+number_kept Differs number other = refl
+number_kept (Refused why) number other = refl
+number_kept End number other = refl
 
 -- All messages were compared.
 pub compared_whole : (journal : JournalState) (from at : ℕ) (known left : Option (List Entry)) →

@@ -1,3 +1,4 @@
+pub mod JournalMessagesLemmas
 pub mod ComparisonLemmas
 pub mod LineLemmas
 pub mod RequestLemmas

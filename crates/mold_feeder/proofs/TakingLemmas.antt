@@ -432,24 +432,26 @@ takes_ended kind begun old published served last known left gathered is none tak
 )
 
 -- The same, if the journal and the entries are the same.
-pub takes_same : (appends : Bool) (kind : InputKind) (one other new : JournalState) (known mine : Option (List Entry))
-    (last : FeedStop) → one ≡ other → known ≡ mine → TakesInput appends kind one (reopened one new) known last →
-    TakesInput appends kind other (reopened other new) mine last
-takes_same appends kind one other new known mine last journal entries takes =
-    subst (λ (es : Option (List Entry)). TakesInput appends kind other (reopened other new) es last) entries
-    (subst (λ (j : JournalState). TakesInput appends kind j (reopened j new) known last) journal takes)
+pub takes_same : (has : JournalState → Type 0) (appends : Bool) (kind : InputKind) (one other new : JournalState)
+    (known mine : Option (List Entry)) (last : FeedStop) → one ≡ other → known ≡ mine →
+    TakesInput (has one) appends kind one (reopened one new) known last →
+    TakesInput (has other) appends kind other (reopened other new) mine last
+takes_same has appends kind one other new known mine last journal entries takes =
+    subst (λ (es : Option (List Entry)). TakesInput (has other) appends kind other (reopened other new) es last) entries
+    (subst (λ (j : JournalState). TakesInput (has j) appends kind j (reopened j new) known last) journal takes)
 
-pub yet_none : (appends : Bool) (kind : InputKind) (old new : JournalState) (known : Option (List Entry)) →
-    new ≡ old → TakesYet appends kind old known new
-yet_none true kind old new known same = part_none kind old new known same
-yet_none false kind old new known same = inl same
+pub yet_none : (has : Type 0) (appends : Bool) (kind : InputKind) (old new : JournalState)
+    (known : Option (List Entry)) → new ≡ old → TakesYet has appends kind old known new
+yet_none has true kind old new known same = part_none kind old new known same
+yet_none has false kind old new known same = inl same
 
 -- The same, if the journal and the entries are the same.
-pub yet_same : (appends : Bool) (kind : InputKind) (one other new : JournalState) (known mine : Option (List Entry)) →
-    one ≡ other → known ≡ mine → TakesYet appends kind one known new → TakesYet appends kind other mine new
-yet_same appends kind one other new known mine journal entries takes =
-    subst (λ (es : Option (List Entry)). TakesYet appends kind other es new) entries
-    (subst (λ (j : JournalState). TakesYet appends kind j known new) journal takes)
+pub yet_same : (has : JournalState → Type 0) (appends : Bool) (kind : InputKind) (one other new : JournalState)
+    (known mine : Option (List Entry)) → one ≡ other → known ≡ mine → TakesYet (has one) appends kind one known new →
+    TakesYet (has other) appends kind other mine new
+yet_same has appends kind one other new known mine journal entries takes =
+    subst (λ (es : Option (List Entry)). TakesYet (has other) appends kind other es new) entries
+    (subst (λ (j : JournalState). TakesYet (has j) appends kind j known new) journal takes)
 
 after_yet : (kind : InputKind) (begun : ℕ) (old new : JournalState) (known : Option (List Entry)) (last : FeedStop) →
     TakesAfter kind begun old new known last → TakesPart kind old known new
@@ -458,10 +460,10 @@ after_yet kind begun old new known (stop.Refused number refusal) takes =
     (takes.1.0, (filled.Refused refusal, takes.1.1))
 after_yet kind begun old new known stop.Ended takes = (takes.0, (filled.End, takes.1))
 
-behind_yet : (kind : InputKind) (old new : JournalState) (known : Option (List Entry)) (last : FeedStop) →
-    TakesInput false kind old new known last → TakesYet false kind old known new
-behind_yet kind old new known (stop.Other number found) takes = inl takes.0
-behind_yet kind old new known (stop.Refused number refusal) takes =
+behind_yet : (has : Type 0) (kind : InputKind) (old new : JournalState) (known : Option (List Entry)) (last : FeedStop) →
+    TakesInput has false kind old new known last → TakesYet has false kind old known new
+behind_yet has kind old new known (stop.Other number found) takes = inl takes.0
+behind_yet has kind old new known (stop.Refused number refusal) takes =
     inr (
       takes.0,
       (
@@ -473,21 +475,21 @@ behind_yet kind old new known (stop.Refused number refusal) takes =
         ),
       ),
     )
-behind_yet kind old new known stop.Ended takes =
+behind_yet has kind old new known stop.Ended takes =
     inr (takes.0, (takes.1.0, (takes.1.1.0, after_yet kind 0 old new takes.1.0 stop.Ended takes.1.1.1)))
 
-input_yet : (appends : Bool) (kind : InputKind) (old new : JournalState) (known : Option (List Entry))
-    (last : FeedStop) → TakesInput appends kind old new known last → TakesYet appends kind old known new
-input_yet true kind old new known last takes = after_yet kind (length old.messages) old new known last takes
-input_yet false kind old new known last takes = behind_yet kind old new known last takes
+input_yet : (has : Type 0) (appends : Bool) (kind : InputKind) (old new : JournalState) (known : Option (List Entry))
+    (last : FeedStop) → TakesInput has appends kind old new known last → TakesYet has appends kind old known new
+input_yet has true kind old new known last takes = after_yet kind (length old.messages) old new known last takes
+input_yet has false kind old new known last takes = behind_yet has kind old new known last takes
 
 -- What was taken until the publisher stopped, if the session was not closed.
-pub stop_yet : (appends : Bool) (kind : InputKind) (old new : JournalState) (known : Option (List Entry))
-    (last : FeedStop) → new.closed ≡ old.closed → TakesInput appends kind old (reopened old new) known last →
-    TakesYet appends kind old known new
-stop_yet appends kind old new known last same takes =
-    input_yet appends kind old new known last
-    (subst (λ (j : JournalState). TakesInput appends kind old j known last) (reopened_same old new same) takes)
+pub stop_yet : (has : Type 0) (appends : Bool) (kind : InputKind) (old new : JournalState) (known : Option (List Entry))
+    (last : FeedStop) → new.closed ≡ old.closed → TakesInput has appends kind old (reopened old new) known last →
+    TakesYet has appends kind old known new
+stop_yet has appends kind old new known last same takes =
+    input_yet has appends kind old new known last
+    (subst (λ (j : JournalState). TakesInput has appends kind old j known last) (reopened_same old new same) takes)
 
 -- The journal after the end, if the session stays open.
 pub ended_open : (stays : Bool) (publisher : PublisherState) → not stays ≡ false →
@@ -496,11 +498,11 @@ ended_open true publisher is = refl
 ended_open false publisher is = absurd (cc)
 
 -- The first entries are the messages of the journal.
-pub takes_behind : (kind : InputKind) (old new : JournalState) (known mid : Option (List Entry)) (number : ℕ)
-    (found : Compared) (stop : FeedStop) → found ≡ Same → ComparesAll old 1 number known mid found →
-    TakesAfter kind 0 old new mid stop → TakesInput false kind old new known stop
-takes_behind kind old new known mid number found (stop.Other other why) same compares takes = absurd takes
-takes_behind kind old new known mid number found (stop.Refused other refusal) same compares takes =
-    (number, (mid, (subst (ComparesAll old 1 number known mid) same compares, takes)))
-takes_behind kind old new known mid number found stop.Ended same compares takes =
-    (number, (mid, (subst (ComparesAll old 1 number known mid) same compares, takes)))
+pub takes_behind : (has : Type 0) (kind : InputKind) (old new : JournalState) (known mid : Option (List Entry))
+    (number : ℕ) (found : Compared) (stop : FeedStop) → found ≡ Same → (has → ComparesAll old 1 number known mid found) →
+    TakesAfter kind 0 old new mid stop → TakesInput has false kind old new known stop
+takes_behind has kind old new known mid number found (stop.Other other why) same compares takes = absurd takes
+takes_behind has kind old new known mid number found (stop.Refused other refusal) same compares takes =
+    (number, (mid, ((λ is. subst (ComparesAll old 1 number known mid) same (compares is)), takes)))
+takes_behind has kind old new known mid number found stop.Ended same compares takes =
+    (number, (mid, ((λ is. subst (ComparesAll old 1 number known mid) same (compares is)), takes)))

@@ -151,10 +151,11 @@ abbrev pub MayNotClose : JournalState → Type 0
 MayNotClose journal = ⊥
 
 -- A session may be closed if it does not stay open and all entries of its input were published. `old` is the journal at
--- the beginning, and `new` the one at the end.
-abbrev pub MayClose : FeedEnd → Bool → InputKind → JournalState → Option (List Entry) → JournalState → Type 0
-MayClose end appends kind old known new =
-    (end.stays_open ≡ false) × TakesInput appends kind old (reopened old new) known Ended
+-- the beginning, and `new` the one at the end. `has` states that the file with which the input is compared has the
+-- messages of the journal.
+abbrev pub MayClose : Type 0 → FeedEnd → Bool → InputKind → JournalState → Option (List Entry) → JournalState → Type 0
+MayClose has end appends kind old known new =
+    (end.stays_open ≡ false) × TakesInput has appends kind old (reopened old new) known Ended
 
 -- The same, if `begun` messages came before the first entry of the input.
 abbrev pub MayCloseAfter : FeedEnd → InputKind → ℕ → JournalState → Option (List Entry) → JournalState → Type 0
@@ -173,10 +174,11 @@ closes_at end (Other number compared) = false
 
 -- The loop has ended with this status. `known` are the entries of its input, if they are known, and `last` is the last
 -- line of a session whose input ended. The text was written: the number of messages that the journal had, if it
--- existed, and why the loop stopped.
+-- existed, and why the loop stopped. `has` states that the file with which the input is compared has the messages of
+-- the journal.
 pub record HasFinished {S P Q : Type 0} (shows may_leave : S → List ℕ → Type 0) (moment : S → ℕ)
-    (left_since : S → ℕ → List ℕ → Type 0) (modeled answers : Bool) (kind : InputKind) (options : FeedOptions P)
-    (last : List ℕ) (known : Option (List Entry)) (life : Life) (old new : FeedState S P Q)
+    (left_since : S → ℕ → List ℕ → Type 0) (modeled answers : Bool) (has : Type 0) (kind : InputKind)
+    (options : FeedOptions P) (last : List ℕ) (known : Option (List Entry)) (life : Life) (old new : FeedState S P Q)
     (held_old held_new : Option (List ℕ)) (status : ℕ) : Type 0 where
   -- why the loop stopped
   pub stop : FeedStop
@@ -184,7 +186,7 @@ pub record HasFinished {S P Q : Type 0} (shows may_leave : S → List ℕ → Ty
   pub fed : HasFed shows may_leave moment left_since modeled answers options.lines life groups
       (closes_at options.end stop) old new
   -- which messages were taken from the input
-  pub taken : TakesInput options.appends kind old.publisher.publisher.journal
+  pub taken : TakesInput has options.appends kind old.publisher.publisher.journal
       (reopened old.publisher.publisher.journal new.publisher.publisher.journal) known stop
   pub all : AllSent new.publisher.publisher stop
   pub ends : status ≡ status_at stop

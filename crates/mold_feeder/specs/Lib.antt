@@ -1,5 +1,6 @@
 pub mod Pace
 pub mod IdleClock
+pub mod JournalMessages
 pub mod Comparison
 pub mod FeedLines
 pub mod FeedText

@@ -112,22 +112,24 @@ TakesAfter kind begun old new known (stop.Refused number refusal) =
 TakesAfter kind begun old new known stop.Ended = (left : Option (List Entry)) × Takes kind old new known left filled.End
 
 -- All messages of the journal were compared with the first entries, and the messages of the entries after them were
--- published.
-abbrev pub TakesBehind : InputKind → JournalState → JournalState → Option (List Entry) → FeedStop → Type 0
-TakesBehind kind old new known stop =
-    (number : ℕ) × ((mid : Option (List Entry)) × (ComparesAll old 1 number known mid compared.Same
+-- published. The messages were compared as a file has them: `has` states that it has those of the journal.
+abbrev pub TakesBehind : Type 0 → InputKind → JournalState → JournalState → Option (List Entry) → FeedStop → Type 0
+TakesBehind has kind old new known stop =
+    (number : ℕ) × ((mid : Option (List Entry)) × ((has → ComparesAll old 1 number known mid compared.Same)
     × TakesAfter kind 0 old new mid stop))
 
 -- What the loop took of its input until it stopped. The first entries are the messages of the journal, unless the input
--- continues after them. If they are not, nothing was published.
-abbrev pub TakesInput : Bool → InputKind → JournalState → JournalState → Option (List Entry) → FeedStop → Type 0
-TakesInput true kind old new known stop = TakesAfter kind (length old.messages) old new known stop
-TakesInput false kind old new known (stop.Other number found) =
+-- continues after them. If they are not, nothing was published. `has` states that the file with which the input is
+-- compared has the messages of the journal.
+abbrev pub TakesInput : Type 0 → Bool → InputKind → JournalState → JournalState → Option (List Entry) → FeedStop →
+    Type 0
+TakesInput has true kind old new known stop = TakesAfter kind (length old.messages) old new known stop
+TakesInput has false kind old new known (stop.Other number found) =
     (new ≡ old) × (((found ≡ compared.Same) → ⊥)
-    × ((left : Option (List Entry)) × ComparesAll old 1 number known left found))
-TakesInput false kind old new known (stop.Refused number refusal) =
-    TakesBehind kind old new known (stop.Refused number refusal)
-TakesInput false kind old new known stop.Ended = TakesBehind kind old new known stop.Ended
+    × ((left : Option (List Entry)) × (has → ComparesAll old 1 number known left found)))
+TakesInput has false kind old new known (stop.Refused number refusal) =
+    TakesBehind has kind old new known (stop.Refused number refusal)
+TakesInput has false kind old new known stop.Ended = TakesBehind has kind old new known stop.Ended
 
 -- Nothing was published.
 abbrev pub TakesNothing : JournalState → JournalState → Type 0
@@ -139,13 +141,14 @@ TakesPart kind old known new =
     (left : Option (List Entry)) × ((filled : Filled) × Takes kind old new known left filled)
 
 -- What the loop took of its input before a fault. Nothing was published before all messages of the journal were
--- compared, unless the input continues after them.
-abbrev pub TakesYet : Bool → InputKind → JournalState → Option (List Entry) → JournalState → Type 0
-TakesYet true kind old known new = TakesPart kind old known new
-TakesYet false kind old known new =
+-- compared, unless the input continues after them. `has` states that the file with which it is compared has them.
+abbrev pub TakesYet : Type 0 → Bool → InputKind → JournalState → Option (List Entry) → JournalState → Type 0
+TakesYet has true kind old known new = TakesPart kind old known new
+TakesYet has false kind old known new =
     TakesNothing old new
     ⊎ ((number : ℕ)
-    × ((mid : Option (List Entry)) × (ComparesAll old 1 number known mid compared.Same × TakesPart kind old mid new)))
+    × ((mid : Option (List Entry)) × ((has → ComparesAll old 1 number known mid compared.Same)
+    × TakesPart kind old mid new)))
 
 -- After the input was published, all messages were sent on the lines.
 abbrev pub AllSent : PublisherState → FeedStop → Type 0

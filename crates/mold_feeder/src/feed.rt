@@ -15,6 +15,7 @@ ghost use Rattle.mold_feeder.specs.Taking.{filled_now, is_end, is_same, left_of,
 ghost use Rattle.mold_feeder.specs.Taking.{TakesNothing, TakesPart, TakesYet, taken_at};
 ghost use Rattle.mold_feeder.specs.Feeder.{ended};
 ghost use Rattle.mold_feeder.specs.Comparison.{ComparesAll};
+ghost use Rattle.mold_feeder.specs.JournalMessages.{HasMessages};
 ghost use Rattle.mold_wire.specs.declared.limits.TheConstants.{MAX_LIMIT};
 
 use crate::compared::Compared;
@@ -27,6 +28,7 @@ use crate::feed_text::{push_compared, push_fed, push_resumed};
 use crate::feeder::Feeder;
 use crate::gathered::Gathered;
 use crate::idle_clock::MILLISECOND;
+use crate::journal_messages::JournalMessages;
 use crate::piece_input::PieceInput;
 use crate::piece_reader::PieceReader;
 use crate::requests::Requests;
@@ -263,42 +265,64 @@ impl<
 
     // Compares the entries that have come with the journal's messages from number `number` on. Returns the number at
     // which it stopped and how.
-    fn compare_ready(&mut self, number: u64) -> Result<(u64, Compared), CommandFault>
+    fn compare_ready<J: Source + Drop>(
+        &mut self,
+        journal: &mut JournalMessages<J>,
+        number: u64,
+    ) -> Result<(u64, Compared), CommandFault>
         requires some { 1 ≤ number }
         requires within { number ≤ length self.old.feeder.publisher.publisher.journal.messages + 1 }
         ensures input { self.new.input ≡ record self.old.input { come = self.new.input.come } }
         ensures feeder { self.new.feeder ≡ self.old.feeder }
         ensures requests { self.new.requests ≡ self.old.requests }
-        ensures compared { IfOk result (λ found. ComparesAll self.old.feeder.publisher.publisher.journal number found.0
+        ensures compared { HasMessages J.left journal.old self.old.feeder.publisher.publisher.journal.messages number →
+            IfOk result (λ found. ComparesAll self.old.feeder.publisher.publisher.journal number found.0
             (Some (M.entries (bytes_come M.unread self.old.input)))
             (Some (M.entries (bytes_come M.unread self.new.input))) found.1) }
+        ensures messages { HasMessages J.left journal.old self.old.feeder.publisher.publisher.journal.messages number →
+            IfOk result (λ found. HasMessages J.left journal.new self.old.feeder.publisher.publisher.journal.messages
+            found.0) }
         ensures within { IfOk result (λ found. (1 ≤ found.0)
             × (found.0 ≤ length self.old.feeder.publisher.publisher.journal.messages + 1)) }
     {
-        let journal = self.feeder.publisher.journal();
+        let publisher = &self.feeder.publisher;
         let come = &mut self.input.come;
-        Ok(compare_all(journal, number, &mut come.messages, &mut come.source)?)
+        Ok(compare_all(
+            publisher,
+            journal,
+            number,
+            &mut come.messages,
+            &mut come.source,
+        )?)
     }
 
     // Compares the entries that have come with the journal's messages from number `number` on. Returns the number at
     // which it stopped and how. `End` means that no entry has come after those that are the same.
-    fn compare_some(&mut self, number: u64) -> Result<(u64, Compared), CommandFault>
+    fn compare_some<J: Source + Drop>(
+        &mut self,
+        journal: &mut JournalMessages<J>,
+        number: u64,
+    ) -> Result<(u64, Compared), CommandFault>
         requires input { IsInput M.unread K.left self.old.input }
         requires some { 1 ≤ number }
         requires within { number ≤ length self.old.feeder.publisher.publisher.journal.messages + 1 }
         ensures input { OnOk result (IsInput M.unread K.left self.new.input) }
         ensures feeder { self.new.feeder ≡ self.old.feeder }
         ensures requests { self.new.requests ≡ self.old.requests }
-        ensures compared { IfOk result (λ found. ComparesCome self.old.feeder.publisher.publisher.journal number found.0
+        ensures compared { HasMessages J.left journal.old self.old.feeder.publisher.publisher.journal.messages number →
+            IfOk result (λ found. ComparesCome self.old.feeder.publisher.publisher.journal number found.0
             (entries_of_rest M.unread K.left M.entries self.old.input)
             (entries_of_rest M.unread K.left M.entries self.new.input) found.1) }
+        ensures messages { HasMessages J.left journal.old self.old.feeder.publisher.publisher.journal.messages number →
+            IfOk result (λ found. HasMessages J.left journal.new self.old.feeder.publisher.publisher.journal.messages
+            found.0) }
         ensures within { IfOk result (λ found. (1 ≤ found.0)
             × (found.0 ≤ length self.old.feeder.publisher.publisher.journal.messages + 1)) }
     {
         if !self.input.is_ready() {
             return Ok((number, Compared::End));
         }
-        let (at, compared) = self.compare_ready(number)?;
+        let (at, compared) = self.compare_ready(journal, number)?;
         self.note(taken_at(compared))?;
         Ok((at, compared))
     }
@@ -311,8 +335,9 @@ impl<
     }
 
     // Compares the input with the journal's messages, while it comes. Returns the number at which it stopped and how.
-    fn compare(
+    fn compare<J: Source + Drop>(
         &mut self,
+        journal: &mut JournalMessages<J>,
         lines: &FeedLines<L::Peer>,
         buffer: &mut [u8],
     ) -> Result<(u64, Compared), CommandFault>
@@ -323,7 +348,8 @@ impl<
         ensures fed { (life : Life) → IsAtRest S.shows S.may_leave self.old.feeder.publisher life →
             HasFed S.shows S.may_leave S.moment S.left_since L.modeled D.modeled lines.now life [] false
             (state_of L.state D.port self.old) (state_of L.state D.port self.new) }
-        ensures compared { IfOk result (λ found. ComparesAll self.old.feeder.publisher.publisher.journal 1 found.0
+        ensures compared { HasMessages J.left journal.old self.old.feeder.publisher.publisher.journal.messages 1 →
+            IfOk result (λ found. ComparesAll self.old.feeder.publisher.publisher.journal 1 found.0
             (entries_of_rest M.unread K.left M.entries self.old.input)
             (entries_of_rest M.unread K.left M.entries self.new.input) found.1) }
         ensures journal { self.new.feeder.publisher.publisher.journal ≡ self.old.feeder.publisher.publisher.journal }
@@ -337,7 +363,7 @@ impl<
         for _ in 0..u64::MAX {
             self.pause()?;
             self.serve(lines, buffer);
-            let (at, compared) = self.compare_some(number)?;
+            let (at, compared) = self.compare_some(journal, number)?;
             if !self.compares_on(compared) {
                 return Ok((at, compared));
             }
@@ -462,10 +488,12 @@ impl<
     }
 
     /// Compares the input with the journal's messages, unless it continues after them, and publishes the messages after
-    /// those. Ends the session if the input ends. Returns why it ended. `buffer` has `MAX_LIMIT` bytes.
-    pub(crate) fn run(
+    /// those. Ends the session if the input ends. Returns why it ended. `buffer` has `MAX_LIMIT` bytes. If the input
+    /// continues after the messages, `journal` is not read.
+    pub(crate) fn run<J: Source + Drop>(
         &mut self,
         options: &FeedOptions<L::Peer>,
+        journal: &mut JournalMessages<J>,
         buffer: &mut [u8],
     ) -> Result<FeedStop, CommandFault>
         requires longest { self.old.feeder.publisher.publisher.journal.max_message
@@ -478,13 +506,16 @@ impl<
             (closes_at options.now.end stop) (state_of L.state D.port self.old) (state_of L.state D.port self.new)) }
         ensures broken { (life : Life) → IsAtRest S.shows S.may_leave self.old.feeder.publisher life → OnErr result
             (HasBroken S.shows S.may_leave S.moment S.left_since L.modeled D.modeled options.now.lines
-            (TakesYet options.now.appends M.input_kind self.old.feeder.publisher.publisher.journal
+            (TakesYet (HasMessages J.left journal.old self.old.feeder.publisher.publisher.journal.messages 1)
+            options.now.appends M.input_kind self.old.feeder.publisher.publisher.journal
             (entries_of_rest M.unread K.left M.entries self.old.input))
-            (MayClose options.now.end options.now.appends M.input_kind self.old.feeder.publisher.publisher.journal
+            (MayClose (HasMessages J.left journal.old self.old.feeder.publisher.publisher.journal.messages 1)
+            options.now.end options.now.appends M.input_kind self.old.feeder.publisher.publisher.journal
             (entries_of_rest M.unread K.left M.entries self.old.input)) life
             (state_of L.state D.port self.old) (state_of L.state D.port self.new)) }
         ensures taken { (life : Life) → IsAtRest S.shows S.may_leave self.old.feeder.publisher life → IfOk result
-            (TakesInput options.now.appends M.input_kind self.old.feeder.publisher.publisher.journal
+            (TakesInput (HasMessages J.left journal.old self.old.feeder.publisher.publisher.journal.messages 1)
+            options.now.appends M.input_kind self.old.feeder.publisher.publisher.journal
             (reopened self.old.feeder.publisher.publisher.journal self.new.feeder.publisher.publisher.journal)
             (entries_of_rest M.unread K.left M.entries self.old.input)) }
         ensures all { IfOk result (AllSent self.new.feeder.publisher.publisher) }
@@ -493,7 +524,7 @@ impl<
             let begun = self.feeder.publisher.journal().next() - 1;
             return self.publish_all(begun, options, buffer);
         }
-        let (number, compared) = self.compare(&options.lines, buffer)?;
+        let (number, compared) = self.compare(journal, &options.lines, buffer)?;
         if !is_same(compared) {
             return Ok(FeedStop::Other { number, compared });
         }

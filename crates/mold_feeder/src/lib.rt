@@ -2,6 +2,7 @@
 #![tactic(auto)]
 
 mod arrived;
+mod compare_fault;
 mod compared;
 mod comparison;
 mod feed;
@@ -17,12 +18,14 @@ mod feeding;
 mod gathered;
 mod gathering;
 mod idle_clock;
+mod journal_messages;
 mod pace;
 mod piece_input;
 mod piece_reader;
 mod requests;
 
 pub use arrived::Arrived;
+pub use compare_fault::CompareFault;
 pub use compared::Compared;
 pub use comparison::{compare_all, compare_next};
 pub use feed::Feed;
@@ -38,6 +41,7 @@ pub use feeding::feed_loop;
 pub use gathered::Gathered;
 pub use gathering::{gather, take_group};
 pub use idle_clock::IdleClock;
+pub use journal_messages::JournalMessages;
 pub use pace::Pace;
 pub use piece_input::PieceInput;
 pub use piece_reader::PieceReader;

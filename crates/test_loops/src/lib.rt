@@ -1,10 +1,12 @@
 //! Tests of `mold_wire`, `mold_devices`, `mold_ports`, `mold_port_set`, of the loops of `mold_send`, `mold_serve`,
 //! `mold_listen`, `mold_loop`, `mold_receive` and `mold_recorder`, over ports in memory, and of `mold_pacing`, `mold_audit`,
-//! `mold_repair`, `mold_durable` and `mold_durable_publisher`.
+//! `mold_repair`, `mold_durable` and `mold_durable_publisher`, and of the comparison of `mold_feeder`.
 #![tactic(auto)]
 
 #[cfg(test)]
 mod audit;
+#[cfg(test)]
+mod comparing;
 #[cfg(test)]
 mod comparisons;
 #[cfg(test)]

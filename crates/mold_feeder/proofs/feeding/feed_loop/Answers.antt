@@ -1,7 +1,9 @@
 use Rattle.std.proofs.Common.{◌≡◌, [], ap, refl}
 use Rattle.mold_devices.proofs.LineLemmas.{on_err}
+use Rattle.mold_session.specs.Journal.{JournalState}
 use Rattle.mold_feeder.specs.Feeding.{MayClose, closes_at, grown, state_of}
 use Rattle.mold_feeder.specs.Input.{entries_of_rest}
+use Rattle.mold_feeder.specs.JournalMessages.{HasMessages}
 use Rattle.mold_feeder.specs.Taking.{TakesInput, TakesYet, reopened}
 use Rattle.mold_feeder.specs.declared.feed_stop.FeedStop.TheVariants.{Ended}
 use Rattle.mold_feeder.specs.declared.piece_input.PieceInput.{PieceInput}
@@ -23,7 +25,7 @@ returns-clause-finished g c = λ life is.
           (closes_at c.args.options.now.end stop) (state_of g.L.PortSet.state g.D.Datagrams.port c.args.feed.now)
           (state_of g.L.PortSet.state g.D.Datagrams.port c.begin.new.self)
           (state_of g.L.PortSet.state g.D.Datagrams.port c.run.new.self) begun ran.1;
-      taken = takes_same c.args.options.now.appends g.M.MessageReader.input_kind
+      taken = takes_same (λ (j : JournalState). HasMessages g.J.Source.left c.args.journal.now j.messages 1) c.args.options.now.appends g.M.MessageReader.input_kind
           c.begin.new.self.feeder.publisher.publisher.journal c.args.feed.now.feeder.publisher.publisher.journal
           c.run.new.self.feeder.publisher.publisher.journal
           (entries_of_rest g.M.InputReader.unread g.K.Source.left g.M.MessageReader.entries c.begin.new.self.input)
@@ -45,14 +47,14 @@ returns-in_err-buffer-clause-broken g c = λ life is.
     on_err _
     (broken_now g.S.Storage.shows g.S.Storage.may_leave g.S.Storage.moment g.S.Storage.left_since g.L.PortSet.modeled
     g.D.Datagrams.modeled c.args.options.now.lines g.met.S.Storage.only_now
-    (TakesYet c.args.options.now.appends g.M.MessageReader.input_kind c.args.feed.now.feeder.publisher.publisher.journal
+    (TakesYet (HasMessages g.J.Source.left c.args.journal.now c.args.feed.now.feeder.publisher.publisher.journal.messages 1) c.args.options.now.appends g.M.MessageReader.input_kind c.args.feed.now.feeder.publisher.publisher.journal
     (entries_of_rest g.M.InputReader.unread g.K.Source.left g.M.MessageReader.entries c.args.feed.now.input))
-    (MayClose c.args.options.now.end c.args.options.now.appends g.M.MessageReader.input_kind
+    (MayClose (HasMessages g.J.Source.left c.args.journal.now c.args.feed.now.feeder.publisher.publisher.journal.messages 1) c.args.options.now.end c.args.options.now.appends g.M.MessageReader.input_kind
     c.args.feed.now.feeder.publisher.publisher.journal
     (entries_of_rest g.M.InputReader.unread g.K.Source.left g.M.MessageReader.entries c.args.feed.now.input)) life []
     (state_of g.L.PortSet.state g.D.Datagrams.port c.args.feed.now)
     (state_of g.L.PortSet.state g.D.Datagrams.port c.args.feed.now)
-    (yet_none c.args.options.now.appends g.M.MessageReader.input_kind c.args.feed.now.feeder.publisher.publisher.journal
+    (yet_none (HasMessages g.J.Source.left c.args.journal.now c.args.feed.now.feeder.publisher.publisher.journal.messages 1) c.args.options.now.appends g.M.MessageReader.input_kind c.args.feed.now.feeder.publisher.publisher.journal
     c.args.feed.now.feeder.publisher.publisher.journal
     (entries_of_rest g.M.InputReader.unread g.K.Source.left g.M.MessageReader.entries c.args.feed.now.input) refl)
     (fed_yet g.S.Storage.shows g.S.Storage.may_leave g.S.Storage.moment g.S.Storage.left_since g.L.PortSet.modeled
@@ -64,14 +66,14 @@ returns-in_err-begin-clause-broken g c = λ life is.
     on_err _
     (broken_now g.S.Storage.shows g.S.Storage.may_leave g.S.Storage.moment g.S.Storage.left_since g.L.PortSet.modeled
     g.D.Datagrams.modeled c.args.options.now.lines g.met.S.Storage.only_now
-    (TakesYet c.args.options.now.appends g.M.MessageReader.input_kind c.args.feed.now.feeder.publisher.publisher.journal
+    (TakesYet (HasMessages g.J.Source.left c.args.journal.now c.args.feed.now.feeder.publisher.publisher.journal.messages 1) c.args.options.now.appends g.M.MessageReader.input_kind c.args.feed.now.feeder.publisher.publisher.journal
     (entries_of_rest g.M.InputReader.unread g.K.Source.left g.M.MessageReader.entries c.args.feed.now.input))
-    (MayClose c.args.options.now.end c.args.options.now.appends g.M.MessageReader.input_kind
+    (MayClose (HasMessages g.J.Source.left c.args.journal.now c.args.feed.now.feeder.publisher.publisher.journal.messages 1) c.args.options.now.end c.args.options.now.appends g.M.MessageReader.input_kind
     c.args.feed.now.feeder.publisher.publisher.journal
     (entries_of_rest g.M.InputReader.unread g.K.Source.left g.M.MessageReader.entries c.args.feed.now.input)) life []
     (state_of g.L.PortSet.state g.D.Datagrams.port c.args.feed.now)
     (state_of g.L.PortSet.state g.D.Datagrams.port c.begin.new.self)
-    (yet_none c.args.options.now.appends g.M.MessageReader.input_kind c.args.feed.now.feeder.publisher.publisher.journal
+    (yet_none (HasMessages g.J.Source.left c.args.journal.now c.args.feed.now.feeder.publisher.publisher.journal.messages 1) c.args.options.now.appends g.M.MessageReader.input_kind c.args.feed.now.feeder.publisher.publisher.journal
     c.begin.new.self.feeder.publisher.publisher.journal
     (entries_of_rest g.M.InputReader.unread g.K.Source.left g.M.MessageReader.entries c.args.feed.now.input)
     c.begin.ensures.journal)
@@ -92,21 +94,21 @@ returns-in_err-stop-clause-broken g c = λ life is.
     let begun = c.begin.ensures.fed life is in
     on_err _
     (broken_then g.S.Storage.shows g.S.Storage.may_leave g.S.Storage.moment g.S.Storage.left_since g.L.PortSet.modeled
-    g.D.Datagrams.modeled c.args.options.now.lines (TakesYet appends kind old known)
-    (MayClose c.args.options.now.end appends kind old known) life []
+    g.D.Datagrams.modeled c.args.options.now.lines (TakesYet (HasMessages g.J.Source.left c.args.journal.now c.args.feed.now.feeder.publisher.publisher.journal.messages 1) appends kind old known)
+    (MayClose (HasMessages g.J.Source.left c.args.journal.now c.args.feed.now.feeder.publisher.publisher.journal.messages 1) c.args.options.now.end appends kind old known) life []
     (state_of g.L.PortSet.state g.D.Datagrams.port c.args.feed.now)
     (state_of g.L.PortSet.state g.D.Datagrams.port c.begin.new.self)
     (state_of g.L.PortSet.state g.D.Datagrams.port c.run.new.self) begun
     (broken_weaker g.S.Storage.shows g.S.Storage.may_leave g.S.Storage.moment g.S.Storage.left_since g.L.PortSet.modeled
-    g.D.Datagrams.modeled c.args.options.now.lines (TakesYet appends kind old known)
-    (MayClose c.args.options.now.end appends kind old known) (grown life []) (TakesYet appends kind mid behind)
-    (MayClose c.args.options.now.end appends kind mid behind)
+    g.D.Datagrams.modeled c.args.options.now.lines (TakesYet (HasMessages g.J.Source.left c.args.journal.now c.args.feed.now.feeder.publisher.publisher.journal.messages 1) appends kind old known)
+    (MayClose (HasMessages g.J.Source.left c.args.journal.now c.args.feed.now.feeder.publisher.publisher.journal.messages 1) c.args.options.now.end appends kind old known) (grown life []) (TakesYet (HasMessages g.J.Source.left c.args.journal.now c.begin.new.self.feeder.publisher.publisher.journal.messages 1) appends kind mid behind)
+    (MayClose (HasMessages g.J.Source.left c.args.journal.now c.begin.new.self.feeder.publisher.publisher.journal.messages 1) c.args.options.now.end appends kind mid behind)
     (state_of g.L.PortSet.state g.D.Datagrams.port c.begin.new.self)
     (state_of g.L.PortSet.state g.D.Datagrams.port c.run.new.self)
-    (λ journal yet. yet_same appends kind mid old journal behind known c.begin.ensures.journal entries yet)
+    (λ journal yet. yet_same (λ (j : JournalState). HasMessages g.J.Source.left c.args.journal.now j.messages 1) appends kind mid old journal behind known c.begin.ensures.journal entries yet)
     (λ journal may. (
       may.0,
-      takes_same appends kind mid old journal behind known Ended c.begin.ensures.journal entries may.1,
+      takes_same (λ (j : JournalState). HasMessages g.J.Source.left c.args.journal.now j.messages 1) appends kind mid old journal behind known Ended c.begin.ensures.journal entries may.1,
     )) (c.in_err-stop.ensures.broken (grown life []) begun.rests)))
 
 pub returns-in_err-push_stop-clause-broken : goal.returns-in_err-push_stop-clause-broken
@@ -121,7 +123,7 @@ returns-in_err-push_stop-clause-broken g c = λ life is.
     entries_of_rest g.M.InputReader.unread g.K.Source.left g.M.MessageReader.entries c.args.feed.now.input in
     let begun = c.begin.ensures.fed life is in
     let takes =
-    takes_same appends kind c.begin.new.self.feeder.publisher.publisher.journal old new
+    takes_same (λ (j : JournalState). HasMessages g.J.Source.left c.args.journal.now j.messages 1) appends kind c.begin.new.self.feeder.publisher.publisher.journal old new
     (entries_of_rest g.M.InputReader.unread g.K.Source.left g.M.MessageReader.entries c.begin.new.self.input) known stop
     c.begin.ensures.journal
     (ap (λ (i : PieceInput g.row.M.Denot g.row.K.Denot).
@@ -129,13 +131,13 @@ returns-in_err-push_stop-clause-broken g c = λ life is.
     (c.in_ok-stop.ensures.taken (grown life []) begun.rests) in
     on_err _
     (broken_after g.S.Storage.shows g.S.Storage.may_leave g.S.Storage.moment g.S.Storage.left_since g.L.PortSet.modeled
-    g.D.Datagrams.modeled c.args.options.now.lines g.met.S.Storage.only_now (TakesYet appends kind old known)
-    (MayClose end appends kind old known) life end stop
+    g.D.Datagrams.modeled c.args.options.now.lines g.met.S.Storage.only_now (TakesYet (HasMessages g.J.Source.left c.args.journal.now c.args.feed.now.feeder.publisher.publisher.journal.messages 1) appends kind old known)
+    (MayClose (HasMessages g.J.Source.left c.args.journal.now c.args.feed.now.feeder.publisher.publisher.journal.messages 1) end appends kind old known) life end stop
     (state_of g.L.PortSet.state g.D.Datagrams.port c.args.feed.now)
     (state_of g.L.PortSet.state g.D.Datagrams.port c.begin.new.self)
     (state_of g.L.PortSet.state g.D.Datagrams.port c.run.new.self) is
-    (λ same. stop_yet appends kind old new known stop same takes)
-    (ended_at end stop (TakesInput appends kind old (reopened old new) known) takes)
+    (λ same. stop_yet (HasMessages g.J.Source.left c.args.journal.now c.args.feed.now.feeder.publisher.publisher.journal.messages 1) appends kind old new known stop same takes)
+    (ended_at end stop (TakesInput (HasMessages g.J.Source.left c.args.journal.now c.args.feed.now.feeder.publisher.publisher.journal.messages 1) appends kind old (reopened old new) known) takes)
     begun (c.in_ok-stop.ensures.fed (grown life []) begun.rests))
 
 pub returns-in_err-send-clause-broken : goal.returns-in_err-send-clause-broken
@@ -150,7 +152,7 @@ returns-in_err-send-clause-broken g c = λ life is.
     entries_of_rest g.M.InputReader.unread g.K.Source.left g.M.MessageReader.entries c.args.feed.now.input in
     let begun = c.begin.ensures.fed life is in
     let takes =
-    takes_same appends kind c.begin.new.self.feeder.publisher.publisher.journal old new
+    takes_same (λ (j : JournalState). HasMessages g.J.Source.left c.args.journal.now j.messages 1) appends kind c.begin.new.self.feeder.publisher.publisher.journal old new
     (entries_of_rest g.M.InputReader.unread g.K.Source.left g.M.MessageReader.entries c.begin.new.self.input) known stop
     c.begin.ensures.journal
     (ap (λ (i : PieceInput g.row.M.Denot g.row.K.Denot).
@@ -158,11 +160,11 @@ returns-in_err-send-clause-broken g c = λ life is.
     (c.in_ok-stop.ensures.taken (grown life []) begun.rests) in
     on_err _
     (broken_after g.S.Storage.shows g.S.Storage.may_leave g.S.Storage.moment g.S.Storage.left_since g.L.PortSet.modeled
-    g.D.Datagrams.modeled c.args.options.now.lines g.met.S.Storage.only_now (TakesYet appends kind old known)
-    (MayClose end appends kind old known) life end stop
+    g.D.Datagrams.modeled c.args.options.now.lines g.met.S.Storage.only_now (TakesYet (HasMessages g.J.Source.left c.args.journal.now c.args.feed.now.feeder.publisher.publisher.journal.messages 1) appends kind old known)
+    (MayClose (HasMessages g.J.Source.left c.args.journal.now c.args.feed.now.feeder.publisher.publisher.journal.messages 1) end appends kind old known) life end stop
     (state_of g.L.PortSet.state g.D.Datagrams.port c.args.feed.now)
     (state_of g.L.PortSet.state g.D.Datagrams.port c.begin.new.self)
     (state_of g.L.PortSet.state g.D.Datagrams.port c.run.new.self) is
-    (λ same. stop_yet appends kind old new known stop same takes)
-    (ended_at end stop (TakesInput appends kind old (reopened old new) known) takes)
+    (λ same. stop_yet (HasMessages g.J.Source.left c.args.journal.now c.args.feed.now.feeder.publisher.publisher.journal.messages 1) appends kind old new known stop same takes)
+    (ended_at end stop (TakesInput (HasMessages g.J.Source.left c.args.journal.now c.args.feed.now.feeder.publisher.publisher.journal.messages 1) appends kind old (reopened old new) known) takes)
     begun (c.in_ok-stop.ensures.fed (grown life []) begun.rests))

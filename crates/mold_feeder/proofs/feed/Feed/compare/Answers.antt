@@ -3,6 +3,7 @@ use Rattle.std.proofs.Common.{◌&&◌, not}
 use Rattle.mold_session.specs.Journal.{JournalState}
 use Rattle.mold_feeder.specs.Feeding.{state_of}
 use Rattle.mold_feeder.specs.Input.{KeepsRest, entries_of_rest}
+use Rattle.mold_feeder.specs.JournalMessages.{HasMessages}
 use Rattle.mold_feeder.specs.Taking.{ComparesCome}
 use Rattle.mold_feeder.specs.declared.piece_input.PieceInput.{PieceInput}
 use Rattle.mold_feeder.proofs.TakingLemmas.{compare_on, compare_stops, over_rest, same_kept, same_yet}
@@ -20,7 +21,8 @@ loop-init g c = record {
   longest = c.requires.longest;
   buffer = c.requires.buffer;
   input = c.requires.input;
-  same = same_yet c.args.self.now.feeder.publisher.publisher.journal 1
+  has = λ has. has;
+  same = λ has. same_yet c.args.self.now.feeder.publisher.publisher.journal 1
       (entries_of_rest g.M.InputReader.unread g.K.Source.left g.M.MessageReader.entries c.args.self.now.input);
   journal = refl;
   some = omega arith;
@@ -69,7 +71,16 @@ loop-preserved g c = record {
       ≤ r.server.max_message) (sym c.compare_some.ensures.requests) c.serve.ensures.longest);
   buffer = c.serve.ensures.buffer;
   input = c.in_ok-at.ensures.input;
-  same =
+  has = λ has.
+      subst (λ (j : JournalState). HasMessages g.J.Source.left c.compare_some.new.journal j.messages c.in_ok-at.at)
+      (c.serve.ensures.journal
+      ∙ ap (λ (f : Feeder g.row.S.Denot g.row.L.Denot). f.publisher.publisher.journal) c.in_ok-pause.ensures.feeder
+      ∙ c.loop.invariant.journal) (c.in_ok-at.ensures.messages
+      (subst (λ (j : JournalState). HasMessages g.J.Source.left c.loop.journal j.messages c.loop.number)
+      (sym (c.serve.ensures.journal
+      ∙ ap (λ (f : Feeder g.row.S.Denot g.row.L.Denot). f.publisher.publisher.journal) c.in_ok-pause.ensures.feeder
+      ∙ c.loop.invariant.journal)) (c.loop.invariant.has has)));
+  same = λ has.
       let test = c.if-not-compares_on.false in
       let is = c.compares_on.ensures in
       compare_on c.args.self.now.feeder.publisher.publisher.journal 1 c.loop.number c.in_ok-at.at
@@ -79,7 +90,7 @@ loop-preserved g c = record {
       (not c.compare_some.new.self.input.ready && c.compare_some.new.self.input.ended) (cc)
       (same_kept c.args.self.now.feeder.publisher.publisher.journal 1 c.loop.number (entries_of_rest g.M.InputReader.unread g.K.Source.left g.M.MessageReader.entries c.args.self.now.input)
       (entries_of_rest g.M.InputReader.unread g.K.Source.left g.M.MessageReader.entries c.loop.self.input)
-      (entries_of_rest g.M.InputReader.unread g.K.Source.left g.M.MessageReader.entries c.serve.new.self.input) c.loop.invariant.same
+      (entries_of_rest g.M.InputReader.unread g.K.Source.left g.M.MessageReader.entries c.serve.new.self.input) (c.loop.invariant.same has)
       (subst (λ (i : PieceInput g.row.M.Denot g.row.K.Denot). KeepsRest
       (entries_of_rest g.M.InputReader.unread g.K.Source.left g.M.MessageReader.entries c.loop.self.input)
       (entries_of_rest g.M.InputReader.unread g.K.Source.left g.M.MessageReader.entries i)) (sym c.serve.ensures.input)
@@ -89,7 +100,11 @@ loop-preserved g c = record {
       (entries_of_rest g.M.InputReader.unread g.K.Source.left g.M.MessageReader.entries c.compare_some.new.self.input) c.in_ok-at.compared)
       (c.serve.ensures.journal
       ∙ ap (λ (f : Feeder g.row.S.Denot g.row.L.Denot). f.publisher.publisher.journal) c.in_ok-pause.ensures.feeder
-      ∙ c.loop.invariant.journal) c.in_ok-at.ensures.compared);
+      ∙ c.loop.invariant.journal) (c.in_ok-at.ensures.compared
+      (subst (λ (j : JournalState). HasMessages g.J.Source.left c.loop.journal j.messages c.loop.number)
+      (sym (c.serve.ensures.journal
+      ∙ ap (λ (f : Feeder g.row.S.Denot g.row.L.Denot). f.publisher.publisher.journal) c.in_ok-pause.ensures.feeder
+      ∙ c.loop.invariant.journal)) (c.loop.invariant.has has))));
   journal = ap (λ (f : Feeder g.row.S.Denot g.row.L.Denot). f.publisher.publisher.journal) c.compare_some.ensures.feeder
       ∙ (c.serve.ensures.journal
       ∙ ap (λ (f : Feeder g.row.S.Denot g.row.L.Denot). f.publisher.publisher.journal) c.in_ok-pause.ensures.feeder
@@ -101,7 +116,7 @@ loop-preserved g c = record {
 }
 
 pub returns-then-not-compares_on-clause-compared : goal.returns-then-not-compares_on-clause-compared
-returns-then-not-compares_on-clause-compared g c =
+returns-then-not-compares_on-clause-compared g c = λ has.
     let test = c.if-not-compares_on.true in
     let is = c.compares_on.ensures in
     compare_stops c.args.self.now.feeder.publisher.publisher.journal 1 c.loop.number c.in_ok-at.at
@@ -113,7 +128,7 @@ returns-then-not-compares_on-clause-compared g c =
     c.in_ok-at.ensures.input c.empty_law.ensures.none)
     (same_kept c.args.self.now.feeder.publisher.publisher.journal 1 c.loop.number (entries_of_rest g.M.InputReader.unread g.K.Source.left g.M.MessageReader.entries c.args.self.now.input)
     (entries_of_rest g.M.InputReader.unread g.K.Source.left g.M.MessageReader.entries c.loop.self.input)
-    (entries_of_rest g.M.InputReader.unread g.K.Source.left g.M.MessageReader.entries c.serve.new.self.input) c.loop.invariant.same
+    (entries_of_rest g.M.InputReader.unread g.K.Source.left g.M.MessageReader.entries c.serve.new.self.input) (c.loop.invariant.same has)
     (subst (λ (i : PieceInput g.row.M.Denot g.row.K.Denot). KeepsRest
     (entries_of_rest g.M.InputReader.unread g.K.Source.left g.M.MessageReader.entries c.loop.self.input)
     (entries_of_rest g.M.InputReader.unread g.K.Source.left g.M.MessageReader.entries i)) (sym c.serve.ensures.input)
@@ -123,7 +138,11 @@ returns-then-not-compares_on-clause-compared g c =
     (entries_of_rest g.M.InputReader.unread g.K.Source.left g.M.MessageReader.entries c.compare_some.new.self.input) c.in_ok-at.compared)
     (c.serve.ensures.journal
     ∙ ap (λ (f : Feeder g.row.S.Denot g.row.L.Denot). f.publisher.publisher.journal) c.in_ok-pause.ensures.feeder
-    ∙ c.loop.invariant.journal) c.in_ok-at.ensures.compared)
+    ∙ c.loop.invariant.journal) (c.in_ok-at.ensures.compared
+    (subst (λ (j : JournalState). HasMessages g.J.Source.left c.loop.journal j.messages c.loop.number)
+    (sym (c.serve.ensures.journal
+    ∙ ap (λ (f : Feeder g.row.S.Denot g.row.L.Denot). f.publisher.publisher.journal) c.in_ok-pause.ensures.feeder
+    ∙ c.loop.invariant.journal)) (c.loop.invariant.has has))))
 
 pub returns-then-not-compares_on-clause-journal : goal.returns-then-not-compares_on-clause-journal
 returns-then-not-compares_on-clause-journal g c =

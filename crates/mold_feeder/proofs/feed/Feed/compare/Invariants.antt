@@ -3,6 +3,7 @@ use Rattle.mold_durable.specs.Life.{Life}
 use Rattle.mold_wire.specs.declared.limits.TheConstants.{MAX_LIMIT}
 use Rattle.mold_feeder.specs.Feeding.{HasFed, IsAtRest, state_of}
 use Rattle.mold_feeder.specs.Input.{IsInput, entries_of_rest}
+use Rattle.mold_feeder.specs.JournalMessages.{HasMessages}
 use Rattle.mold_feeder.specs.Taking.{IsSameTo}
 use Rattle.mold_feeder.proofs.feed.Feed.compare.Given as goal
 
@@ -17,7 +18,12 @@ invariant-loop g l = record {
   longest : l.self.feeder.publisher.publisher.journal.max_message ≤ l.self.requests.server.max_message;
   buffer : length l.buffer ≡ MAX_LIMIT;
   input : IsInput g.M.InputReader.unread g.K.Source.left l.self.input;
-  same : IsSameTo l.fn.self.feeder.publisher.publisher.journal 1 l.number
+  has :
+      HasMessages g.J.Source.left l.fn.journal l.fn.self.feeder.publisher.publisher.journal.messages 1 →
+      HasMessages g.J.Source.left l.journal l.fn.self.feeder.publisher.publisher.journal.messages l.number;
+  same :
+      HasMessages g.J.Source.left l.fn.journal l.fn.self.feeder.publisher.publisher.journal.messages 1 →
+      IsSameTo l.fn.self.feeder.publisher.publisher.journal 1 l.number
       (entries_of_rest g.M.InputReader.unread g.K.Source.left g.M.MessageReader.entries l.fn.self.input)
       (entries_of_rest g.M.InputReader.unread g.K.Source.left g.M.MessageReader.entries l.self.input);
   journal : l.self.feeder.publisher.publisher.journal ≡ l.fn.self.feeder.publisher.publisher.journal;

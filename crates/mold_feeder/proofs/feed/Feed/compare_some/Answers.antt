@@ -8,7 +8,7 @@ use Rattle.mold_feeder.proofs.TakingLemmas.{rest_compared}
 use Rattle.mold_feeder.proofs.feed.Feed.compare_some.Goals as goal
 
 pub returns-clause-compared : goal.returns-clause-compared
-returns-clause-compared g c =
+returns-clause-compared g c = λ has.
     let entries = g.M.MessageReader.entries in
     let found = c.in_ok-at.compared in
     let before = c.args.self.now.input in
@@ -24,4 +24,4 @@ returns-clause-compared g c =
     c.compare_ready.ensures.input))
     (rest_compared c.args.self.now.feeder.publisher.publisher.journal c.args.number c.in_ok-at.at entries
     (entries (bytes_come g.M.InputReader.unread before)) behind before.part.items
-    (g.K.Source.left before.source) found c.in_ok-at.ensures.compared)
+    (g.K.Source.left before.source) found (c.in_ok-at.ensures.compared has))

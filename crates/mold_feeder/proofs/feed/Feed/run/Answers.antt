@@ -7,6 +7,7 @@ use Rattle.mold_feeder.specs.Feeding.{MayClose, MayCloseAfter, closes_at, grown,
 use Rattle.mold_feeder.specs.Input.{entries_of_rest}
 use Rattle.mold_feeder.specs.Taking.{TakesAfter, TakesInput, TakesPart, TakesYet, reopened}
 use Rattle.mold_feeder.specs.Comparison.{ComparesAll}
+use Rattle.mold_feeder.specs.JournalMessages.{HasMessages}
 use Rattle.mold_feeder.specs.declared.compared.Compared.TheVariants.{Same}
 use Rattle.mold_feeder.specs.declared.feed_stop.FeedStop.TheVariants as stop
 use Rattle.mold_feeder.proofs.TakingLemmas.{all_same, is_not_same, takes_behind, yet_none}
@@ -31,7 +32,7 @@ returns-then-options-clause-taken g c = λ life is.
     let new = c.publish_all.new.self.feeder.publisher.publisher.journal in
     let begun : c.next-begun.result - 1 ≡ length c.args.self.now.feeder.publisher.publisher.journal.messages =
     omega (arith, c.next-begun.ensures.value, ap (λ (j : JournalState). length j.messages) c.journal.ensures) in
-    subst (λ (a : Bool). IfOk c.publish_all.result (TakesInput a g.M.MessageReader.input_kind c.args.self.now.feeder.publisher.publisher.journal
+    subst (λ (a : Bool). IfOk c.publish_all.result (TakesInput (HasMessages g.J.Source.left c.args.journal.now c.args.self.now.feeder.publisher.publisher.journal.messages 1) a g.M.MessageReader.input_kind c.args.self.now.feeder.publisher.publisher.journal
     (reopened c.args.self.now.feeder.publisher.publisher.journal new) (entries_of_rest g.M.InputReader.unread g.K.Source.left g.M.MessageReader.entries c.args.self.now.input))) (sym c.if-options.true)
     (subst (λ (n : ℕ). IfOk c.publish_all.result (TakesAfter g.M.MessageReader.input_kind n c.args.self.now.feeder.publisher.publisher.journal
     (reopened c.args.self.now.feeder.publisher.publisher.journal new) (entries_of_rest g.M.InputReader.unread g.K.Source.left g.M.MessageReader.entries c.args.self.now.input))) begun
@@ -41,7 +42,7 @@ pub returns-then-not-is_same-clause-taken : goal.returns-then-not-is_same-clause
 returns-then-not-is_same-clause-taken g c = λ life is.
     let test = c.if-not-is_same.true in
     let same = c.is_same.ensures in
-    subst (λ (a : Bool). TakesInput a g.M.MessageReader.input_kind c.args.self.now.feeder.publisher.publisher.journal
+    subst (λ (a : Bool). TakesInput (HasMessages g.J.Source.left c.args.journal.now c.args.self.now.feeder.publisher.publisher.journal.messages 1) a g.M.MessageReader.input_kind c.args.self.now.feeder.publisher.publisher.journal
     (reopened c.args.self.now.feeder.publisher.publisher.journal c.compare.new.self.feeder.publisher.publisher.journal) (entries_of_rest g.M.InputReader.unread g.K.Source.left g.M.MessageReader.entries c.args.self.now.input)
     (stop.Other c.in_ok-number.number c.in_ok-number.compared)) (sym c.if-options.false) (
       ap (reopened c.args.self.now.feeder.publisher.publisher.journal) c.in_ok-number.ensures.journal,
@@ -58,9 +59,9 @@ returns-clause-taken g c = λ life is.
     let same = c.is_same.ensures in
     IfOk-weaker c.publish_all-2.result _ _
     (λ stop takes.
-    subst (λ (a : Bool). TakesInput a g.M.MessageReader.input_kind c.args.self.now.feeder.publisher.publisher.journal
+    subst (λ (a : Bool). TakesInput (HasMessages g.J.Source.left c.args.journal.now c.args.self.now.feeder.publisher.publisher.journal.messages 1) a g.M.MessageReader.input_kind c.args.self.now.feeder.publisher.publisher.journal
     (reopened c.args.self.now.feeder.publisher.publisher.journal new) (entries_of_rest g.M.InputReader.unread g.K.Source.left g.M.MessageReader.entries c.args.self.now.input) stop) (sym c.if-options.false)
-    (takes_behind g.M.MessageReader.input_kind c.args.self.now.feeder.publisher.publisher.journal (reopened c.args.self.now.feeder.publisher.publisher.journal new)
+    (takes_behind (HasMessages g.J.Source.left c.args.journal.now c.args.self.now.feeder.publisher.publisher.journal.messages 1) g.M.MessageReader.input_kind c.args.self.now.feeder.publisher.publisher.journal (reopened c.args.self.now.feeder.publisher.publisher.journal new)
     (entries_of_rest g.M.InputReader.unread g.K.Source.left g.M.MessageReader.entries c.args.self.now.input) (entries_of_rest g.M.InputReader.unread g.K.Source.left g.M.MessageReader.entries c.compare.new.self.input)
     c.in_ok-number.number c.in_ok-number.compared stop (all_same c.in_ok-number.compared (cc))
     c.in_ok-number.ensures.compared
@@ -74,14 +75,14 @@ returns-in_err-number-clause-broken g c = λ life is.
     on_err _
     (broken_now g.S.Storage.shows g.S.Storage.may_leave g.S.Storage.moment g.S.Storage.left_since g.L.PortSet.modeled
     g.D.Datagrams.modeled c.args.options.now.lines g.met.S.Storage.only_now
-    (TakesYet c.args.options.now.appends g.M.MessageReader.input_kind c.args.self.now.feeder.publisher.publisher.journal
+    (TakesYet (HasMessages g.J.Source.left c.args.journal.now c.args.self.now.feeder.publisher.publisher.journal.messages 1) c.args.options.now.appends g.M.MessageReader.input_kind c.args.self.now.feeder.publisher.publisher.journal
     (entries_of_rest g.M.InputReader.unread g.K.Source.left g.M.MessageReader.entries c.args.self.now.input))
-    (MayClose c.args.options.now.end c.args.options.now.appends g.M.MessageReader.input_kind
+    (MayClose (HasMessages g.J.Source.left c.args.journal.now c.args.self.now.feeder.publisher.publisher.journal.messages 1) c.args.options.now.end c.args.options.now.appends g.M.MessageReader.input_kind
     c.args.self.now.feeder.publisher.publisher.journal
     (entries_of_rest g.M.InputReader.unread g.K.Source.left g.M.MessageReader.entries c.args.self.now.input)) life []
     (state_of g.L.PortSet.state g.D.Datagrams.port c.args.self.now)
     (state_of g.L.PortSet.state g.D.Datagrams.port c.compare.new.self)
-    (yet_none c.args.options.now.appends g.M.MessageReader.input_kind c.args.self.now.feeder.publisher.publisher.journal
+    (yet_none (HasMessages g.J.Source.left c.args.journal.now c.args.self.now.feeder.publisher.publisher.journal.messages 1) c.args.options.now.appends g.M.MessageReader.input_kind c.args.self.now.feeder.publisher.publisher.journal
     c.compare.new.self.feeder.publisher.publisher.journal
     (entries_of_rest g.M.InputReader.unread g.K.Source.left g.M.MessageReader.entries c.args.self.now.input)
     c.compare.ensures.journal)
@@ -97,20 +98,20 @@ returns-then-options-clause-broken g c = λ life is.
     omega (arith, c.next-begun.ensures.value, ap (λ (j : JournalState). length j.messages) c.journal.ensures) in
     on_err_weaker c.publish_all.result
     (broken_weaker g.S.Storage.shows g.S.Storage.may_leave g.S.Storage.moment g.S.Storage.left_since g.L.PortSet.modeled
-    g.D.Datagrams.modeled c.args.options.now.lines (TakesYet c.args.options.now.appends g.M.MessageReader.input_kind
+    g.D.Datagrams.modeled c.args.options.now.lines (TakesYet (HasMessages g.J.Source.left c.args.journal.now c.args.self.now.feeder.publisher.publisher.journal.messages 1) c.args.options.now.appends g.M.MessageReader.input_kind
     c.args.self.now.feeder.publisher.publisher.journal
     (entries_of_rest g.M.InputReader.unread g.K.Source.left g.M.MessageReader.entries c.args.self.now.input))
-    (MayClose c.args.options.now.end c.args.options.now.appends g.M.MessageReader.input_kind
+    (MayClose (HasMessages g.J.Source.left c.args.journal.now c.args.self.now.feeder.publisher.publisher.journal.messages 1) c.args.options.now.end c.args.options.now.appends g.M.MessageReader.input_kind
     c.args.self.now.feeder.publisher.publisher.journal
     (entries_of_rest g.M.InputReader.unread g.K.Source.left g.M.MessageReader.entries c.args.self.now.input)) life
     (TakesPart kind old known)
     (MayCloseAfter c.args.options.now.end kind (c.next-begun.result - 1) old known)
     (state_of g.L.PortSet.state g.D.Datagrams.port c.args.self.now)
     (state_of g.L.PortSet.state g.D.Datagrams.port c.publish_all.new.self)
-    (λ journal part. subst (λ (a : Bool). TakesYet a kind old known journal) (sym c.if-options.true) part)
+    (λ journal part. subst (λ (a : Bool). TakesYet (HasMessages g.J.Source.left c.args.journal.now c.args.self.now.feeder.publisher.publisher.journal.messages 1) a kind old known journal) (sym c.if-options.true) part)
     (λ journal may. (
       may.0,
-      subst (λ (a : Bool). TakesInput a kind old (reopened old journal) known stop.Ended) (sym c.if-options.true)
+      subst (λ (a : Bool). TakesInput (HasMessages g.J.Source.left c.args.journal.now c.args.self.now.feeder.publisher.publisher.journal.messages 1) a kind old (reopened old journal) known stop.Ended) (sym c.if-options.true)
           (subst (λ (n : ℕ). TakesAfter kind n old (reopened old journal) known stop.Ended) begun may.1),
     )))
     (c.publish_all.ensures.broken life is)
@@ -133,20 +134,20 @@ returns-clause-broken g c = λ life is.
     on_err_weaker c.publish_all-2.result
     (λ broken.
     broken_then g.S.Storage.shows g.S.Storage.may_leave g.S.Storage.moment g.S.Storage.left_since g.L.PortSet.modeled
-    g.D.Datagrams.modeled c.args.options.now.lines (TakesYet c.args.options.now.appends g.M.MessageReader.input_kind
+    g.D.Datagrams.modeled c.args.options.now.lines (TakesYet (HasMessages g.J.Source.left c.args.journal.now c.args.self.now.feeder.publisher.publisher.journal.messages 1) c.args.options.now.appends g.M.MessageReader.input_kind
     c.args.self.now.feeder.publisher.publisher.journal
     (entries_of_rest g.M.InputReader.unread g.K.Source.left g.M.MessageReader.entries c.args.self.now.input))
-    (MayClose c.args.options.now.end c.args.options.now.appends g.M.MessageReader.input_kind
+    (MayClose (HasMessages g.J.Source.left c.args.journal.now c.args.self.now.feeder.publisher.publisher.journal.messages 1) c.args.options.now.end c.args.options.now.appends g.M.MessageReader.input_kind
     c.args.self.now.feeder.publisher.publisher.journal
     (entries_of_rest g.M.InputReader.unread g.K.Source.left g.M.MessageReader.entries c.args.self.now.input)) life []
     (state_of g.L.PortSet.state g.D.Datagrams.port c.args.self.now)
     (state_of g.L.PortSet.state g.D.Datagrams.port c.compare.new.self)
     (state_of g.L.PortSet.state g.D.Datagrams.port c.publish_all-2.new.self) one
     (broken_weaker g.S.Storage.shows g.S.Storage.may_leave g.S.Storage.moment g.S.Storage.left_since g.L.PortSet.modeled
-    g.D.Datagrams.modeled c.args.options.now.lines (TakesYet c.args.options.now.appends g.M.MessageReader.input_kind
+    g.D.Datagrams.modeled c.args.options.now.lines (TakesYet (HasMessages g.J.Source.left c.args.journal.now c.args.self.now.feeder.publisher.publisher.journal.messages 1) c.args.options.now.appends g.M.MessageReader.input_kind
     c.args.self.now.feeder.publisher.publisher.journal
     (entries_of_rest g.M.InputReader.unread g.K.Source.left g.M.MessageReader.entries c.args.self.now.input))
-    (MayClose c.args.options.now.end c.args.options.now.appends g.M.MessageReader.input_kind
+    (MayClose (HasMessages g.J.Source.left c.args.journal.now c.args.self.now.feeder.publisher.publisher.journal.messages 1) c.args.options.now.end c.args.options.now.appends g.M.MessageReader.input_kind
     c.args.self.now.feeder.publisher.publisher.journal
     (entries_of_rest g.M.InputReader.unread g.K.Source.left g.M.MessageReader.entries c.args.self.now.input))
     (grown life []) (TakesPart kind mid behind)
@@ -154,21 +155,21 @@ returns-clause-broken g c = λ life is.
     (state_of g.L.PortSet.state g.D.Datagrams.port c.compare.new.self)
     (state_of g.L.PortSet.state g.D.Datagrams.port c.publish_all-2.new.self)
     (λ journal part.
-    subst (λ (a : Bool). TakesYet a kind old known journal) (sym c.if-options.false)
+    subst (λ (a : Bool). TakesYet (HasMessages g.J.Source.left c.args.journal.now c.args.self.now.feeder.publisher.publisher.journal.messages 1) a kind old known journal) (sym c.if-options.false)
     (inr (
       number,
       (
         behind,
         (
-          subst (ComparesAll old 1 number known behind) all c.in_ok-number.ensures.compared,
+          (λ has. subst (ComparesAll old 1 number known behind) all (c.in_ok-number.ensures.compared has)),
           subst (λ (j : JournalState). TakesPart kind j behind journal) c.compare.ensures.journal part,
         ),
       ),
     )))
     (λ journal may. (
       may.0,
-      subst (λ (a : Bool). TakesInput a kind old (reopened old journal) known stop.Ended) (sym c.if-options.false)
-          (takes_behind kind old (reopened old journal) known behind number found stop.Ended all
+      subst (λ (a : Bool). TakesInput (HasMessages g.J.Source.left c.args.journal.now c.args.self.now.feeder.publisher.publisher.journal.messages 1) a kind old (reopened old journal) known stop.Ended) (sym c.if-options.false)
+          (takes_behind (HasMessages g.J.Source.left c.args.journal.now c.args.self.now.feeder.publisher.publisher.journal.messages 1) kind old (reopened old journal) known behind number found stop.Ended all
           c.in_ok-number.ensures.compared
           (subst (λ (j : JournalState). TakesAfter kind 0 j (reopened j journal) behind stop.Ended)
           c.compare.ensures.journal may.1)),
