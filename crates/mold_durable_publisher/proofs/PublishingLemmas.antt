@@ -1,18 +1,23 @@
 -- What each call leaves of a durable publisher whose session has a life.
-use Rattle.std.proofs.Common.{◌≡◌, ◌⊎◌, inl, inr, ⊎_elim, ℕ, ◌+◌, ◌≤◌, Bool, true, false, List, [], ◌∷◌, ◌++◌, length}
+use Rattle.std.proofs.Common.{◌≡◌, inl, inr, ⊎_elim, ℕ, ◌+◌, ◌≤◌, Bool, true, false, List, [], ◌∷◌, ◌++◌, length}
 use Rattle.std.proofs.Common.{Result, Ok, Err, refl, sym, ap, subst, ◌∙◌, append_assoc, append-nil, length-append, arith}
 use Rattle.std.proofs.lemmas.Bool.{false≢true}
 use Rattle.std.specs.Prelude.{OnOk, OnErr}
 use Rattle.mold_wire.specs.declared.session.Session.{Session}
-use Rattle.mold_session.specs.Journal.{JournalState}
-use Rattle.mold_session.specs.Publisher.{PublisherState, closed as closed_publisher, published, resumed_publisher}
+use Rattle.mold_session.specs.Journal.{IsJournal, JournalState, appended}
+use Rattle.mold_session.specs.Publisher.{IsPublisher, PublisherState, closed as closed_publisher, published}
+use Rattle.mold_session.specs.Publisher.{resumed_publisher}
 use Rattle.mold_session.specs.Records.{SpellsJournal3}
 use Rattle.mold_durable.specs.DurableJournal.{DurableState}
 use Rattle.mold_durable.specs.Life.{IsFileAround, Life, Lives, MayHappen, Moment, after as after_moment}
 use Rattle.mold_durable.specs.Life.Moment.{Append, Close, Commit}
 use Rattle.mold_durable.specs.Storage.{LeavesOnly}
 use Rattle.mold_durable.specs.declared.error.CommitError.{CommitError}
-use Rattle.mold_durable_publisher.specs.DurablePublisher.{Agrees, Publishes}
+use Rattle.mold_index.specs.Index.{IndexState}
+use Rattle.mold_index.specs.Layouts.{lengths_of}
+use Rattle.mold_indexed_file.specs.Stored.{IsOfJournal, StoredState}
+use Rattle.mold_durable_publisher.specs.DurablePublisher.{Agrees, HasSameMessages, Publishes}
+use Rattle.mold_durable_publisher.proofs.IndexLemmas.{AddsLength, index_more, is_of_journal, of_index, part_more}
 use Rattle.mold_durable_publisher.specs.Told.{IsLaterFile, IsLife, IsTold, IsTrueNow}
 use Rattle.mold_durable_publisher.specs.declared.durable_publisher.DurablePublisher.{DurablePublisher}
 use Rattle.mold_durable_publisher.proofs.ToldLemmas.{Keeps, later_around, life_goes_on, same_later, told_around, told_later}
@@ -36,23 +41,26 @@ left_waiting life waiting bytes later =
     record { messages = later.messages; closed = later.closed; file = later.file; later = later.later }
 
 -- A list of length 0 is empty.
-empty : (messages : List (List ℕ)) → length messages ≡ 0 → messages ≡ []
+pub empty : (messages : List (List ℕ)) → length messages ≡ 0 → messages ≡ []
 empty [] none = refl
 empty (message ∷ messages) none = absurd (omega (arith, none))
 
--- A durable publisher is its two parts.
-both_parts : {S : Type 0} → (one other : DurablePublisher S) → other.publisher ≡ one.publisher →
-    other.durable ≡ one.durable → other ≡ one
-both_parts {S} one other same_publisher same_durable =
+-- A durable publisher is its parts.
+pub all_parts : {S : Type 0} → (one other : DurablePublisher S) → other.publisher ≡ one.publisher →
+    other.durable ≡ one.durable → other.index ≡ one.index → other ≡ one
+all_parts {S} one other same_publisher same_durable same_index =
     ap (λ (p : PublisherState). record other { publisher = p }) same_publisher
-    ∙ ap (λ (d : DurableState S). record one { durable = d }) same_durable
+    ∙ ap (λ (d : DurableState S). record { publisher = one.publisher; durable = d; index = other.index }) same_durable
+    ∙ ap (λ (i : StoredState). record one { index = i }) same_index
 
 module _ {S : Type 0} (shows may_leave : S → List ℕ → Type 0) where
   resumed_publishes : (journal : JournalState) (durable : DurableState S) (limit : ℕ) (life : Life) →
       Lives shows may_leave durable life → length durable.waiting ≡ 0 → journal.messages ≡ life.committed →
       journal.session ≡ durable.session → journal.closed ≡ durable.closed → journal.max_message ≡ durable.max_message →
-      Publishes shows may_leave (record { publisher = resumed_publisher journal limit; durable = durable }) life
-  resumed_publishes journal durable limit life lives none same named ends longest =
+      (index : StoredState) → IsOfJournal index journal →
+      Publishes shows may_leave
+      (record { publisher = resumed_publisher journal limit; durable = durable; index = index }) life
+  resumed_publishes journal durable limit life lives none same named ends longest index stored =
       let nothing : life.waiting ≡ [] = empty life.waiting (ap (λ (ms : List (List ℕ)). length ms) lives.waiting ∙ none) in
       let is : IsLife life = record {
         few = omega (arith, lives.settled.listed.few, ap (λ (ms : List (List ℕ)). length ms) nothing);
@@ -72,15 +80,21 @@ module _ {S : Type 0} (shows may_leave : S → List ℕ → Type 0) where
         left = λ bytes now. settled_left life durable.session durable.closed bytes is (sym lives.session)
             (sym lives.closed) (lives.settled.kept.left bytes now);
         lives = λ intact. lives;
+        indexed = of_index index journal stored;
+        part = λ shown intact. stored.part;
       }
 
-  append_parts : (old : DurablePublisher S) (life : Life) (message : List ℕ) (durable : DurableState S) →
-      Publishes shows may_leave old life → MayHappen life (Append message) →
+  append_parts : (old : DurablePublisher S) (life : Life) (message : List ℕ) (durable : DurableState S)
+      (index : IndexState) → Publishes shows may_leave old life → MayHappen life (Append message) →
       Lives shows may_leave durable (after_moment life (Append message)) →
       durable ≡ record old.durable { waiting = old.durable.waiting ++ message ∷ [] } →
-      Publishes shows may_leave (record { publisher = published old.publisher message; durable = durable })
-      (after_moment life (Append message))
-  append_parts old life message durable is may lives done = record {
+      IsJournal (appended old.publisher.journal message) → AddsLength old.index.index index message →
+      Publishes shows may_leave (record {
+        publisher = published old.publisher message;
+        durable = durable;
+        index = record old.index { index = index };
+      }) (after_moment life (Append message))
+  append_parts old life message durable index is may lives done journaled adds = record {
     possible = life_goes_on life (Append message) is.possible may;
     named = is.named;
     held = ap (λ (ms : List (List ℕ)). ms ++ message ∷ []) is.held
@@ -95,27 +109,69 @@ module _ {S : Type 0} (shows may_leave : S → List ℕ → Type 0) where
     left = λ bytes now. left_waiting life (life.waiting ++ message ∷ []) bytes
         (is.left bytes (subst (λ (s : S). may_leave s bytes) (ap (λ (d : DurableState S). d.storage) done) now));
     lives = λ intact. lives;
+    indexed = index_more old.index index old.publisher.journal message is.indexed journaled adds;
+    part = λ shown intact. part_more old.index index old.publisher.journal message is.indexed
+        (is.part shown (sym (ap (λ (d : DurableState S). d.broken) done) ∙ intact)) journaled adds;
   }
 
   -- After an append.
-  pub append_publishes : (old : DurablePublisher S) (life : Life) (message : List ℕ) (publisher : PublisherState)
-      (durable : DurableState S) → Publishes shows may_leave old life → MayHappen life (Append message) →
-      Lives shows may_leave durable (after_moment life (Append message)) → publisher ≡ published old.publisher message →
-      durable ≡ record old.durable { waiting = old.durable.waiting ++ message ∷ [] } →
-      Publishes shows may_leave (record { publisher = publisher; durable = durable })
-      (after_moment life (Append message))
-  append_publishes old life message publisher durable is may lives made done =
-      subst (λ (p : PublisherState). Publishes shows may_leave (record { publisher = p; durable = durable })
-      (after_moment life (Append message))) (sym made) (append_parts old life message durable is may lives done)
+  pub append_publishes : (old new : DurablePublisher S) (life : Life) (message : List ℕ) →
+      Publishes shows may_leave old life → MayHappen life (Append message) →
+      Lives shows may_leave new.durable (after_moment life (Append message)) →
+      IsPublisher (published old.publisher message) → AddsLength old.index.index new.index.index message →
+      new ≡ record {
+        publisher = published old.publisher message;
+        durable = record old.durable { waiting = old.durable.waiting ++ message ∷ [] };
+        index = record old.index { index = new.index.index };
+      } → Publishes shows may_leave new (after_moment life (Append message))
+  append_publishes old new life message is may lives publisher adds done =
+      subst (λ (p : DurablePublisher S). Publishes shows may_leave p (after_moment life (Append message))) (sym done)
+      (append_parts old life message
+      (record old.durable { waiting = old.durable.waiting ++ message ∷ [] }) new.index.index is may
+      (subst (λ (p : DurablePublisher S). Lives shows may_leave p.durable (after_moment life (Append message))) done lives)
+      refl publisher.journaled adds)
 
-  pub resumed_from : (journal : JournalState) (durable : DurableState S) (limit : ℕ) (publisher : PublisherState)
-      (life : Life) → publisher ≡ resumed_publisher journal limit → Agrees journal durable →
-      Lives shows may_leave durable life → journal.messages ≡ life.committed →
-      Publishes shows may_leave (record { publisher = publisher; durable = durable }) life
-  resumed_from journal durable limit publisher life made agrees lives same =
-      subst (λ (p : PublisherState). Publishes shows may_leave (record { publisher = p; durable = durable }) life)
+  -- After an append that failed: only the index may have changed, and it has the same messages.
+  pub unappended_publishes : (old new : DurablePublisher S) (life : Life) (message : List ℕ) →
+      Publishes shows may_leave old life → new ≡ record old { index = new.index } →
+      HasSameMessages old.index new.index →
+      (IsOfJournal old.index old.publisher.journal → IsOfJournal new.index old.publisher.journal) →
+      Publishes shows may_leave new life
+  unappended_publishes old new life message is same messages part =
+      subst (λ (p : DurablePublisher S). Publishes shows may_leave p life) (sym same) (record {
+        possible = is.possible;
+        named = is.named;
+        held = is.held;
+        sent = is.sent;
+        closed = is.closed;
+        longest = is.longest;
+        durable_named = is.durable_named;
+        counted = is.counted;
+        waits = is.waits;
+        durable_closed = is.durable_closed;
+        left = is.left;
+        lives = is.lives;
+        indexed = record {
+          named = messages.named ∙ is.indexed.named;
+          limited = messages.limited ∙ is.indexed.limited;
+          journaled = is.indexed.journaled;
+          indexes = messages.indexes (lengths_of old.publisher.journal.messages) is.indexed.indexes;
+        };
+        part = λ shown intact.
+            (part (is_of_journal old.index old.publisher.journal is.indexed (is.part shown intact))).part;
+      })
+
+  pub resumed_from : (journal : JournalState) (durable : DurableState S) (index : StoredState) (limit : ℕ)
+      (publisher : PublisherState) (life : Life) → publisher ≡ resumed_publisher journal limit →
+      Agrees journal durable → Lives shows may_leave durable life → IsOfJournal index journal →
+      journal.messages ≡ life.committed →
+      Publishes shows may_leave (record { publisher = publisher; durable = durable; index = index }) life
+  resumed_from journal durable index limit publisher life made agrees lives stored same =
+      subst (λ (p : PublisherState).
+      Publishes shows may_leave (record { publisher = p; durable = durable; index = index }) life)
       (sym made)
-      (resumed_publishes journal durable limit life lives agrees.none same agrees.session agrees.closed agrees.longest)
+      (resumed_publishes journal durable limit life lives agrees.none same agrees.session agrees.closed agrees.longest
+      index stored)
 
   -- The durable journal after a commit.
   abbrev committed_durable : DurablePublisher S → S → ℕ → DurableState S
@@ -148,6 +204,8 @@ module _ {S : Type 0} (shows may_leave : S → List ℕ → Type 0) where
         left = λ bytes now. settled_left (after_moment life Commit) old.durable.session old.durable.closed bytes lasts
             is.durable_named is.durable_closed (lives.settled.kept.left bytes now);
         lives = λ intact. lives;
+        indexed = is.indexed;
+        part = is.part;
       }
 
   pub commit_on_ok : (old new : DurablePublisher S) (life : Life) (result : Result (Unit {0}) CommitError) →
@@ -155,15 +213,16 @@ module _ {S : Type 0} (shows may_leave : S → List ℕ → Type 0) where
       ((l : Life) → Lives shows may_leave old.durable l →
       OnOk result (Lives shows may_leave new.durable (after_moment l Commit))) →
       OnOk result (new.durable ≡ committed_durable old new.durable.storage new.durable.end) →
-      OnOk result (old.durable.broken ≡ false) → new.publisher ≡ old.publisher →
+      OnOk result (old.durable.broken ≡ false) → new.publisher ≡ old.publisher → new.index ≡ old.index →
       OnOk result (Publishes shows may_leave new (after_moment life Commit))
-  commit_on_ok old new life (Ok one) is acknowledged done intact same =
+  commit_on_ok old new life (Ok one) is acknowledged done intact same same_index =
       subst (λ (p : DurablePublisher S). Publishes shows may_leave p (after_moment life Commit))
-      (sym (both_parts (record old { durable = committed_durable old new.durable.storage new.durable.end }) new same done))
+      (sym (all_parts (record old { durable = committed_durable old new.durable.storage new.durable.end }) new same done
+      same_index))
       (commit_publishes old life new.durable.storage new.durable.end is
       (subst (λ (d : DurableState S). Lives shows may_leave d (after_moment life Commit)) done
       (acknowledged life (is.lives intact))))
-  commit_on_ok old new life (Err error) is acknowledged done intact same = tt
+  commit_on_ok old new life (Err error) is acknowledged done intact same same_index = tt
 
   -- The durable journal after the session was closed.
   abbrev closed_durable : DurablePublisher S → S → ℕ → DurableState S
@@ -179,7 +238,8 @@ module _ {S : Type 0} (shows may_leave : S → List ℕ → Type 0) where
   pub close_publishes : (old : DurablePublisher S) (durable : DurableState S) (life : Life) →
       Publishes shows may_leave old life → Lives shows may_leave durable (after_moment life Close) →
       durable ≡ closed_durable old durable.storage durable.end →
-      Publishes shows may_leave (record { publisher = closed_publisher old.publisher; durable = durable })
+      Publishes shows may_leave
+      (record { publisher = closed_publisher old.publisher; durable = durable; index = old.index })
       (after_moment life Close)
   close_publishes old durable life is lives done =
       let all = length-append life.committed life.waiting in
@@ -200,6 +260,13 @@ module _ {S : Type 0} (shows may_leave : S → List ℕ → Type 0) where
         left = λ bytes now. settled_left (after_moment life Close) durable.session durable.closed bytes lasts named ends
             (lives.settled.kept.left bytes now);
         lives = λ intact. lives;
+        indexed = record {
+          named = is.indexed.named;
+          limited = is.indexed.limited;
+          journaled = is.indexed.journaled;
+          indexes = is.indexed.indexes;
+        };
+        part = λ shown intact. is.part shown (sym (ap (λ (d : DurableState S). d.broken) done) ∙ intact);
       }
 
   module _ (moment : S → ℕ) (left_since : S → ℕ → List ℕ → Type 0)
@@ -225,21 +292,23 @@ module _ {S : Type 0} (shows may_leave : S → List ℕ → Type 0) where
         left = λ bytes now. later_around life what bytes is.possible
             (run.each bytes (counts_now storage (moment old.durable.storage) bytes run.later now));
         lives = λ now. absurd (false≢true (sym now));
+        indexed = is.indexed;
+        part = λ shown now. absurd (false≢true (sym now));
       }
 
       pub failed_publishes : (broken : Bool) (new : DurablePublisher S) → old.durable.broken ≡ broken →
           (Lives shows may_leave old.durable life →
           LeavesOnly moment left_since old.durable.storage new.durable.storage (IsFileAround life what)) →
           (old.durable.broken ≡ true → new.durable ≡ old.durable) → new.publisher ≡ old.publisher →
-          new.durable ≡ record old.durable { storage = new.durable.storage; broken = true } →
+          new.index ≡ old.index → new.durable ≡ record old.durable { storage = new.durable.storage; broken = true } →
           Publishes shows may_leave new life
-      failed_publishes true new was run unwritten same after =
+      failed_publishes true new was run unwritten same same_index after =
           subst (λ (p : DurablePublisher S). Publishes shows may_leave p life)
-          (sym (both_parts old new same (unwritten was))) is
-      failed_publishes false new was run unwritten same after =
+          (sym (all_parts old new same (unwritten was) same_index)) is
+      failed_publishes false new was run unwritten same same_index after =
           subst (λ (p : DurablePublisher S). Publishes shows may_leave p life)
-          (sym (both_parts (record old { durable = record old.durable { storage = new.durable.storage; broken = true } })
-          new same after))
+          (sym (all_parts (record old { durable = record old.durable { storage = new.durable.storage; broken = true } })
+          new same after same_index))
           (failed_intact new.durable.storage was (run (is.lives was)))
 
       -- A call that does not use the storage.
@@ -287,8 +356,9 @@ module _ {S : Type 0} (shows may_leave : S → List ℕ → Type 0) where
           (Lives shows may_leave old.durable life →
           LeavesOnly moment left_since old.durable.storage new.durable.storage (IsFileAround life what)) →
           (old.durable.broken ≡ true → new.durable ≡ old.durable) → new.publisher ≡ old.publisher →
+          new.index ≡ old.index →
           OnErr result (new.durable ≡ record old.durable { storage = new.durable.storage; broken = true }) →
           OnErr result (Publishes shows may_leave new life)
-      kept_on_err new (Ok one) run unwritten same after = tt
-      kept_on_err new (Err error) run unwritten same after =
-          failed_publishes old.durable.broken new refl run unwritten same after
+      kept_on_err new (Ok one) run unwritten same same_index after = tt
+      kept_on_err new (Err error) run unwritten same same_index after =
+          failed_publishes old.durable.broken new refl run unwritten same same_index after

@@ -1,55 +1,69 @@
 //! The durable publisher: a publisher and the durable journal of its session.
 
-ghost use Rattle.std.specs.Prelude.{◌≡◌, ◌↔◌, ◌⊎◌, ◌+◌, ◌-◌, ◌++◌, ◌∷◌, [], true, false, ℕ, List, length};
+ghost use Rattle.std.specs.Prelude.{◌≡◌, ◌≢◌, ◌↔◌, ◌⊎◌, ◌+◌, ◌-◌, ◌≤◌, ◌++◌, ◌∷◌, [], true, false, ℕ, List, length};
 ghost use Rattle.std.specs.Prelude.{Err, None, Some, IfOk, IfErr, IfSome, IfNone, IsOk, IsTrue, OnOk, OnErr};
 ghost use Rattle.std.specs.List.{AllByRecursion};
 ghost use Rattle.std.specs.Option.{option_copied};
 ghost use Rattle.mold_wire.specs.Packer.{IsLimit};
 ghost use Rattle.mold_wire.specs.declared.limits.TheConstants.{MESSAGE_OVERHEAD};
-ghost use Rattle.mold_session.specs.Journal.{IsWithin as IsWithinLength, append_refusal};
-ghost use Rattle.mold_session.specs.Publisher.{Lends, MayResume, closed as closed_publisher, next_end};
+ghost use Rattle.mold_session.specs.Journal.{IsJournal, IsWithin as IsWithinLength, JournalState, append_refusal};
+ghost use Rattle.mold_session.specs.Journal.{appended};
+ghost use Rattle.mold_session.specs.Loading.{CountsLoad};
+ghost use Rattle.mold_session.specs.Publisher.{IsPublisher, Lends, MayResume, closed as closed_publisher, next_end};
 ghost use Rattle.mold_session.specs.Publisher.{next_heartbeat, published, resumed_publisher};
+ghost use Rattle.mold_session.specs.Serving.{HasBegunNext, HasPackedNext, MayPack};
+ghost use Rattle.mold_session.specs.declared.error.FileError.{FileError};
 ghost use Rattle.mold_durable.specs.DurableJournal.{CountsCommit};
 ghost use Rattle.mold_durable.specs.Life.{IsFileAround, IsFileOf, Life, Lives, MayHappen, after as after_moment};
 ghost use Rattle.mold_durable.specs.Life.Moment.{Append, Close, Commit, Crash};
 ghost use Rattle.mold_durable.specs.Storage.{IsWithin, LeavesOnly};
 ghost use Rattle.mold_durable.specs.declared.error.CommitError.{CommitError};
-ghost use Rattle.mold_durable_publisher.specs.DurablePublisher.{Agrees, IsAppendFault, IsOfDevice, Publishes};
+ghost use Rattle.mold_index.specs.Index.{Indexes};
+ghost use Rattle.mold_index.specs.declared.index.TheConstants.{MAX_END};
+ghost use Rattle.mold_indexed_file.specs.Stored.{IsOfJournal};
+ghost use Rattle.mold_durable_publisher.specs.DurablePublisher.{Agrees, HasSameMessages, IsAppendFault, IsOfDevice};
+ghost use Rattle.mold_durable_publisher.specs.DurablePublisher.{IsStoreFault, Publishes, ShowsJournal, WasServed};
 ghost use Rattle.mold_durable_publisher.specs.DurablePublisher.{after_committed, next_committed};
 ghost use Rattle.mold_durable_publisher.specs.Told.{IsTold, IsTrueNow};
+ghost use Rattle.mold_durable_publisher.specs.declared.durable_publisher.DurablePublisher.{DurablePublisher};
 ghost use Rattle.mold_durable_publisher.specs.declared.error.CloseError.{CloseError};
 ghost use Rattle.mold_durable_publisher.specs.declared.error.ResumeError.{ResumeError};
 ghost use Rattle.mold_durable_publisher.specs.declared.error.StartError.{StartError};
 
 use crate::error::{CloseError, ResumeError, StartError};
 use mold_durable::{CommitError, DurableJournal, Storage, WaitingError};
+use mold_indexed_file::StorageIndex;
 use mold_session::laws::one_file_law;
-use mold_session::{Journal, Publisher, PublisherError, Source, Unsent};
+use mold_session::{AppendError, FileError, Plan, PublisherError, ServedJournal, Source, Unsent};
+use mold_stored_journal::StoredJournal;
+use mold_unsent::{CountedJournal, UnsentPublisher};
 use mold_wire::laws::true_stays_law;
-use mold_wire::{MAX_LIMIT, MESSAGE_OVERHEAD, MIN_LIMIT};
+use mold_wire::{MAX_LIMIT, MESSAGE_OVERHEAD, MIN_LIMIT, Packer, Session};
 use std::alloc::Global;
 
 /// Publishes the messages of a session whose journal is durable. It sends a message only after it was committed. So
 /// what a datagram states is true of every file that a crash leaves, at the moment when it is returned and later.
 ///
-/// It holds all messages of the session in memory, for the server that responds to requests, and those that wait once
-/// more, as the durable journal keeps them. A returned datagram is valid until the next call.
+/// It holds the unsent messages in memory, those that wait once more, as the durable journal keeps them, and the index
+/// of the file. A server responds from the file: see `ServedJournal`. A returned datagram is valid until the next call.
 #[derive(Drop)]
 pub struct DurablePublisher<S> {
     // The messages that are committed or wait.
-    publisher: Publisher,
+    publisher: UnsentPublisher,
     durable: DurableJournal<S>,
+    // Where each of these messages is in the file, or will be.
+    index: StorageIndex,
 }
 
 // Whether no message waits in the durable journal, and both journals have the same session, number of messages, largest
 // length and end.
-fn is_same_journal<S: Storage>(journal: &Journal, durable: &DurableJournal<S>) -> bool
+fn is_same_journal<S: Storage>(journal: &CountedJournal, durable: &DurableJournal<S>) -> bool
     ensures { IsTrue result ↔ Agrees journal.now durable.now }
 {
     journal.session() == durable.session()
         && journal.max_message() == durable.max_message()
         && journal.is_closed() == durable.is_closed()
-        && journal.next() - 1 == durable.committed()
+        && journal.count() == durable.committed()
         && durable.next() - 1 == durable.committed()
 }
 
@@ -58,42 +72,51 @@ impl<S: Storage + Drop> DurablePublisher<S> {
     ghost use Rattle.std.specs.Io.BufRead.{Rests};
     ghost use Rattle.mold_durable_publisher.specs.contracts.durable_publisher.DurablePublisher.{the_row};
 
-    /// Makes a publisher of a durable journal. `journal` has its messages in memory: none if the durable journal was
-    /// created, otherwise those that `Journal::load` returns for the same file. All of them count as sent. It allocates
-    /// the buffer of `limit` bytes once.
+    /// Makes a publisher of a durable journal. `stored` has the number of its messages and their index: it is new if
+    /// the durable journal was created, otherwise what `StoredJournal::load` returns for the same file. All messages
+    /// count as sent. It allocates the buffer of `limit` bytes once.
     ///
     /// It compares the numbers of messages, but not the messages.
     pub fn resume(
         alloc: Global,
-        journal: Journal,
+        stored: StoredJournal,
         durable: DurableJournal<S>,
         limit: usize,
     ) -> Result<DurablePublisher<S>, ResumeError>
-        ensures made { IfOk result (λ publisher.
-            publisher ≡ record { publisher = resumed_publisher journal limit; durable = durable }) }
-        ensures ok { IsOk result → Agrees journal durable × MayResume journal limit }
-        ensures differs { (result ≡ Err ResumeError.Differs) ↔ (¬ Agrees journal durable) }
-        ensures limit { result ≡ Err ResumeError.Limit → ¬ MayResume journal limit }
-        ensures memory { result ≡ Err ResumeError.Memory → MayResume journal limit }
+        ensures made { IfOk result (λ publisher. publisher ≡ record {
+          publisher = resumed_publisher stored.journal limit;
+          durable = durable;
+          index = stored.index;
+        }) }
+        ensures ok { IsOk result → Agrees stored.journal durable × MayResume stored.journal limit }
+        ensures differs { (result ≡ Err ResumeError.Differs) ↔ (¬ Agrees stored.journal durable) }
+        ensures limit { result ≡ Err ResumeError.Limit → ¬ MayResume stored.journal limit }
+        ensures memory { result ≡ Err ResumeError.Memory → MayResume stored.journal limit }
         ensures resumed { (life : Life) → durable.broken ≡ false → Lives S.shows S.may_leave durable life →
-            journal.messages ≡ life.committed → IfOk result (λ publisher.
-            Publishes S.shows S.may_leave publisher life) }
+            IsOfJournal stored.index stored.journal → stored.journal.messages ≡ life.committed →
+            IfOk result (λ publisher. Publishes S.shows S.may_leave publisher life) }
     {
+        let StoredJournal { journal, index } = stored;
         if !is_same_journal(&journal, &durable) {
             return Err(ResumeError::Differs);
         }
-        match Publisher::resume(alloc, journal, limit) {
-            Ok(publisher) => Ok(DurablePublisher { publisher, durable }),
+        match UnsentPublisher::resume(alloc, journal, limit) {
+            Ok(publisher) => Ok(DurablePublisher {
+                publisher,
+                durable,
+                index,
+            }),
             Err(PublisherError::Limit) => Err(ResumeError::Limit),
             Err(PublisherError::Memory) => Err(ResumeError::Memory),
         }
     }
 
     /// Opens the journal that a storage has, and makes a publisher of it, whose datagrams have at most `limit` bytes. It
-    /// reads the file twice: `source`, for the messages in memory, and `storage`, which it syncs. All messages of the
-    /// file count as sent.
+    /// reads the file twice: `source`, for the index, and `storage`, which it syncs. All messages of the file count as
+    /// sent.
     ///
-    /// After an error the storage is dropped.
+    /// After an error the storage is dropped. `Load` has the errors of `StoredJournal::load`: `Full` for a file that is
+    /// longer than 9,223,372,036,854,775,807 bytes.
     pub fn open<K: Source>(
         alloc: Global,
         limit: usize,
@@ -104,7 +127,7 @@ impl<S: Storage + Drop> DurablePublisher<S> {
             S.shows storage bytes → IsFileOf life bytes → IfOk result (λ publisher.
             Publishes S.shows S.may_leave publisher (after_moment life Crash)) }
         ensures accepted { (life : Life) (bytes : List ℕ) → K.left source.old ≡ Some bytes →
-            S.shows storage bytes → IsFileOf life bytes → IsLimit limit →
+            S.shows storage bytes → IsFileOf life bytes → IsLimit limit → length bytes ≤ MAX_END →
             AllByRecursion (IsWithinLength (limit - MESSAGE_OVERHEAD)) life.committed → IfErr result IsOfDevice }
         ensures limit { (¬ IsLimit limit) → result ≡ Err StartError.Limit }
         ensures within { result ≡ Err StartError.Limit → ¬ IsLimit limit }
@@ -118,11 +141,11 @@ impl<S: Storage + Drop> DurablePublisher<S> {
             Ok(durable) => durable,
             Err(fault) => return Err(StartError::Open(fault.error)),
         };
-        let journal = match Journal::load(alloc, max_message, source) {
-            Ok(journal) => journal,
+        let stored = match StoredJournal::load(alloc, max_message, source) {
+            Ok(stored) => stored,
             Err(error) => return Err(StartError::Load(error)),
         };
-        match DurablePublisher::resume(alloc, journal, durable, limit) {
+        match DurablePublisher::resume(alloc, stored, durable, limit) {
             Ok(publisher) => Ok(publisher),
             Err(ResumeError::Differs) => Err(StartError::Differs),
             Err(ResumeError::Limit) => Err(StartError::Limit),
@@ -130,17 +153,40 @@ impl<S: Storage + Drop> DurablePublisher<S> {
         }
     }
 
-    /// Returns the journal in memory. It has the committed messages and those that wait. A server may respond with the
-    /// messages that were sent: those below `journal().next() - unsent()`. `Server::plan_below` plans such a response.
-    pub fn journal(&self) -> &Journal
-        ensures { result.now ≡ self.now.publisher.journal }
+    /// Returns the session that the messages belong to.
+    pub fn session(&self) -> Session
+        ensures { result ≡ self.now.publisher.journal.session }
     {
-        self.publisher.journal()
+        self.publisher.session()
+    }
+
+    /// Returns the largest length of a message, in bytes.
+    pub fn max_message(&self) -> u16
+        ensures { result ≡ self.now.publisher.journal.max_message }
+    {
+        self.publisher.max_message()
+    }
+
+    /// Returns true if the session is closed.
+    pub fn is_closed(&self) -> bool
+        ensures { result ≡ self.now.publisher.journal.closed }
+    {
+        self.publisher.is_closed()
+    }
+
+    /// Returns the number of messages that are committed or wait. A server may respond with those that were sent: the
+    /// messages with numbers below `count() + 1 - unsent()`. `Server::plan_from` plans such a response.
+    pub fn count(&self) -> u64
+        ensures value { result ≡ length self.now.publisher.journal.messages }
+        ensures publisher { IsPublisher self.now.publisher }
+    {
+        self.publisher.count()
     }
 
     /// Returns the number of unsent messages: those that were not put into a datagram yet, whether committed or not.
     pub fn unsent(&self) -> u64
-        ensures { result ≡ length self.now.publisher.journal.messages - self.now.publisher.sent }
+        ensures value { result ≡ length self.now.publisher.journal.messages - self.now.publisher.sent }
+        ensures publisher { IsPublisher self.now.publisher }
     {
         self.publisher.unsent()
     }
@@ -152,12 +198,14 @@ impl<S: Storage + Drop> DurablePublisher<S> {
         let DurablePublisher {
             publisher: _,
             durable,
+            index: _,
         } = self;
         durable.into_storage()
     }
 
     /// Appends a message to those that wait to be committed, and returns its sequence number. It does not use the
-    /// storage. After an error the publisher is unchanged; `Append(Memory)` is returned only if an allocation failed.
+    /// storage. After an error the publisher is unchanged, except for the buffer of its index. `Append(Memory)` is
+    /// returned only if an allocation failed, or if the file would be longer than 9,223,372,036,854,775,807 bytes.
     pub fn append(&mut self, message: &[u8]) -> Result<u64, WaitingError>
         ensures number { IfOk result (λ number.
             number ≡ length self.old.publisher.journal.messages + 1) }
@@ -166,24 +214,65 @@ impl<S: Storage + Drop> DurablePublisher<S> {
         ensures added { OnOk result (self.new ≡ record {
           publisher = published self.old.publisher message.now;
           durable = record self.old.durable { waiting = self.old.durable.waiting ++ message.now ∷ [] };
+          index = record self.old.index { index = self.new.index.index };
         }) }
+        ensures indexed { (lengths : List ℕ) → Indexes self.old.index.index lengths →
+            OnOk result (Indexes self.new.index.index (lengths ++ length message.now ∷ [])) }
         ensures appended { (life : Life) → Publishes S.shows S.may_leave self.old life → OnOk result
             (MayHappen life (Append message.now)
             × Publishes S.shows S.may_leave self.new (after_moment life (Append message.now))) }
         ensures refused { IfErr result (IsAppendFault self.old message.now) }
-        ensures same { OnErr result (self.new ≡ self.old) }
+        ensures same { OnErr result (self.new ≡ record self.old { index = self.new.index }) }
+        ensures same_index { OnErr result (HasSameMessages self.old.index self.new.index) }
+        ensures kept { (life : Life) → Publishes S.shows S.may_leave self.old life →
+            OnErr result (Publishes S.shows S.may_leave self.new life) }
     {
         // For the prover: it states that the publisher has not sent more messages than it has.
         let _unsent = self.publisher.unsent();
         match self.publisher.publish(message) {
-            Ok(number) => match self.durable.append(message) {
-                Ok(_) => Ok(number),
+            Ok(number) => match self.append_published(message) {
+                Ok(()) => Ok(number),
                 Err(error) => {
                     self.publisher.retract();
                     Err(error)
                 }
             },
             Err(error) => Err(WaitingError::Append(error)),
+        }
+    }
+
+    // Appends a message that was just published to the index and to the durable journal.
+    fn append_published(&mut self, message: &[u8]) -> Result<(), WaitingError>
+        requires { length message.now ≤ self.old.publisher.journal.max_message }
+        ensures added { OnOk result (self.new ≡ record self.old {
+          durable = record self.old.durable { waiting = self.old.durable.waiting ++ message.now ∷ [] };
+          index = record self.old.index { index = self.new.index.index };
+        }) }
+        ensures indexed { (lengths : List ℕ) → Indexes self.old.index.index lengths →
+            OnOk result (Indexes self.new.index.index (lengths ++ length message.now ∷ [])) }
+        ensures intact { OnOk result (self.old.durable.broken ≡ false) }
+        ensures appended { (life : Life) → Lives S.shows S.may_leave self.old.durable life → OnOk result
+            (MayHappen life (Append message.now)
+            × Lives S.shows S.may_leave self.new.durable (after_moment life (Append message.now))) }
+        ensures refused { IfErr result (IsStoreFault self.old.durable message.now) }
+        ensures same { OnErr result (self.new ≡ record self.old { index = self.new.index }) }
+        ensures same_index { OnErr result (HasSameMessages self.old.index self.new.index) }
+        ensures part { (journal : JournalState) → IsOfJournal self.old.index journal →
+            IsJournal (appended journal message.now) → OnErr result (IsOfJournal self.new.index journal) }
+        ensures publisher { IsPublisher self.old.publisher }
+    {
+        // For the prover: it states that the message's length fits 16 bits.
+        let _most = self.publisher.count();
+        let len = message.len() as u16;
+        let Ok(()) = self.index.push(len) else {
+            return Err(WaitingError::Append(AppendError::Memory));
+        };
+        match self.durable.append(message) {
+            Ok(_) => Ok(()),
+            Err(error) => {
+                self.index.retract(len);
+                Err(error)
+            }
         }
     }
 
@@ -246,9 +335,12 @@ impl<S: Storage + Drop> DurablePublisher<S> {
             closed = true;
             waiting = [];
           };
+          index = self.old.index;
         }) }
         ensures unsent { (count : ℕ) → result ≡ Err (CloseError.Unsent (record { count = count })) →
             (self.new ≡ self.old) × (count ≡ length self.old.publisher.journal.messages - self.old.publisher.sent) }
+        ensures unfailed { OnOk result
+            (S.failed self.new.durable.storage ≡ S.failed self.old.durable.storage) }
     {
         true_stays_law();
         let count = self.publisher.unsent();
@@ -315,5 +407,67 @@ impl<S: Storage + Drop> DurablePublisher<S> {
     {
         true_stays_law();
         self.publisher.end()
+    }
+}
+
+impl<S: Storage + Drop> ServedJournal for DurablePublisher<S> {
+    ghost shows = { λ p journal. ShowsJournal S.shows S.may_leave p journal };
+
+    ghost stays = { λ earlier p. WasServed S.shows S.may_leave S.moment S.left_since earlier p };
+
+    ghost failed = { λ p. S.failed p.durable.storage };
+
+    fn session(&self) -> Session
+        ensures { result ≡ self.now.publisher.journal.session }
+    {
+        self.publisher.session()
+    }
+
+    fn max_message(&self) -> u16
+        ensures { result ≡ self.now.publisher.journal.max_message }
+    {
+        self.publisher.max_message()
+    }
+
+    fn next(&self) -> u64
+        ensures value { result ≡ length self.now.publisher.journal.messages + 1 }
+        ensures journal { IsJournal self.now.publisher.journal }
+    {
+        self.count() + 1
+    }
+
+    /// Packs the next datagram of a plan and returns the number of its messages. It reads the storage as
+    /// `StorageIndex::pack_from`, and returns the same errors.
+    ///
+    /// While a message waits to be committed, it reads nothing, and returns `Damaged` with the number of the plan's
+    /// next message.
+    fn pack(&mut self, packer: &mut Packer, plan: &Plan) -> Result<u64, FileError>
+        ensures packed { IfOk result (λ count. (journal : JournalState) →
+            ShowsJournal S.shows S.may_leave self.old journal → MayPack journal packer.old.limit plan.now →
+            HasPackedNext packer.old packer.new journal plan.now count) }
+        ensures begun { IfOk result (HasBegunNext packer.old packer.new plan.now) }
+        ensures limit { packer.new.limit ≡ packer.old.limit }
+        ensures refused { IfErr result (λ error. (journal : JournalState) →
+            ShowsJournal S.shows S.may_leave self.old journal → MayPack journal packer.old.limit plan.now →
+            error ≡ FileError.Read) }
+        ensures waits { length self.old.durable.waiting ≢ 0 →
+            (result ≡ Err (FileError.Damaged plan.now.from)) × (self.new ≡ self.old) }
+        ensures shown { (journal : JournalState) → ShowsJournal S.shows S.may_leave self.old journal →
+            ShowsJournal S.shows S.may_leave self.new journal }
+        ensures served { WasServed S.shows S.may_leave S.moment S.left_since self.old self.new }
+        ensures stays { (earlier : DurablePublisher S) →
+            WasServed S.shows S.may_leave S.moment S.left_since earlier self.old →
+            WasServed S.shows S.may_leave S.moment S.left_since earlier self.new }
+        ensures failures { CountsLoad (S.failed self.old.durable.storage) (S.failed self.new.durable.storage) result }
+    {
+        if !self.all_committed() {
+            return Err(FileError::Damaged {
+                number: plan.from(),
+            });
+        }
+        // For the prover: it states that the publisher's journal is one.
+        let _count = self.publisher.count();
+        self.index
+            .pack_from(&mut self.durable.storage, packer, plan)
     }
 }

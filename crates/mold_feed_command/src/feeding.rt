@@ -12,7 +12,8 @@ use mold_durable::{FileStorage, create_file, open_file, sync_folder};
 use mold_durable_publisher::{DurablePublisher, StartError};
 use mold_feeder::{Feed, Feeder, JournalMessages, PieceInput, PieceReader, Requests, feed_loop};
 use mold_input::{HexLines, MessageBlocks};
-use mold_session::{FileError, Journal, Server};
+use mold_session::{FileError, Server};
+use mold_stored_journal::StoredJournal;
 use mold_wire::Session;
 use mold_wiring::{ProgramFault, flushed, longest_message, socket_address};
 use mold_words::FeedOrder;
@@ -109,7 +110,7 @@ fn feed_input(
     ports: Ports,
     resumed: bool,
 ) -> Result<u8, CommandFault> {
-    let longest = publisher.journal().max_message();
+    let longest = publisher.max_message();
     // The numbers of an order are in range, so an error means out of memory.
     let Ok(server) = Server::new(rt.alloc(), order.limit, longest, order.burst) else {
         return Err(CommandFault::Memory);
@@ -138,7 +139,7 @@ fn feed(
     }
 }
 
-// Opens the session of the file in this storage. The file is opened a second time, for the messages in memory.
+// Opens the session of the file in this storage. The file is opened a second time, for the index.
 fn open_publisher(
     rt: &HostRuntime,
     order: &FeedOrder,
@@ -154,13 +155,13 @@ fn open_publisher(
 fn refuse_other<K: Sink>(
     alloc: Global,
     order: &FeedOrder,
-    journal: &Journal,
+    publisher: &DurablePublisher<FileStorage>,
     sink: &mut K,
 ) -> Result<Option<u8>, CommandFault> {
-    if journal.session() != Session(order.session) {
+    if publisher.session() != Session(order.session) {
         return Ok(Some(refuse(alloc, b"WrongSession", sink)?));
     }
-    if journal.is_closed() && order.append {
+    if publisher.is_closed() && order.append {
         return Ok(Some(refuse(alloc, b"Closed", sink)?));
     }
     Ok(None)
@@ -173,7 +174,7 @@ fn resume(rt: &HostRuntime, order: &FeedOrder, storage: FileStorage) -> Result<u
         Ok(publisher) => publisher,
         Err(error) => return Ok(refuse_start(rt.alloc(), error, &mut sink)?),
     };
-    if let Some(status) = refuse_other(rt.alloc(), order, publisher.journal(), &mut sink)? {
+    if let Some(status) = refuse_other(rt.alloc(), order, &publisher, &mut sink)? {
         return Ok(status);
     }
     let ports = open_ports(rt, order)?;
@@ -192,9 +193,11 @@ fn begin(rt: &HostRuntime, order: &FeedOrder) -> Result<u8, ProgramFault> {
     let Some(durable) = created else {
         return Err(ProgramFault::Locked);
     };
-    let journal = Journal::new(alloc, session, longest);
     // The journals agree, and the limit of an order is in range, so an error means out of memory.
-    match DurablePublisher::resume(alloc, journal, durable, order.limit) {
+    let Ok(stored) = StoredJournal::new(alloc, session, longest) else {
+        return Err(ProgramFault::Command(CommandFault::Memory));
+    };
+    match DurablePublisher::resume(alloc, stored, durable, order.limit) {
         Ok(publisher) => feed(rt, order, publisher, ports, false),
         Err(_) => Err(ProgramFault::Command(CommandFault::Memory)),
     }

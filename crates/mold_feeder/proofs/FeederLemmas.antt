@@ -115,6 +115,8 @@ module _ {S : Type 0} (shows may_leave : S → List ℕ → Type 0) (publisher :
     durable_closed = is.durable_closed;
     left = is.left;
     lives = is.lives;
+    indexed = is.indexed;
+    part = is.part;
   }
 
   after_cases : (count : ℕ) → length publisher.durable.waiting ≡ count →

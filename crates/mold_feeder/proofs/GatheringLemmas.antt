@@ -20,7 +20,8 @@ use Rattle.mold_session.specs.Publisher.{PublisherState}
 use Rattle.mold_session.specs.Records.{SpellsJournal3}
 use Rattle.mold_wire.specs.declared.session.Session.{Session}
 use Rattle.mold_feeder.specs.Feeder.{IsFileAtEnd}
-use Rattle.mold_feeder.specs.Gathering.{Gathers, Grows, IsFileUpTo, JoinsWaiting, TakesGroup, filled_for, with_waiting}
+use Rattle.mold_feeder.specs.Gathering.{Gathers, Grows, IsFileUpTo, JoinsNothing, JoinsWaiting, TakesGroup}
+use Rattle.mold_feeder.specs.Gathering.{filled_for, with_waiting}
 use Rattle.mold_feeder.specs.declared.gathered.Gathered.{Gathered}
 use Rattle.mold_feeder.specs.declared.gathered.Gathered.TheVariants.{Full, End, Refused}
 
@@ -65,15 +66,15 @@ module _ {S : Type 0} (shows may_leave : S → List ℕ → Type 0) (kind : Inpu
 
   -- The messages so far.
   pub grown_so_far : (most : ℕ) (old mid new : DurablePublisher S) (known left : Option (List Entry)) →
-      SoFar most old mid known left → new ≡ mid → Grows kind (with_kind kind known) old new
-  grown_so_far most old mid new known left so_far same =
-      subst (Grows kind (with_kind kind known) old) (sym same) (record {
-        messages = so_far.messages;
-        added = so_far.added;
-        left = left;
-        filled = filled_for Full;
-        input = so_far.input;
-      })
+      SoFar most old mid known left → new.publisher ≡ mid.publisher → Grows kind (with_kind kind known) old new
+  grown_so_far most old mid new known left so_far same = record {
+    messages = so_far.messages;
+    added = ap (λ (p : PublisherState). p.journal.messages) same ∙ so_far.added;
+    left = left;
+    filled = filled_for Full;
+    input = subst (λ (p : PublisherState). InputPublished old.publisher.journal p.journal (with_kind kind known)
+        (with_kind kind left) (filled_for Full)) (sym same) so_far.input;
+  }
 
   -- The group ends here.
   stopped : (most all : ℕ) (old now : DurablePublisher S) (known left behind : Option (List Entry)) (gathered : Gathered) →
@@ -111,16 +112,25 @@ module _ {S : Type 0} (shows may_leave : S → List ℕ → Type 0) (kind : Inpu
 
   -- A message is refused.
   pub gathered_refused : (most all : ℕ) (old mid new : DurablePublisher S) (known left behind : Option (List Entry))
-      (read : List ℕ) (refusal : MessageRefusal) → most ≤ all → SoFar most old mid known left →
-      GivesNext left behind next.Message read →
-      (entry_outcome kind mid.publisher.journal (Ok read) ≡ Err refusal) × (new ≡ mid) →
+      (read : List ℕ) (refusal : MessageRefusal) → most ≤ all →
+      (so_far : SoFar most old mid known left) → GivesNext left behind next.Message read →
+      (entry_outcome kind mid.publisher.journal (Ok read) ≡ Err refusal)
+      × JoinsNothing shows may_leave (with_waiting life so_far.messages) mid new →
       Gathers shows may_leave life all old new (with_kind kind known) (with_kind kind behind) (Refused refusal)
   gathered_refused most all old mid new known left behind read refusal le so_far gives refused =
-      subst (λ (p : DurablePublisher S). Gathers shows may_leave life all old p (with_kind kind known)
-      (with_kind kind behind) (Refused refusal)) (sym refused.1)
-      (stopped most all old mid known left behind (Refused refusal) le so_far
-      (published_refused kind old.publisher.journal mid.publisher.journal known left behind read refusal so_far.input
-      gives refused.0))
+      let same : new.publisher ≡ mid.publisher = ap (λ (p : DurablePublisher S). p.publisher) refused.1.same in
+      record {
+        messages = so_far.messages;
+        few = omega (arith, le, so_far.few);
+        added = ap (λ (p : PublisherState). p.journal.messages) same ∙ so_far.added;
+        sent = ap (λ (p : PublisherState). p.sent) same ∙ so_far.sent;
+        storage = ap (λ (p : DurablePublisher S). p.durable.storage) refused.1.same ∙ so_far.storage;
+        publishes = refused.1.publishes;
+        input = subst (λ (p : PublisherState). InputPublished old.publisher.journal p.journal (with_kind kind known)
+            (with_kind kind behind) (filled_for (Refused refusal))) (sym same)
+            (published_refused kind old.publisher.journal mid.publisher.journal known left behind read refusal
+            so_far.input gives refused.0);
+      }
 
   -- The group is full.
   pub gathered_full : (most all : ℕ) (old now : DurablePublisher S) (known left : Option (List Entry)) → most ≤ all →

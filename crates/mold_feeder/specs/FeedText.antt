@@ -1,5 +1,6 @@
 -- The lines that a publisher over ports prints.
-use Rattle.std.specs.Prelude.{ℕ, Bool, List, [], ◌∷◌, codes, decimal, if◌then◌else◌}
+use Rattle.std.specs.Prelude.{ℕ, ◌+◌, Bool, List, [], ◌∷◌, codes, decimal, if◌then◌else◌}
+use Rattle.std.specs.Io.Iter.{u64_saturate}
 use Rattle.mold_input.specs.declared.input_kind.InputKind.{InputKind}
 use Rattle.mold_publish.specs.Publishing.{entry_word, refused_text}
 use Rattle.mold_text.specs.Line.{line_of}
@@ -13,6 +14,11 @@ use Rattle.mold_feeder.specs.declared.feed_stop.FeedStop.TheVariants.{Ended, Oth
 -- The first line of a session that is resumed: the number of messages that its journal has.
 abbrev pub resumed_line : ℕ → List ℕ
 resumed_line messages = line_of (codes "resumed" ∷ decimal messages ∷ [])
+
+-- The count of failures: those of the lines' ports and of the port of requests, and the responses that ended early
+-- because the journal could not be read. It stops at `u64::MAX`.
+abbrev pub failed_count : ℕ → ℕ → ℕ → ℕ
+failed_count lines requests unread = u64_saturate (u64_saturate (lines + requests) + unread)
 
 -- The last line: the number of the session's messages, and of the data packets, responses and failures of this process.
 abbrev pub fed_line : ℕ → ℕ → ℕ → ℕ → List ℕ

@@ -1,10 +1,11 @@
 -- What a publisher over ports commits, sends and answers, and of which files it is true.
-use Rattle.std.specs.Prelude.{◌≡◌, ◌⊎◌, ℕ, ◌≤◌, Bool, true, false, List, [], ◌∷◌, ◌++◌, length, take, not, Option}
+use Rattle.std.specs.Prelude.{◌≡◌, ◌⊎◌, ℕ, ◌<◌, ◌≤◌, ◌^◌, ◌-◌, Bool, true, false, List, [], ◌∷◌, ◌++◌, length, take}
+use Rattle.std.specs.Prelude.{not, Option}
 use Rattle.std.specs.Io.KnownBytes.{Appends}
 use Rattle.std.specs.List.{AllByRecursion}
 use Rattle.mold_durable.specs.Life.{Life}
 use Rattle.mold_durable.specs.Storage.{LeavesOnly}
-use Rattle.mold_durable_publisher.specs.DurablePublisher.{Publishes}
+use Rattle.mold_durable_publisher.specs.DurablePublisher.{IsAtRest, ShowsBytes}
 use Rattle.mold_durable_publisher.specs.Told.{IsTrueNow}
 use Rattle.mold_durable_publisher.specs.declared.durable_publisher.DurablePublisher.{DurablePublisher}
 use Rattle.mold_input.specs.Entries.{Entry}
@@ -42,13 +43,6 @@ state_of state port feed = record {
   server = feed.requests.server;
 }
 
--- The session has this life, no message waits to be committed, and no write has failed.
-pub record IsAtRest {S : Type 0} (shows may_leave : S → List ℕ → Type 0) (publisher : DurablePublisher S)
-    (life : Life) : Type 0 where
-  pub publishes : Publishes shows may_leave publisher life
-  pub none : life.waiting ≡ []
-  pub intact : publisher.durable.broken ≡ false
-
 -- The messages of these groups, in order.
 abbrev pub all_of : List (List (List ℕ)) → List (List ℕ)
 all_of [] = []
@@ -82,26 +76,45 @@ IsFileLeft closes life groups bytes =
 abbrev pub first_messages : ℕ → JournalState → JournalState
 first_messages count journal = record journal { messages = take count journal.messages }
 
+-- A receive of the port of requests, and what it led to.
+pub record Reply : Type 0 where
+  -- how many messages had been sent on the lines
+  pub count : ℕ
+  -- whether the response is whole: no read of the journal failed
+  pub whole : Bool
+
 -- The receives of the port of requests, in order. Each was replied to from the first messages of the journal, as many
 -- as the list states.
-abbrev pub Replies : {P : Type 0} → JournalState → ServerState → List ℕ → Port P → Port P → Type 0
+abbrev pub Replies : {P : Type 0} → JournalState → ServerState → List Reply → Port P → Port P → Type 0
 Replies journal server [] old new = new ≡ old
-Replies {P} journal server (count ∷ counts) old new =
-    (mid : Port P) × RepliesTo (first_messages count journal) server (cut MAX_LIMIT (next_of old)) (received old) mid
-    × Replies journal server counts mid new
+Replies {P} journal server (reply ∷ replies) old new =
+    (mid : Port P)
+    × RepliesTo (first_messages reply.count journal) server reply.whole (cut MAX_LIMIT (next_of old)) (received old) mid
+    × Replies journal server replies mid new
 
--- Each receive was replied to from messages that had been sent on the lines.
-pub record HasReplied {P : Type 0} (answers : Bool) (journal : JournalState) (sent : ℕ) (server : ServerState)
-    (old new : Port P) : Type 0 where
-  -- how many messages had been sent on the lines at each receive
-  pub counts : List ℕ
-  pub few : AllByRecursion (λ count. count ≤ sent) counts
-  pub replies : answers ≡ true → Replies journal server counts old new
+-- The count of failures is the same or greater, and within 64 bits.
+abbrev pub MayFail : ℕ → ℕ → Type 0
+MayFail old new = old < 2 ^ 64 → (old ≤ new) × (new < 2 ^ 64)
+
+-- The count of failures is the same, and less than the greatest count, at which it stops. So nothing failed.
+abbrev pub NothingFailed : ℕ → ℕ → Type 0
+NothingFailed old new = (new ≡ old) × (new < 2 ^ 64 - 1)
+
+-- Each receive was replied to from messages that had been sent on the lines. `failed_old` and `failed_new` are the
+-- counts of failures of the journal's storage. If nothing failed there, each response is whole.
+pub record HasReplied {S P : Type 0} (shows : S → List ℕ → Type 0) (answers : Bool) (failed_old failed_new : ℕ)
+    (journal : JournalState) (sent : ℕ) (server : ServerState) (old new : Port P) : Type 0 where
+  pub asked : List Reply
+  pub few : AllByRecursion (λ reply. reply.count ≤ sent) asked
+  pub replies : answers ≡ true → ShowsBytes shows → Replies journal server asked old new
+  pub failures : MayFail failed_old failed_new
+  pub whole : ShowsBytes shows → NothingFailed failed_old failed_new →
+      AllByRecursion (λ reply. reply.whole ≡ true) asked
 
 -- The publisher committed these groups of messages, in order. If `closes` is true, it then closed the session. What it
 -- sent on the lines is true of the committed messages.
 pub record HasFed {S P Q : Type 0} (shows may_leave : S → List ℕ → Type 0) (moment : S → ℕ)
-    (left_since : S → ℕ → List ℕ → Type 0) (modeled answers : Bool) (lines : FeedLines P) (life : Life)
+    (left_since : S → ℕ → List ℕ → Type 0) (failed : S → ℕ) (modeled answers : Bool) (lines : FeedLines P) (life : Life)
     (groups : List (List (List ℕ))) (closes : Bool) (old new : FeedState S P Q) : Type 0 where
   pub rests : IsAtRest shows may_leave new.publisher (shut closes (grown life groups))
   -- A crash at any moment leaves the committed messages, and all messages of a group or none.
@@ -113,8 +126,8 @@ pub record HasFed {S P Q : Type 0} (shows may_leave : S → List ℕ → Type 0)
   pub so : AllByRecursion (IsTrueNow (shut closes (grown life groups))) datagrams
   -- What was true stays true.
   pub later : (datagram : List ℕ) → IsTrueNow life datagram → IsTrueNow (shut closes (grown life groups)) datagram
-  pub replied : HasReplied answers new.publisher.publisher.journal new.publisher.publisher.sent old.server old.requests
-      new.requests
+  pub replied : HasReplied shows answers (failed old.publisher.durable.storage) (failed new.publisher.durable.storage)
+      new.publisher.publisher.journal new.publisher.publisher.sent old.server old.requests new.requests
   pub limits : new.server ≡ record old.server { answered = new.server.answered }
   pub onward : old.publisher.publisher.sent ≤ new.publisher.publisher.sent
 
@@ -122,14 +135,14 @@ pub record HasFed {S P Q : Type 0} (shows may_leave : S → List ℕ → Type 0)
 -- that failed sent nothing, on the lines or to a request. If the session was closed, or closing it failed, its journal
 -- satisfies `may_close`. Otherwise its journal with the messages of the group at fault satisfies `taken`.
 pub record HasBroken {S P Q : Type 0} (shows may_leave : S → List ℕ → Type 0) (moment : S → ℕ)
-    (left_since : S → ℕ → List ℕ → Type 0) (modeled answers : Bool) (lines : FeedLines P)
+    (left_since : S → ℕ → List ℕ → Type 0) (failed : S → ℕ) (modeled answers : Bool) (lines : FeedLines P)
     (taken may_close : JournalState → Type 0) (life : Life) (old new : FeedState S P Q) : Type 0 where
   -- the state before the call that failed
   pub mid : FeedState S P Q
   -- the groups that were committed before, and whether the session was closed
   pub groups : List (List (List ℕ))
   pub closes : Bool
-  pub fed : HasFed shows may_leave moment left_since modeled answers lines life groups closes old mid
+  pub fed : HasFed shows may_leave moment left_since failed modeled answers lines life groups closes old mid
   -- the messages of the group that was not committed, if there was one
   pub last : List (List ℕ)
   -- whether the call that failed was the one that closes the session
@@ -177,13 +190,13 @@ closes_at end (Other number compared) = false
 -- existed, and why the loop stopped. `has` states that the file with which the input is compared has the messages of
 -- the journal.
 pub record HasFinished {S P Q : Type 0} (shows may_leave : S → List ℕ → Type 0) (moment : S → ℕ)
-    (left_since : S → ℕ → List ℕ → Type 0) (modeled answers : Bool) (has : Type 0) (kind : InputKind)
+    (left_since : S → ℕ → List ℕ → Type 0) (failed : S → ℕ) (modeled answers : Bool) (has : Type 0) (kind : InputKind)
     (options : FeedOptions P) (last : List ℕ) (known : Option (List Entry)) (life : Life) (old new : FeedState S P Q)
     (held_old held_new : Option (List ℕ)) (status : ℕ) : Type 0 where
   -- why the loop stopped
   pub stop : FeedStop
   pub groups : List (List (List ℕ))
-  pub fed : HasFed shows may_leave moment left_since modeled answers options.lines life groups
+  pub fed : HasFed shows may_leave moment left_since failed modeled answers options.lines life groups
       (closes_at options.end stop) old new
   -- which messages were taken from the input
   pub taken : TakesInput has options.appends kind old.publisher.publisher.journal

@@ -45,11 +45,18 @@ pub record JoinsWaiting {S : Type 0} (shows may_leave : S → List ℕ → Type 
   pub storage : new.durable.storage ≡ old.durable.storage
   pub publishes : Publishes shows may_leave new (record life { waiting = life.waiting ++ message ∷ [] })
 
--- The message of the entry joined those that wait, or the entry was refused for this reason and nothing changed.
+-- Nothing joined those that wait. At most the index has changed.
+pub record JoinsNothing {S : Type 0} (shows may_leave : S → List ℕ → Type 0) (life : Life)
+    (old new : DurablePublisher S) : Type 0 where
+  pub same : new ≡ record old { index = new.index }
+  pub publishes : Publishes shows may_leave new life
+
+-- The message of the entry joined those that wait, or the entry was refused for this reason and nothing joined.
 abbrev pub JoinsOrRefuses : {S : Type 0} → (S → List ℕ → Type 0) → (S → List ℕ → Type 0) → Life → DurablePublisher S →
     DurablePublisher S → Result (List ℕ) MessageRefusal → Option MessageRefusal → Type 0
 JoinsOrRefuses shows may_leave life old new outcome None = JoinsWaiting shows may_leave life old new outcome
-JoinsOrRefuses shows may_leave life old new outcome (Some why) = (outcome ≡ Err why) × (new ≡ old)
+JoinsOrRefuses shows may_leave life old new outcome (Some why) =
+    (outcome ≡ Err why) × JoinsNothing shows may_leave life old new
 
 -- At most `most` messages of the input joined those that wait, until it stopped with `gathered`. Nothing was sent, and
 -- the storage was not used.

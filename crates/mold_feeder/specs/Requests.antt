@@ -1,10 +1,13 @@
 -- The responses of a publisher's server: they have only messages that were sent on the lines.
-use Rattle.std.specs.Prelude.{◌≡◌, ℕ, Bool, true, false, List, [], ◌∷◌, ◌++◌, take, Result, Ok, Err}
+use Rattle.std.specs.Prelude.{◌≡◌, ◌≤◌, ℕ, Bool, true, false, List, [], ◌∷◌, ◌++◌, take, Result, Ok, Err}
 use Rattle.mold_ports.specs.Ports.{Datagram, Failure, Port, Quiet, Receipt, offered}
-use Rattle.mold_session.specs.Answer.{answer}
+use Rattle.mold_durable_publisher.specs.DurablePublisher.{ShowsJournal}
+use Rattle.mold_durable_publisher.specs.declared.durable_publisher.DurablePublisher.{DurablePublisher}
+use Rattle.mold_session.specs.Answer.{PlanState, answer}
 use Rattle.mold_session.specs.Journal.{JournalState}
 use Rattle.mold_session.specs.Publisher.{PublisherState}
 use Rattle.mold_session.specs.Server.{ServerState, checked_request}
+use Rattle.mold_session.specs.Serving.{IsPlanOf}
 use Rattle.mold_session.specs.declared.error.AnswerError.{AnswerError}
 use Rattle.mold_wire.specs.Packet.{spelling_of}
 use Rattle.mold_wire.specs.declared.packet.Packet.{Packet}
@@ -50,9 +53,26 @@ pub record Offering {P : Type 0} (to : P) (all left : List Packet) (old new : Po
   pub offers : Offers to done old new
   pub parts : all ≡ done ++ left
 
--- What the receive of a request leads to: all its responses are offered to the requester. A receive that gave nothing
--- or failed leads to nothing.
-abbrev pub RepliesTo : {P : Type 0} → JournalState → ServerState → Receipt P → Port P → Port P → Type 0
-RepliesTo journal server (Datagram from request) old new = Offers from (responses journal server request) old new
-RepliesTo journal server Quiet old new = new ≡ old
-RepliesTo journal server Failure old new = new ≡ old
+-- The first of these packets were offered to the requester, in order: all of them if the Boolean is `true`.
+pub record OffersFront {P : Type 0} (to : P) (whole : Bool) (packets : List Packet) (old new : Port P) : Type 0 where
+  -- the packets that were not offered
+  pub left : List Packet
+  pub offers : Offering to packets left old new
+  pub all : whole ≡ true → left ≡ []
+
+-- What the receive of a request leads to: its responses are offered to the requester, all of them if the Boolean is
+-- `true`. Otherwise a read of the journal failed, and only the first of them are. A receive that gave nothing or failed
+-- leads to nothing.
+abbrev pub RepliesTo : {P : Type 0} → JournalState → ServerState → Bool → Receipt P → Port P → Port P → Type 0
+RepliesTo journal server whole (Datagram from request) old new =
+    OffersFront from whole (responses journal server request) old new
+RepliesTo journal server whole Quiet old new = new ≡ old
+RepliesTo journal server whole Failure old new = new ≡ old
+
+-- The server may respond to a request with the packets of the plan: the publisher shows this journal, whose messages
+-- are not too long for the server, and the plan is for messages of the journal.
+pub record MayRespond {S : Type 0} (shows may_leave : S → List ℕ → Type 0) (publisher : DurablePublisher S)
+    (server : ServerState) (plan : PlanState) (journal : JournalState) : Type 0 where
+  pub shown : ShowsJournal shows may_leave publisher journal
+  pub longest : journal.max_message ≤ server.max_message
+  pub planned : IsPlanOf journal plan

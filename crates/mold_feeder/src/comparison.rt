@@ -71,7 +71,7 @@ pub fn compare_next<S: Storage + Drop, J: Source + Drop, M: MessageReader, K: So
     }
     match messages.advance(source)? {
         Next::Message => {
-            let max_message = publisher.journal().max_message();
+            let max_message = publisher.max_message();
             Ok(compare_message(max_message, journal.message(), messages.message()))
         }
         Next::Fault { why } => {
@@ -111,7 +111,7 @@ pub fn compare_all<S: Storage + Drop, J: Source + Drop, M: MessageReader, K: Sou
         (J.failed journal.old.source) (J.failed journal.new.source) result }
 {
     let mut at = number;
-    while at < publisher.journal().next() {
+    while at <= publisher.count() {
         match compare_next(publisher, journal, at, messages, source)? {
             Compared::Same => at += 1,
             stopped => return Ok((at, stopped)),

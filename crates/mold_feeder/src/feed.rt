@@ -2,11 +2,12 @@
 
 ghost use Rattle.std.specs.Prelude.{◌≡◌, ◌≤◌, ◌+◌, ◌++◌, ◌&&◌, [], Some, ℕ, false, true, IfOk, length, List, not};
 ghost use Rattle.std.specs.Prelude.{OnErr, OnOk};
-ghost use Rattle.std.specs.Io.Iter.{u64_saturate};
 ghost use Rattle.std.specs.Io.KnownBytes.{Appends, IsAtEnd};
 ghost use Rattle.mold_durable.specs.Life.{Life};
-ghost use Rattle.mold_feeder.specs.FeedText.{fed_line, first_text, stop_text};
-ghost use Rattle.mold_feeder.specs.Feeding.{HasBroken, HasFed, IsAtRest, MayClose, MayCloseAfter, MayCloseNow};
+ghost use Rattle.mold_durable.specs.Storage.{OnlyReads};
+ghost use Rattle.mold_durable_publisher.specs.DurablePublisher.{IsAtRest, WasServed};
+ghost use Rattle.mold_feeder.specs.FeedText.{failed_count, fed_line, first_text, stop_text};
+ghost use Rattle.mold_feeder.specs.Feeding.{HasBroken, HasFed, MayClose, MayCloseAfter, MayCloseNow};
 ghost use Rattle.mold_feeder.specs.Feeding.{MayNotClose, closes_at, state_of};
 ghost use Rattle.mold_feeder.specs.Input.{IsInput, KeepsRest, bytes_come, entries_after, entries_of_rest};
 ghost use Rattle.mold_feeder.specs.Gathering.{filled_for};
@@ -16,6 +17,7 @@ ghost use Rattle.mold_feeder.specs.Taking.{TakesNothing, TakesPart, TakesYet, ta
 ghost use Rattle.mold_feeder.specs.Feeder.{ended};
 ghost use Rattle.mold_feeder.specs.Comparison.{ComparesAll};
 ghost use Rattle.mold_feeder.specs.JournalMessages.{HasMessages};
+ghost use Rattle.mold_feeder.specs.declared.feed_lines.FeedLines.{FeedLines};
 ghost use Rattle.mold_wire.specs.declared.limits.TheConstants.{MAX_LIMIT};
 
 use crate::compared::Compared;
@@ -95,22 +97,49 @@ impl<
         Ok(())
     }
 
+    // Answers a request, if one has come. If a read of the journal fails, a part of the response is not sent.
+    fn answer(&mut self, buffer: &mut [u8])
+        requires longest { self.old.feeder.publisher.publisher.journal.max_message
+            ≤ self.old.requests.server.max_message }
+        requires buffer { length buffer.old ≡ MAX_LIMIT }
+        ensures fed { (lines : FeedLines L.Peer) (life : Life) →
+            IsAtRest S.shows S.may_leave self.old.feeder.publisher life →
+            HasFed S.shows S.may_leave S.moment S.left_since S.failed L.modeled D.modeled lines life [] false
+            (state_of L.state D.port self.old) (state_of L.state D.port self.new) }
+        ensures publisher { self.new.feeder.publisher.publisher ≡ self.old.feeder.publisher.publisher }
+        ensures served { WasServed S.shows S.may_leave S.moment S.left_since self.old.feeder.publisher
+            self.new.feeder.publisher }
+        ensures feeder { self.new.feeder ≡ record self.old.feeder { publisher = self.new.feeder.publisher } }
+        ensures longest { self.new.feeder.publisher.publisher.journal.max_message
+            ≤ self.new.requests.server.max_message }
+        ensures input { self.new.input ≡ self.old.input }
+        ensures buffer { length buffer.new ≡ MAX_LIMIT }
+    {
+        let _ = self
+            .requests
+            .answer_waiting(&mut self.feeder.publisher, buffer);
+    }
+
     // Answers a request, if one has come, and sends what has to be sent now.
     fn serve(&mut self, lines: &FeedLines<L::Peer>, buffer: &mut [u8])
         requires longest { self.old.feeder.publisher.publisher.journal.max_message
             ≤ self.old.requests.server.max_message }
         requires buffer { length buffer.old ≡ MAX_LIMIT }
         ensures fed { (life : Life) → IsAtRest S.shows S.may_leave self.old.feeder.publisher life →
-            HasFed S.shows S.may_leave S.moment S.left_since L.modeled D.modeled lines.now life [] false
+            HasFed S.shows S.may_leave S.moment S.left_since S.failed L.modeled D.modeled lines.now life [] false
             (state_of L.state D.port self.old) (state_of L.state D.port self.new) }
         ensures journal { self.new.feeder.publisher.publisher.journal ≡ self.old.feeder.publisher.publisher.journal }
-        ensures storage { self.new.feeder.publisher.durable ≡ self.old.feeder.publisher.durable }
+        ensures storage { OnlyReads S.shows S.may_leave S.moment S.left_since
+            self.old.feeder.publisher.durable.storage self.new.feeder.publisher.durable.storage }
+        ensures durable { self.new.feeder.publisher.durable ≡ record self.old.feeder.publisher.durable {
+          storage = self.new.feeder.publisher.durable.storage;
+        } }
         ensures longest { self.new.feeder.publisher.publisher.journal.max_message
             ≤ self.new.requests.server.max_message }
         ensures input { self.new.input ≡ self.old.input }
         ensures buffer { length buffer.new ≡ MAX_LIMIT }
     {
-        self.requests.answer_waiting(&self.feeder.publisher, buffer);
+        self.answer(buffer);
         self.feeder.send_due(lines);
     }
 
@@ -126,10 +155,10 @@ impl<
         requires buffer { length buffer.old ≡ MAX_LIMIT }
         ensures fed { (life : Life) → IsAtRest S.shows S.may_leave self.old.feeder.publisher life → OnOk result
             ((groups : List (List (List ℕ)))
-            × HasFed S.shows S.may_leave S.moment S.left_since L.modeled D.modeled lines.now life groups false
+            × HasFed S.shows S.may_leave S.moment S.left_since S.failed L.modeled D.modeled lines.now life groups false
             (state_of L.state D.port self.old) (state_of L.state D.port self.new)) }
         ensures broken { (life : Life) → IsAtRest S.shows S.may_leave self.old.feeder.publisher life → OnErr result
-            (HasBroken S.shows S.may_leave S.moment S.left_since L.modeled D.modeled lines.now
+            (HasBroken S.shows S.may_leave S.moment S.left_since S.failed L.modeled D.modeled lines.now
             (TakesPart M.input_kind self.old.feeder.publisher.publisher.journal
             (Some (M.entries (bytes_come M.unread self.old.input)))) MayNotClose life
             (state_of L.state D.port self.old) (state_of L.state D.port self.new)) }
@@ -144,9 +173,9 @@ impl<
         ensures buffer { length buffer.new ≡ MAX_LIMIT }
     {
         told_law();
+        self.answer(buffer);
         self.input.come.ready = true;
-        self.feeder
-            .turn(lines, &mut self.requests, &mut self.input.come, buffer)
+        self.feeder.turn(lines, &mut self.input.come)
     }
 
     // Notes that all entries that have come were taken, if `taken` states it.
@@ -180,10 +209,10 @@ impl<
         requires buffer { length buffer.old ≡ MAX_LIMIT }
         ensures fed { (life : Life) → IsAtRest S.shows S.may_leave self.old.feeder.publisher life → OnOk result
             ((groups : List (List (List ℕ)))
-            × HasFed S.shows S.may_leave S.moment S.left_since L.modeled D.modeled lines.now life groups false
+            × HasFed S.shows S.may_leave S.moment S.left_since S.failed L.modeled D.modeled lines.now life groups false
             (state_of L.state D.port self.old) (state_of L.state D.port self.new)) }
         ensures broken { (life : Life) → IsAtRest S.shows S.may_leave self.old.feeder.publisher life → OnErr result
-            (HasBroken S.shows S.may_leave S.moment S.left_since L.modeled D.modeled lines.now
+            (HasBroken S.shows S.may_leave S.moment S.left_since S.failed L.modeled D.modeled lines.now
             (TakesPart M.input_kind self.old.feeder.publisher.publisher.journal
             (entries_of_rest M.unread K.left M.entries self.old.input)) MayNotClose life
             (state_of L.state D.port self.old) (state_of L.state D.port self.new)) }
@@ -236,10 +265,10 @@ impl<
         requires buffer { length buffer.old ≡ MAX_LIMIT }
         ensures fed { (life : Life) → IsAtRest S.shows S.may_leave self.old.feeder.publisher life → OnOk result
             ((groups : List (List (List ℕ)))
-            × HasFed S.shows S.may_leave S.moment S.left_since L.modeled D.modeled lines.now life groups false
+            × HasFed S.shows S.may_leave S.moment S.left_since S.failed L.modeled D.modeled lines.now life groups false
             (state_of L.state D.port self.old) (state_of L.state D.port self.new)) }
         ensures broken { (life : Life) → IsAtRest S.shows S.may_leave self.old.feeder.publisher life → OnErr result
-            (HasBroken S.shows S.may_leave S.moment S.left_since L.modeled D.modeled lines.now
+            (HasBroken S.shows S.may_leave S.moment S.left_since S.failed L.modeled D.modeled lines.now
             (TakesPart M.input_kind self.old.feeder.publisher.publisher.journal
             (entries_of_rest M.unread K.left M.entries self.old.input)) MayNotClose life
             (state_of L.state D.port self.old) (state_of L.state D.port self.new)) }
@@ -346,7 +375,7 @@ impl<
         requires input { IsInput M.unread K.left self.old.input }
         requires buffer { length buffer.old ≡ MAX_LIMIT }
         ensures fed { (life : Life) → IsAtRest S.shows S.may_leave self.old.feeder.publisher life →
-            HasFed S.shows S.may_leave S.moment S.left_since L.modeled D.modeled lines.now life [] false
+            HasFed S.shows S.may_leave S.moment S.left_since S.failed L.modeled D.modeled lines.now life [] false
             (state_of L.state D.port self.old) (state_of L.state D.port self.new) }
         ensures compared { HasMessages J.left journal.old self.old.feeder.publisher.publisher.journal.messages 1 →
             IfOk result (λ found. ComparesAll self.old.feeder.publisher.publisher.journal 1 found.0
@@ -400,7 +429,7 @@ impl<
             ≤ self.old.requests.server.max_message }
         requires buffer { length buffer.old ≡ MAX_LIMIT }
         ensures fed { (life : Life) → IsAtRest S.shows S.may_leave self.old.feeder.publisher life →
-            HasFed S.shows S.may_leave S.moment S.left_since L.modeled D.modeled lines.now life [] false
+            HasFed S.shows S.may_leave S.moment S.left_since S.failed L.modeled D.modeled lines.now life [] false
             (state_of L.state D.port self.old) (state_of L.state D.port self.new) }
         ensures journal { self.new.feeder.publisher.publisher.journal ≡ self.old.feeder.publisher.publisher.journal }
         ensures sent { OnOk result (length self.new.feeder.publisher.publisher.journal.messages
@@ -428,10 +457,10 @@ impl<
         requires sent { length self.old.feeder.publisher.publisher.journal.messages
             ≤ self.old.feeder.publisher.publisher.sent }
         ensures fed { (life : Life) → IsAtRest S.shows S.may_leave self.old.feeder.publisher life → OnOk result
-            (HasFed S.shows S.may_leave S.moment S.left_since L.modeled D.modeled options.now.lines life []
+            (HasFed S.shows S.may_leave S.moment S.left_since S.failed L.modeled D.modeled options.now.lines life []
             (not options.now.end.stays_open) (state_of L.state D.port self.old) (state_of L.state D.port self.new)) }
         ensures broken { (life : Life) → IsAtRest S.shows S.may_leave self.old.feeder.publisher life → OnErr result
-            (HasBroken S.shows S.may_leave S.moment S.left_since L.modeled D.modeled options.now.lines
+            (HasBroken S.shows S.may_leave S.moment S.left_since S.failed L.modeled D.modeled options.now.lines
             (TakesNothing self.old.feeder.publisher.publisher.journal)
             (MayCloseNow options.now.end self.old.feeder.publisher.publisher.journal) life
             (state_of L.state D.port self.old) (state_of L.state D.port self.new)) }
@@ -462,10 +491,11 @@ impl<
         requires buffer { length buffer.old ≡ MAX_LIMIT }
         ensures fed { (life : Life) → IsAtRest S.shows S.may_leave self.old.feeder.publisher life → IfOk result (λ stop.
             (groups : List (List (List ℕ)))
-            × HasFed S.shows S.may_leave S.moment S.left_since L.modeled D.modeled options.now.lines life groups
+            × HasFed S.shows S.may_leave S.moment S.left_since S.failed L.modeled D.modeled options.now.lines
+            life groups
             (closes_at options.now.end stop) (state_of L.state D.port self.old) (state_of L.state D.port self.new)) }
         ensures broken { (life : Life) → IsAtRest S.shows S.may_leave self.old.feeder.publisher life → OnErr result
-            (HasBroken S.shows S.may_leave S.moment S.left_since L.modeled D.modeled options.now.lines
+            (HasBroken S.shows S.may_leave S.moment S.left_since S.failed L.modeled D.modeled options.now.lines
             (TakesPart M.input_kind self.old.feeder.publisher.publisher.journal
             (entries_of_rest M.unread K.left M.entries self.old.input))
             (MayCloseAfter options.now.end M.input_kind begun self.old.feeder.publisher.publisher.journal
@@ -480,7 +510,7 @@ impl<
         let gathered = self.publish(&options.lines, buffer)?;
         self.serve_until(&options.lines, 0, buffer)?;
         if let Some(refusal) = refusal_of(gathered) {
-            let number = self.feeder.publisher.journal().next().saturating_sub(begun);
+            let number = (self.feeder.publisher.count() + 1).saturating_sub(begun);
             return Ok(FeedStop::Refused { number, refusal });
         }
         self.end(options, buffer)?;
@@ -502,10 +532,11 @@ impl<
         requires buffer { length buffer.old ≡ MAX_LIMIT }
         ensures fed { (life : Life) → IsAtRest S.shows S.may_leave self.old.feeder.publisher life → IfOk result (λ stop.
             (groups : List (List (List ℕ)))
-            × HasFed S.shows S.may_leave S.moment S.left_since L.modeled D.modeled options.now.lines life groups
+            × HasFed S.shows S.may_leave S.moment S.left_since S.failed L.modeled D.modeled options.now.lines
+            life groups
             (closes_at options.now.end stop) (state_of L.state D.port self.old) (state_of L.state D.port self.new)) }
         ensures broken { (life : Life) → IsAtRest S.shows S.may_leave self.old.feeder.publisher life → OnErr result
-            (HasBroken S.shows S.may_leave S.moment S.left_since L.modeled D.modeled options.now.lines
+            (HasBroken S.shows S.may_leave S.moment S.left_since S.failed L.modeled D.modeled options.now.lines
             (TakesYet (HasMessages J.left journal.old self.old.feeder.publisher.publisher.journal.messages 1)
             options.now.appends M.input_kind self.old.feeder.publisher.publisher.journal
             (entries_of_rest M.unread K.left M.entries self.old.input))
@@ -521,7 +552,7 @@ impl<
         ensures all { IfOk result (AllSent self.new.feeder.publisher.publisher) }
     {
         if options.appends {
-            let begun = self.feeder.publisher.journal().next() - 1;
+            let begun = self.feeder.publisher.count();
             return self.publish_all(begun, options, buffer);
         }
         let (number, compared) = self.compare(journal, &options.lines, buffer)?;
@@ -536,18 +567,20 @@ impl<
         ensures text { OnOk result (out.new.items ≡ out.old.items ++ stop_text M.input_kind stop
             (fed_line (length self.now.feeder.publisher.publisher.journal.messages) self.now.feeder.datagrams
             self.now.requests.answered
-            (u64_saturate ((L.state self.now.feeder.ports).failures + (D.port self.now.requests.port).failures)))) }
+            (failed_count (L.state self.now.feeder.ports).failures (D.port self.now.requests.port).failures
+            self.now.requests.unread))) }
     {
         match stop {
             FeedStop::Other { number, compared } => push_compared(out, M::kind(), number, compared),
             FeedStop::Refused { number, refusal } => push_message_refused(out, number, refusal),
             FeedStop::Ended => {
-                let messages = self.feeder.publisher.journal().next() - 1;
+                let messages = self.feeder.publisher.count();
                 let failed = self
                     .feeder
                     .ports
                     .failures()
-                    .saturating_add(self.requests.port.failures());
+                    .saturating_add(self.requests.port.failures())
+                    .saturating_add(self.requests.unread);
                 push_fed(
                     out,
                     messages,
@@ -570,7 +603,8 @@ impl<
         requires longest { self.old.feeder.publisher.publisher.journal.max_message
             ≤ self.old.requests.server.max_message }
         ensures fed { (life : Life) → IsAtRest S.shows S.may_leave self.old.feeder.publisher life →
-            HasFed S.shows S.may_leave S.moment S.left_since L.modeled D.modeled options.now.lines life [] false
+            HasFed S.shows S.may_leave S.moment S.left_since S.failed L.modeled D.modeled options.now.lines
+            life [] false
             (state_of L.state D.port self.old) (state_of L.state D.port self.new) }
         ensures said { OnOk result (Appends (O.held sink.old) (O.held sink.new)
             (first_text options.now.resumed (length self.old.feeder.publisher.publisher.journal.messages))) }
@@ -583,7 +617,7 @@ impl<
         if !options.resumed {
             return Ok(());
         }
-        push_resumed(text, self.feeder.publisher.journal().next() - 1)?;
+        push_resumed(text, self.feeder.publisher.count())?;
         send(sink, text)?;
         self.feeder.send_beat(&options.lines);
         Ok(())

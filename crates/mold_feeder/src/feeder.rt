@@ -14,9 +14,6 @@ ghost use Rattle.mold_feeder.specs.Feeder.{HasEnded, HasPaced, HasSent, HasSentB
 ghost use Rattle.mold_feeder.specs.Feeder.{TakesSome, ended, entries_left, next_beat, sends_at, takes_input};
 ghost use Rattle.mold_feeder.specs.Gathering.{Grows, IsFileUpTo};
 ghost use Rattle.mold_feeder.specs.IdleClock.{due_after};
-ghost use Rattle.mold_feeder.specs.Requests.{RepliesTo, sent_journal};
-ghost use Rattle.mold_ports.specs.Ports.{cut, next_of, received};
-ghost use Rattle.mold_wire.specs.declared.limits.TheConstants.{MAX_LIMIT};
 
 use crate::feed_end::FeedEnd;
 use crate::feed_input::FeedInput;
@@ -25,14 +22,12 @@ use crate::gathered::Gathered;
 use crate::gathering::take_group;
 use crate::idle_clock::IdleClock;
 use crate::pace::Pace;
-use crate::requests::Requests;
 use mold_devices::{CommandFault, Source};
 use mold_durable::Storage;
 use mold_durable_publisher::DurablePublisher;
 use mold_durable_publisher::laws::told_law;
 use mold_input::MessageReader;
 use mold_port_set::PortSet;
-use mold_ports::Datagrams;
 
 /// A publisher over ports: the publisher, the ports, and when it may send.
 #[derive(Drop)]
@@ -100,7 +95,7 @@ impl<S: Storage + Drop, L: PortSet + Drop> Feeder<S, L> {
         ensures publisher { self.new.publisher ≡ self.old.publisher }
     {
         self.idle.note(self.ports.now());
-        if self.publisher.journal().is_closed() {
+        if self.publisher.is_closed() {
             if let Some(end) = self.publisher.end() {
                 send_on_lines(&mut self.ports, lines, end);
             }
@@ -167,6 +162,8 @@ impl<S: Storage + Drop, L: PortSet + Drop> Feeder<S, L> {
             LeavesOnly S.moment S.left_since self.old.publisher.durable.storage self.new.publisher.durable.storage
             (IsFileUpTo life self.new.publisher) }
         ensures intact { OnOk result (self.new.publisher.durable.broken ≡ self.old.publisher.durable.broken) }
+        ensures unfailed { OnOk result
+            (S.failed self.new.publisher.durable.storage ≡ S.failed self.old.publisher.durable.storage) }
         ensures longest { self.new.publisher.publisher.journal.max_message
             ≡ self.old.publisher.publisher.journal.max_message }
         ensures rest { self.new ≡ record self.old { publisher = self.new.publisher } }
@@ -185,20 +182,15 @@ impl<S: Storage + Drop, L: PortSet + Drop> Feeder<S, L> {
         Ok(Some(gathered))
     }
 
-    /// Makes one turn. First it answers a request, if one has come. If the input is ready and all committed messages
-    /// were sent, it takes a group of messages of the input and commits it. Then it sends what the publisher sends now.
-    /// `buffer` has `MAX_LIMIT` bytes.
+    /// Makes one turn. If the input is ready and all committed messages were sent, it takes a group of messages of the
+    /// input and commits it. Then it sends what the publisher sends now.
     ///
     /// Returns why the group is complete, or `None` if no group was taken. After a fault nothing more may be sent.
-    pub fn turn<D: Datagrams + Drop, M: MessageReader, K: Source>(
+    pub fn turn<M: MessageReader, K: Source>(
         &mut self,
         lines: &FeedLines<L::Peer>,
-        requests: &mut Requests<D>,
         input: &mut FeedInput<M, K>,
-        buffer: &mut [u8],
     ) -> Result<Option<Gathered>, CommandFault>
-        requires longest { self.old.publisher.publisher.journal.max_message ≤ requests.old.server.max_message }
-        requires buffer { length buffer.old ≡ MAX_LIMIT }
         ensures turned { (life : Life) → Publishes S.shows S.may_leave self.old.publisher life → life.waiting ≡ [] →
             IfOk result (HasTurned S.shows S.may_leave L.modeled L.state lines.now life self.old self.new
             (entries_left M.input_kind M.entries M.unread K.left input.old)
@@ -216,17 +208,12 @@ impl<S: Storage + Drop, L: PortSet + Drop> Feeder<S, L> {
             LeavesOnly S.moment S.left_since self.old.publisher.durable.storage self.new.publisher.durable.storage
             (IsFileUpTo life self.new.publisher) }
         ensures intact { OnOk result (self.new.publisher.durable.broken ≡ self.old.publisher.durable.broken) }
+        ensures unfailed { OnOk result
+            (S.failed self.new.publisher.durable.storage ≡ S.failed self.old.publisher.durable.storage) }
         ensures longest { self.new.publisher.publisher.journal.max_message
             ≡ self.old.publisher.publisher.journal.max_message }
         ensures silent { OnErr result (self.new.ports ≡ self.old.ports) }
-        ensures replied { D.modeled ≡ true →
-            RepliesTo (sent_journal self.old.publisher.publisher) requests.old.server
-            (cut MAX_LIMIT (next_of (D.port requests.old.port))) (received (D.port requests.old.port))
-            (D.port requests.new.port) }
-        ensures limits { requests.new.server ≡ record requests.old.server { answered = requests.new.server.answered } }
-        ensures buffer { length buffer.new ≡ MAX_LIMIT }
     {
-        requests.answer_waiting(&self.publisher, buffer);
         let taken = self.take_input(input)?;
         self.send_due(lines);
         Ok(taken)
@@ -268,6 +255,8 @@ impl<S: Storage + Drop, L: PortSet + Drop> Feeder<S, L> {
             LeavesOnly S.moment S.left_since self.old.publisher.durable.storage self.new.publisher.durable.storage
             (IsFileAtEnd stays_open life) }
         ensures intact { OnOk result (self.new.publisher.durable.broken ≡ self.old.publisher.durable.broken) }
+        ensures unfailed { OnOk result
+            (S.failed self.new.publisher.durable.storage ≡ S.failed self.old.publisher.durable.storage) }
         ensures publisher { OnOk result (self.new.publisher.publisher
             ≡ (if stays_open then self.old.publisher.publisher else closed self.old.publisher.publisher)) }
         ensures rest { self.new ≡ record self.old { publisher = self.new.publisher } }
@@ -302,6 +291,8 @@ impl<S: Storage + Drop, L: PortSet + Drop> Feeder<S, L> {
             LeavesOnly S.moment S.left_since self.old.publisher.durable.storage self.new.publisher.durable.storage
             (IsFileAtEnd end.stays_open life) }
         ensures intact { OnOk result (self.new.publisher.durable.broken ≡ self.old.publisher.durable.broken) }
+        ensures unfailed { OnOk result
+            (S.failed self.new.publisher.durable.storage ≡ S.failed self.old.publisher.durable.storage) }
         ensures publisher { OnOk result (self.new.publisher.publisher ≡ ended end self.old.publisher.publisher) }
         ensures fault { IfErr result (λ fault. fault ≡ CommandFault.Write) }
     {

@@ -1,10 +1,10 @@
 //! The loop of a publisher over ports.
 
 ghost use Rattle.std.specs.Prelude.{◌≡◌, ◌≤◌, ◌+◌, length, IfOk, OnErr};
-ghost use Rattle.std.specs.Io.Iter.{u64_saturate};
 ghost use Rattle.mold_durable.specs.Life.{Life};
-ghost use Rattle.mold_feeder.specs.FeedText.{fed_line, status_at};
-ghost use Rattle.mold_feeder.specs.Feeding.{HasBroken, HasFinished, IsAtRest, MayClose, state_of};
+ghost use Rattle.mold_durable_publisher.specs.DurablePublisher.{IsAtRest};
+ghost use Rattle.mold_feeder.specs.FeedText.{failed_count, fed_line, status_at};
+ghost use Rattle.mold_feeder.specs.Feeding.{HasBroken, HasFinished, MayClose, state_of};
 ghost use Rattle.mold_feeder.specs.Input.{IsInput, entries_of_rest};
 ghost use Rattle.mold_feeder.specs.JournalMessages.{HasMessages};
 ghost use Rattle.mold_feeder.specs.Taking.{TakesYet};
@@ -74,16 +74,17 @@ pub fn feed_loop<
         ≤ feed.old.requests.server.max_message }
     requires input { IsInput M.unread K.left feed.old.input }
     ensures finished { (life : Life) → IsAtRest S.shows S.may_leave feed.old.feeder.publisher life → IfOk result
-        (HasFinished S.shows S.may_leave S.moment S.left_since L.modeled D.modeled
+        (HasFinished S.shows S.may_leave S.moment S.left_since S.failed L.modeled D.modeled
         (HasMessages J.left journal.old feed.old.feeder.publisher.publisher.journal.messages 1)
         M.input_kind options.now
         (fed_line (length feed.new.feeder.publisher.publisher.journal.messages) feed.new.feeder.datagrams
         feed.new.requests.answered
-        (u64_saturate ((L.state feed.new.feeder.ports).failures + (D.port feed.new.requests.port).failures)))
+        (failed_count (L.state feed.new.feeder.ports).failures (D.port feed.new.requests.port).failures
+        feed.new.requests.unread))
         (entries_of_rest M.unread K.left M.entries feed.old.input) life (state_of L.state D.port feed.old)
         (state_of L.state D.port feed.new) (O.held sink.old) (O.held sink.new)) }
     ensures broken { (life : Life) → IsAtRest S.shows S.may_leave feed.old.feeder.publisher life → OnErr result
-        (HasBroken S.shows S.may_leave S.moment S.left_since L.modeled D.modeled options.now.lines
+        (HasBroken S.shows S.may_leave S.moment S.left_since S.failed L.modeled D.modeled options.now.lines
         (TakesYet (HasMessages J.left journal.old feed.old.feeder.publisher.publisher.journal.messages 1)
         options.now.appends M.input_kind feed.old.feeder.publisher.publisher.journal
         (entries_of_rest M.unread K.left M.entries feed.old.input))

@@ -29,7 +29,7 @@ fn join_waiting<S: Storage + Drop>(
     ensures joined { (life : Life) → Publishes S.shows S.may_leave publisher.old life → IfOk result
         (JoinsOrRefuses S.shows S.may_leave life publisher.old publisher.new
         (entry_outcome kind publisher.old.publisher.journal (Ok message.now))) }
-    ensures same { OnErr result (publisher.new ≡ publisher.old) }
+    ensures same { OnErr result (publisher.new ≡ record publisher.old { index = publisher.new.index }) }
     ensures storage { publisher.new.durable.storage ≡ publisher.old.durable.storage }
     ensures intact { publisher.new.durable.broken ≡ publisher.old.durable.broken }
     ensures longest { publisher.new.publisher.journal.max_message ≡ publisher.old.publisher.journal.max_message }
@@ -111,6 +111,8 @@ pub fn take_group<M: MessageReader, K: Source, S: Storage + Drop>(
         LeavesOnly S.moment S.left_since publisher.old.durable.storage publisher.new.durable.storage
         (IsFileUpTo life publisher.new) }
     ensures intact { OnOk result (publisher.new.durable.broken ≡ publisher.old.durable.broken) }
+    ensures unfailed { OnOk result
+        (S.failed publisher.new.durable.storage ≡ S.failed publisher.old.durable.storage) }
     ensures longest { publisher.new.publisher.journal.max_message ≡ publisher.old.publisher.journal.max_message }
 {
     told_law();

@@ -11,7 +11,7 @@ ghost use Rattle.mold_session.specs.declared.error.FileError.{FileError};
 ghost use Rattle.mold_session.specs.declared.file_version.FileVersion.TheVariants.{Three};
 ghost use Rattle.mold_durable.specs.Storage.{OnlyReads};
 ghost use Rattle.mold_index.specs.Adding.{needs_entry, push_refusal};
-ghost use Rattle.mold_index.specs.Index.{HasLast, HasNumber, Indexes, fresh_index};
+ghost use Rattle.mold_index.specs.Index.{HasLast, HasNumber, Indexes, IsIndex, fresh_index};
 ghost use Rattle.mold_index.specs.Layouts.{layout_of};
 ghost use Rattle.mold_index.specs.declared.error.IndexError.{IndexError};
 ghost use Rattle.mold_indexed_file.specs.Buffer.{most_bytes};
@@ -122,7 +122,10 @@ impl StorageIndex {
             error ≡ unwrap_or (push_refusal self.old.index len) IndexError.Memory) }
         ensures same { OnErr result (self.new ≡ self.old) }
         ensures succeeds { push_refusal self.old.index len ≡ None → needs_entry self.old.index ≡ false → IsOk result }
+        ensures index { IsIndex self.old.index }
     {
+        // `count` ensures that the index is that of some messages.
+        let _count = self.index.count();
         self.index.push(len)
     }
 

@@ -18,8 +18,21 @@ const SHORTER: &[u8] = b"MOLDJNL3SESSION001\x01\x00\x00\x02AB\x00";
 /// Where a comparison stopped, and how.
 type Stopped = Result<(u64, Compared), CompareFault>;
 
-// Compares the lines with the messages that were not compared yet, from number `number` on. The publisher has the
-// messages of the example.
+// Compares the lines with the messages that were not compared yet, from number `number` on.
+fn compare_after(
+    alloc: Global,
+    publisher: &DurablePublisher<MemoryStorage>,
+    journal: &mut JournalMessages<MemorySource>,
+    number: u64,
+    lines: &[u8],
+) -> Result<Stopped, Fail> {
+    let mut messages = HexLines::new(alloc)?;
+    let mut source = MemorySource::new(lines);
+    let number = number.max(1).min(publisher.count() + 1);
+    Ok(compare_all(publisher, journal, number, &mut messages, &mut source))
+}
+
+// Makes the same comparison for a publisher that has the messages of the example.
 fn compare_lines(
     alloc: Global,
     journal: &mut JournalMessages<MemorySource>,
@@ -28,15 +41,7 @@ fn compare_lines(
 ) -> Result<Stopped, Fail> {
     let storage = MemoryStorage::with_bytes(alloc, &EXAMPLE)?;
     let publisher = DurablePublisher::open(alloc, 64, &mut MemorySource::new(&EXAMPLE), storage)?;
-    let mut messages = HexLines::new(alloc)?;
-    let mut source = MemorySource::new(lines);
-    Ok(compare_all(
-        &publisher,
-        journal,
-        number.clamp(1, 2),
-        &mut messages,
-        &mut source,
-    ))
+    compare_after(alloc, &publisher, journal, number, lines)
 }
 
 // Compares the lines with a file from its first message on.

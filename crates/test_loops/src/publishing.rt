@@ -3,7 +3,8 @@
 use crate::comparisons::holds;
 use mold_durable::{DurableJournal, MemoryStorage, WaitingError};
 use mold_durable_publisher::DurablePublisher;
-use mold_session::{AppendError, Journal};
+use mold_session::{AppendError, FileError, Server};
+use mold_stored_journal::StoredJournal;
 use mold_wire::Session;
 use std::alloc::Global;
 use std::process::Abort;
@@ -21,8 +22,8 @@ type InMemory = DurablePublisher<MemoryStorage>;
 // A new session in memory.
 fn start(alloc: Global, storage: MemoryStorage) -> Result<InMemory, Fail> {
     let durable = DurableJournal::create(alloc, SESSION, 42, storage)?;
-    let journal = Journal::new(alloc, SESSION, 42);
-    Ok(DurablePublisher::resume(alloc, journal, durable, 64)?)
+    let stored = StoredJournal::new(alloc, SESSION, 42)?;
+    Ok(DurablePublisher::resume(alloc, stored, durable, 64)?)
 }
 
 fn same_datagram(rt: &impl Abort, found: Option<&[u8]>, wanted: Option<&[u8]>) {
@@ -72,4 +73,57 @@ fn out_of_memory_appends_no_message(rt: HostRuntime) -> Result<(), Fail> {
     let number = append_again(&mut publisher)?;
     holds(&rt, number == 1 && publisher.unsent() == 1);
     Ok(())
+}
+
+const REQUEST: &[u8] = b"SESSION001\0\0\0\0\0\0\0\x01\0\x01";
+
+// Whether a response is refused because a message waits.
+fn is_refused(response: Result<Option<&[u8]>, FileError>) -> bool {
+    match response {
+        Err(error) => error == FileError::Damaged { number: 1 },
+        Ok(_) => false,
+    }
+}
+
+// The response to the request has the first datagram, and no more.
+fn respond_with_first(
+    rt: &impl Abort,
+    server: &mut Server,
+    publisher: &mut InMemory,
+) -> Result<(), Fail> {
+    let mut plan = server.plan_from(publisher, 2, REQUEST)?;
+    same_datagram(rt, server.datagram_from(publisher, &mut plan)?, Some(FIRST));
+    same_datagram(rt, server.datagram_from(publisher, &mut plan)?, None);
+    Ok(())
+}
+
+fn respond_while_waiting(
+    rt: &impl Abort,
+    server: &mut Server,
+    publisher: &mut InMemory,
+) -> Result<(), Fail> {
+    let mut plan = server.plan_from(publisher, 2, REQUEST)?;
+    let response = server.datagram_from(publisher, &mut plan);
+    holds(rt, is_refused(response));
+    Ok(())
+}
+
+fn respond_twice(
+    rt: &impl Abort,
+    server: &mut Server,
+    publisher: &mut InMemory,
+) -> Result<(), Fail> {
+    publish_one(rt, publisher)?;
+    holds(rt, publisher.session() == SESSION && publisher.count() == 1);
+    respond_with_first(rt, server, publisher)?;
+    publisher.append(b"CD")?;
+    respond_while_waiting(rt, server, publisher)
+}
+
+/// A server responds from the storage, unless a message waits to be committed.
+#[test]
+fn a_server_responds_from_the_storage(rt: HostRuntime) -> Result<(), Fail> {
+    let mut publisher = start(rt.alloc(), MemoryStorage::new(rt.alloc()))?;
+    let mut server = Server::new(rt.alloc(), 64, 42, 1)?;
+    respond_twice(&rt, &mut server, &mut publisher)
 }

@@ -1,5 +1,4 @@
-use Rattle.std.proofs.Common.{ap, arith, length, ◌∙◌}
-use Rattle.mold_session.specs.Journal.{JournalState}
+use Rattle.std.proofs.Common.{arith, ◌∙◌}
 use Rattle.mold_feeder.proofs.ComparisonLemmas.{compared_more}
 use Rattle.mold_feeder.proofs.comparison.compare_all.Goals as goal
 
@@ -14,8 +13,7 @@ loop-at-preserved g c = record {
   within = omega (
     arith,
     c.loop-at-test.true,
-    c.next.ensures.value,
-    ap (λ (j : JournalState). length j.messages) c.journal.ensures,
+    c.count.ensures.value,
   );
   failed = c.in_ok-stopped.ensures.failures.0 ∙ c.loop-at.invariant.failed;
   file = c.in_ok-stopped.ensures.failures.1 ∙ c.loop-at.invariant.file;

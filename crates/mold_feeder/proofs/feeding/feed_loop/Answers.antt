@@ -20,7 +20,7 @@ returns-clause-finished g c = λ life is.
     record {
       stop = stop;
       groups = ran.0;
-      fed = fed_then g.S.Storage.shows g.S.Storage.may_leave g.S.Storage.moment g.S.Storage.left_since
+      fed = fed_then g.S.Storage.shows g.S.Storage.may_leave g.S.Storage.moment g.S.Storage.left_since g.S.Storage.failed
           g.L.PortSet.modeled g.D.Datagrams.modeled c.args.options.now.lines life [] ran.0
           (closes_at c.args.options.now.end stop) (state_of g.L.PortSet.state g.D.Datagrams.port c.args.feed.now)
           (state_of g.L.PortSet.state g.D.Datagrams.port c.begin.new.self)
@@ -45,7 +45,8 @@ returns-clause-finished g c = λ life is.
 pub returns-in_err-buffer-clause-broken : goal.returns-in_err-buffer-clause-broken
 returns-in_err-buffer-clause-broken g c = λ life is.
     on_err _
-    (broken_now g.S.Storage.shows g.S.Storage.may_leave g.S.Storage.moment g.S.Storage.left_since g.L.PortSet.modeled
+    (broken_now g.S.Storage.shows g.S.Storage.may_leave g.S.Storage.moment g.S.Storage.left_since g.S.Storage.failed
+    g.L.PortSet.modeled
     g.D.Datagrams.modeled c.args.options.now.lines g.met.S.Storage.only_now
     (TakesYet (HasMessages g.J.Source.left c.args.journal.now c.args.feed.now.feeder.publisher.publisher.journal.messages 1) c.args.options.now.appends g.M.MessageReader.input_kind c.args.feed.now.feeder.publisher.publisher.journal
     (entries_of_rest g.M.InputReader.unread g.K.Source.left g.M.MessageReader.entries c.args.feed.now.input))
@@ -57,14 +58,16 @@ returns-in_err-buffer-clause-broken g c = λ life is.
     (yet_none (HasMessages g.J.Source.left c.args.journal.now c.args.feed.now.feeder.publisher.publisher.journal.messages 1) c.args.options.now.appends g.M.MessageReader.input_kind c.args.feed.now.feeder.publisher.publisher.journal
     c.args.feed.now.feeder.publisher.publisher.journal
     (entries_of_rest g.M.InputReader.unread g.K.Source.left g.M.MessageReader.entries c.args.feed.now.input) refl)
-    (fed_yet g.S.Storage.shows g.S.Storage.may_leave g.S.Storage.moment g.S.Storage.left_since g.L.PortSet.modeled
+    (fed_yet g.S.Storage.shows g.S.Storage.may_leave g.S.Storage.moment g.S.Storage.left_since g.S.Storage.failed
+    g.L.PortSet.modeled
     g.D.Datagrams.modeled c.args.options.now.lines g.met.S.Storage.only_now life
     (state_of g.L.PortSet.state g.D.Datagrams.port c.args.feed.now) is))
 
 pub returns-in_err-begin-clause-broken : goal.returns-in_err-begin-clause-broken
 returns-in_err-begin-clause-broken g c = λ life is.
     on_err _
-    (broken_now g.S.Storage.shows g.S.Storage.may_leave g.S.Storage.moment g.S.Storage.left_since g.L.PortSet.modeled
+    (broken_now g.S.Storage.shows g.S.Storage.may_leave g.S.Storage.moment g.S.Storage.left_since g.S.Storage.failed
+    g.L.PortSet.modeled
     g.D.Datagrams.modeled c.args.options.now.lines g.met.S.Storage.only_now
     (TakesYet (HasMessages g.J.Source.left c.args.journal.now c.args.feed.now.feeder.publisher.publisher.journal.messages 1) c.args.options.now.appends g.M.MessageReader.input_kind c.args.feed.now.feeder.publisher.publisher.journal
     (entries_of_rest g.M.InputReader.unread g.K.Source.left g.M.MessageReader.entries c.args.feed.now.input))
@@ -93,13 +96,15 @@ returns-in_err-stop-clause-broken g c = λ life is.
     entries_of_rest g.M.InputReader.unread g.K.Source.left g.M.MessageReader.entries i) c.begin.ensures.input in
     let begun = c.begin.ensures.fed life is in
     on_err _
-    (broken_then g.S.Storage.shows g.S.Storage.may_leave g.S.Storage.moment g.S.Storage.left_since g.L.PortSet.modeled
+    (broken_then g.S.Storage.shows g.S.Storage.may_leave g.S.Storage.moment g.S.Storage.left_since g.S.Storage.failed
+    g.L.PortSet.modeled
     g.D.Datagrams.modeled c.args.options.now.lines (TakesYet (HasMessages g.J.Source.left c.args.journal.now c.args.feed.now.feeder.publisher.publisher.journal.messages 1) appends kind old known)
     (MayClose (HasMessages g.J.Source.left c.args.journal.now c.args.feed.now.feeder.publisher.publisher.journal.messages 1) c.args.options.now.end appends kind old known) life []
     (state_of g.L.PortSet.state g.D.Datagrams.port c.args.feed.now)
     (state_of g.L.PortSet.state g.D.Datagrams.port c.begin.new.self)
     (state_of g.L.PortSet.state g.D.Datagrams.port c.run.new.self) begun
-    (broken_weaker g.S.Storage.shows g.S.Storage.may_leave g.S.Storage.moment g.S.Storage.left_since g.L.PortSet.modeled
+    (broken_weaker g.S.Storage.shows g.S.Storage.may_leave g.S.Storage.moment g.S.Storage.left_since g.S.Storage.failed
+    g.L.PortSet.modeled
     g.D.Datagrams.modeled c.args.options.now.lines (TakesYet (HasMessages g.J.Source.left c.args.journal.now c.args.feed.now.feeder.publisher.publisher.journal.messages 1) appends kind old known)
     (MayClose (HasMessages g.J.Source.left c.args.journal.now c.args.feed.now.feeder.publisher.publisher.journal.messages 1) c.args.options.now.end appends kind old known) (grown life []) (TakesYet (HasMessages g.J.Source.left c.args.journal.now c.begin.new.self.feeder.publisher.publisher.journal.messages 1) appends kind mid behind)
     (MayClose (HasMessages g.J.Source.left c.args.journal.now c.begin.new.self.feeder.publisher.publisher.journal.messages 1) c.args.options.now.end appends kind mid behind)
@@ -130,7 +135,8 @@ returns-in_err-push_stop-clause-broken g c = λ life is.
     entries_of_rest g.M.InputReader.unread g.K.Source.left g.M.MessageReader.entries i) c.begin.ensures.input)
     (c.in_ok-stop.ensures.taken (grown life []) begun.rests) in
     on_err _
-    (broken_after g.S.Storage.shows g.S.Storage.may_leave g.S.Storage.moment g.S.Storage.left_since g.L.PortSet.modeled
+    (broken_after g.S.Storage.shows g.S.Storage.may_leave g.S.Storage.moment g.S.Storage.left_since g.S.Storage.failed
+    g.L.PortSet.modeled
     g.D.Datagrams.modeled c.args.options.now.lines g.met.S.Storage.only_now (TakesYet (HasMessages g.J.Source.left c.args.journal.now c.args.feed.now.feeder.publisher.publisher.journal.messages 1) appends kind old known)
     (MayClose (HasMessages g.J.Source.left c.args.journal.now c.args.feed.now.feeder.publisher.publisher.journal.messages 1) end appends kind old known) life end stop
     (state_of g.L.PortSet.state g.D.Datagrams.port c.args.feed.now)
@@ -159,7 +165,8 @@ returns-in_err-send-clause-broken g c = λ life is.
     entries_of_rest g.M.InputReader.unread g.K.Source.left g.M.MessageReader.entries i) c.begin.ensures.input)
     (c.in_ok-stop.ensures.taken (grown life []) begun.rests) in
     on_err _
-    (broken_after g.S.Storage.shows g.S.Storage.may_leave g.S.Storage.moment g.S.Storage.left_since g.L.PortSet.modeled
+    (broken_after g.S.Storage.shows g.S.Storage.may_leave g.S.Storage.moment g.S.Storage.left_since g.S.Storage.failed
+    g.L.PortSet.modeled
     g.D.Datagrams.modeled c.args.options.now.lines g.met.S.Storage.only_now (TakesYet (HasMessages g.J.Source.left c.args.journal.now c.args.feed.now.feeder.publisher.publisher.journal.messages 1) appends kind old known)
     (MayClose (HasMessages g.J.Source.left c.args.journal.now c.args.feed.now.feeder.publisher.publisher.journal.messages 1) end appends kind old known) life end stop
     (state_of g.L.PortSet.state g.D.Datagrams.port c.args.feed.now)

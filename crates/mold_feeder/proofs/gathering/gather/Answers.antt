@@ -1,5 +1,6 @@
-use Rattle.std.proofs.Common.{arith, refl, ◌∙◌}
+use Rattle.std.proofs.Common.{ap, arith, refl, ◌∙◌}
 use Rattle.mold_devices.proofs.LineLemmas.{on_err}
+use Rattle.mold_durable_publisher.specs.declared.durable_publisher.DurablePublisher.{DurablePublisher}
 use Rattle.mold_feeder.specs.Gathering.{with_waiting}
 use Rattle.mold_feeder.proofs.GatheringLemmas.{gathered_end, gathered_fault, gathered_more, gathered_nothing}
 use Rattle.mold_feeder.proofs.GatheringLemmas.{gathered_refused, grown_so_far}
@@ -66,4 +67,4 @@ returns-in_err-refusal-clause-grows g c = λ life is.
     on_err _
     (grown_so_far g.S.Storage.shows g.S.Storage.may_leave g.M.MessageReader.input_kind life c.loop-message._message
     c.args.publisher.now c.loop-message.publisher c.join_waiting.new.publisher _ _
-    (c.loop-message.invariant.gathered life is) c.in_err-refusal.ensures.same)
+    (c.loop-message.invariant.gathered life is) (ap (λ (p : DurablePublisher g.row.S.Denot). p.publisher) c.in_err-refusal.ensures.same))

@@ -15,7 +15,8 @@ use Rattle.mold_feeder.proofs.feed.Feed.compare.Goals as goal
 pub loop-init : goal.loop-init
 loop-init g c = record {
   fed = λ life is.
-      fed_yet g.S.Storage.shows g.S.Storage.may_leave g.S.Storage.moment g.S.Storage.left_since g.L.PortSet.modeled
+      fed_yet g.S.Storage.shows g.S.Storage.may_leave g.S.Storage.moment g.S.Storage.left_since g.S.Storage.failed
+      g.L.PortSet.modeled
       g.D.Datagrams.modeled c.args.lines.now g.met.S.Storage.only_now life
       (state_of g.L.PortSet.state g.D.Datagrams.port c.args.self.now) is;
   longest = c.requires.longest;
@@ -31,7 +32,8 @@ loop-init g c = record {
 
 pub returns-in_err-pause-clause-fed : goal.returns-in_err-pause-clause-fed
 returns-in_err-pause-clause-fed g c = λ life is.
-    fed_paused g.S.Storage.shows g.S.Storage.may_leave g.S.Storage.moment g.S.Storage.left_since g.L.PortSet.modeled
+    fed_paused g.S.Storage.shows g.S.Storage.may_leave g.S.Storage.moment g.S.Storage.left_since g.S.Storage.failed
+    g.L.PortSet.modeled
     g.D.Datagrams.modeled c.args.lines.now g.met.S.Storage.only_now g.L.PortSet.state g.D.Datagrams.port life [] false
     (state_of g.L.PortSet.state g.D.Datagrams.port c.args.self.now) c.loop.self c.pause.new.self
     (c.loop.invariant.fed life is)
@@ -40,7 +42,8 @@ returns-in_err-pause-clause-fed g c = λ life is.
 
 pub returns-in_err-at-clause-fed : goal.returns-in_err-at-clause-fed
 returns-in_err-at-clause-fed g c = λ life is.
-    fed_compared g.S.Storage.shows g.S.Storage.may_leave g.S.Storage.moment g.S.Storage.left_since g.L.PortSet.modeled
+    fed_compared g.S.Storage.shows g.S.Storage.may_leave g.S.Storage.moment g.S.Storage.left_since g.S.Storage.failed
+    g.L.PortSet.modeled
     g.D.Datagrams.modeled c.args.lines.now g.met.S.Storage.only_now g.L.PortSet.state g.D.Datagrams.port life
     (state_of g.L.PortSet.state g.D.Datagrams.port c.args.self.now) c.loop.self c.pause.new.self c.serve.new.self
     c.compare_some.new.self (c.loop.invariant.fed life is)
@@ -49,7 +52,8 @@ returns-in_err-at-clause-fed g c = λ life is.
 
 pub returns-then-not-compares_on-clause-fed : goal.returns-then-not-compares_on-clause-fed
 returns-then-not-compares_on-clause-fed g c = λ life is.
-    fed_compared g.S.Storage.shows g.S.Storage.may_leave g.S.Storage.moment g.S.Storage.left_since g.L.PortSet.modeled
+    fed_compared g.S.Storage.shows g.S.Storage.may_leave g.S.Storage.moment g.S.Storage.left_since g.S.Storage.failed
+    g.L.PortSet.modeled
     g.D.Datagrams.modeled c.args.lines.now g.met.S.Storage.only_now g.L.PortSet.state g.D.Datagrams.port life
     (state_of g.L.PortSet.state g.D.Datagrams.port c.args.self.now) c.loop.self c.pause.new.self c.serve.new.self
     c.compare_some.new.self (c.loop.invariant.fed life is)
@@ -59,7 +63,8 @@ returns-then-not-compares_on-clause-fed g c = λ life is.
 pub loop-preserved : goal.loop-preserved
 loop-preserved g c = record {
   fed = λ life is.
-      fed_compared g.S.Storage.shows g.S.Storage.may_leave g.S.Storage.moment g.S.Storage.left_since g.L.PortSet.modeled
+      fed_compared g.S.Storage.shows g.S.Storage.may_leave g.S.Storage.moment g.S.Storage.left_since g.S.Storage.failed
+      g.L.PortSet.modeled
       g.D.Datagrams.modeled c.args.lines.now g.met.S.Storage.only_now g.L.PortSet.state g.D.Datagrams.port life
       (state_of g.L.PortSet.state g.D.Datagrams.port c.args.self.now) c.loop.self c.pause.new.self c.serve.new.self
       c.compare_some.new.self (c.loop.invariant.fed life is)

@@ -10,13 +10,14 @@ use Rattle.mold_feeder.proofs.feed.Feed.end.Goals as goal
 pub returns-clause-fed : goal.returns-clause-fed
 returns-clause-fed g c = λ life is.
     ok_always c.serve_until.result _
-    (fed_ended_on g.S.Storage.shows g.S.Storage.may_leave g.S.Storage.moment g.S.Storage.left_since g.L.PortSet.modeled
+    (fed_ended_on g.S.Storage.shows g.S.Storage.may_leave g.S.Storage.moment g.S.Storage.left_since g.S.Storage.failed
+    g.L.PortSet.modeled
     g.D.Datagrams.modeled c.args.options.now.lines c.told_law.ensures.moment g.L.PortSet.state
     c.args.options.now.end life c.args.self.now.feeder c.end.new.self
     (g.D.Datagrams.port c.args.self.now.requests.port) c.args.self.now.requests.server
     (state_of g.L.PortSet.state g.D.Datagrams.port c.serve_until.new.self) is
     (c.in_ok-end.ensures.ended life is.publishes) (c.end.ensures.crash life is.publishes is.intact)
-    c.in_ok-end.ensures.intact c.serve_until.ensures.fed)
+    c.in_ok-end.ensures.intact c.in_ok-end.ensures.unfailed c.serve_until.ensures.fed)
 
 pub returns-clause-journal : goal.returns-clause-journal
 returns-clause-journal g c =
@@ -26,7 +27,8 @@ returns-clause-journal g c =
 pub returns-in_err-end-clause-broken : goal.returns-in_err-end-clause-broken
 returns-in_err-end-clause-broken g c = λ life is.
     on_err _
-    (broken_end g.S.Storage.shows g.S.Storage.may_leave g.S.Storage.moment g.S.Storage.left_since g.L.PortSet.modeled
+    (broken_end g.S.Storage.shows g.S.Storage.may_leave g.S.Storage.moment g.S.Storage.left_since g.S.Storage.failed
+    g.L.PortSet.modeled
     g.D.Datagrams.modeled c.args.options.now.lines g.met.S.Storage.only_now
     (TakesNothing c.args.self.now.feeder.publisher.publisher.journal)
     (MayCloseNow c.args.options.now.end c.args.self.now.feeder.publisher.publisher.journal) life g.L.PortSet.state
@@ -41,7 +43,8 @@ returns-clause-broken g c = λ life is.
     let stays = c.args.options.now.end.stays_open in
     let before = c.args.self.now.feeder.publisher.publisher.journal in
     on_err c.serve_until.result
-    (broken_at g.S.Storage.shows g.S.Storage.may_leave g.S.Storage.moment g.S.Storage.left_since g.L.PortSet.modeled
+    (broken_at g.S.Storage.shows g.S.Storage.may_leave g.S.Storage.moment g.S.Storage.left_since g.S.Storage.failed
+    g.L.PortSet.modeled
     g.D.Datagrams.modeled c.args.options.now.lines g.met.S.Storage.only_now (TakesNothing before)
     (MayCloseNow c.args.options.now.end before)
     life [] (not stays)
@@ -57,10 +60,11 @@ returns-clause-broken g c = λ life is.
           (c.serve_until.ensures.journal ∙ ap (λ (p : PublisherState). p.journal) c.in_ok-end.ensures.publisher)
           ∙ reopened_ended c.args.options.now.end before c.args.self.now.feeder.publisher.publisher refl,
     ))
-    (fed_ended_on g.S.Storage.shows g.S.Storage.may_leave g.S.Storage.moment g.S.Storage.left_since g.L.PortSet.modeled
+    (fed_ended_on g.S.Storage.shows g.S.Storage.may_leave g.S.Storage.moment g.S.Storage.left_since g.S.Storage.failed
+    g.L.PortSet.modeled
     g.D.Datagrams.modeled c.args.options.now.lines c.told_law.ensures.moment g.L.PortSet.state
     c.args.options.now.end life c.args.self.now.feeder c.end.new.self
     (g.D.Datagrams.port c.args.self.now.requests.port) c.args.self.now.requests.server
     (state_of g.L.PortSet.state g.D.Datagrams.port c.serve_until.new.self) is
     (c.in_ok-end.ensures.ended life is.publishes) (c.end.ensures.crash life is.publishes is.intact)
-    c.in_ok-end.ensures.intact c.serve_until.ensures.fed))
+    c.in_ok-end.ensures.intact c.in_ok-end.ensures.unfailed c.serve_until.ensures.fed))

@@ -14,7 +14,8 @@ pub loop-init : goal.loop-init
 loop-init g c = record {
   fed = λ life is. (
     [],
-    fed_yet g.S.Storage.shows g.S.Storage.may_leave g.S.Storage.moment g.S.Storage.left_since g.L.PortSet.modeled
+    fed_yet g.S.Storage.shows g.S.Storage.may_leave g.S.Storage.moment g.S.Storage.left_since g.S.Storage.failed
+        g.L.PortSet.modeled
         g.D.Datagrams.modeled c.args.lines.now g.met.S.Storage.only_now life
         (state_of g.L.PortSet.state g.D.Datagrams.port c.args.self.now) is,
   );
@@ -32,7 +33,8 @@ loop-preserved g c = record {
       let start = c.loop.invariant.fed life is in
       let next = c.in_ok-taken.ensures.fed (grown life start.0) start.1.rests in (
         start.0 ++ next.0,
-        fed_then g.S.Storage.shows g.S.Storage.may_leave g.S.Storage.moment g.S.Storage.left_since g.L.PortSet.modeled
+        fed_then g.S.Storage.shows g.S.Storage.may_leave g.S.Storage.moment g.S.Storage.left_since g.S.Storage.failed
+            g.L.PortSet.modeled
             g.D.Datagrams.modeled c.args.lines.now life start.0 next.0 false
             (state_of g.L.PortSet.state g.D.Datagrams.port c.args.self.now) (state_of g.L.PortSet.state g.D.Datagrams.port c.loop.self)
             (state_of g.L.PortSet.state g.D.Datagrams.port c.turn.new.self) start.1 (next.1),
@@ -61,7 +63,8 @@ returns-in-Some-clause-fed g c = λ life is.
     let start = c.loop.invariant.fed life is in
     let next = c.in_ok-taken.ensures.fed (grown life start.0) start.1.rests in (
       start.0 ++ next.0,
-      fed_then g.S.Storage.shows g.S.Storage.may_leave g.S.Storage.moment g.S.Storage.left_since g.L.PortSet.modeled
+      fed_then g.S.Storage.shows g.S.Storage.may_leave g.S.Storage.moment g.S.Storage.left_since g.S.Storage.failed
+          g.L.PortSet.modeled
           g.D.Datagrams.modeled c.args.lines.now life start.0 next.0 false
           (state_of g.L.PortSet.state g.D.Datagrams.port c.args.self.now) (state_of g.L.PortSet.state g.D.Datagrams.port c.loop.self)
           (state_of g.L.PortSet.state g.D.Datagrams.port c.turn.new.self) start.1 (next.1),
@@ -97,7 +100,8 @@ returns-in_err-taken-clause-broken g c = λ life is.
     entries_of_rest g.M.InputReader.unread g.K.Source.left g.M.MessageReader.entries c.args.self.now.input in
     let behind = entries_of_rest g.M.InputReader.unread g.K.Source.left g.M.MessageReader.entries c.loop.self.input in
     on_err _
-    (broken_then g.S.Storage.shows g.S.Storage.may_leave g.S.Storage.moment g.S.Storage.left_since g.L.PortSet.modeled
+    (broken_then g.S.Storage.shows g.S.Storage.may_leave g.S.Storage.moment g.S.Storage.left_since g.S.Storage.failed
+    g.L.PortSet.modeled
     g.D.Datagrams.modeled c.args.lines.now (TakesPart g.M.MessageReader.input_kind
     c.args.self.now.feeder.publisher.publisher.journal
     (entries_of_rest g.M.InputReader.unread g.K.Source.left g.M.MessageReader.entries c.args.self.now.input))
@@ -105,7 +109,8 @@ returns-in_err-taken-clause-broken g c = λ life is.
     (state_of g.L.PortSet.state g.D.Datagrams.port c.args.self.now)
     (state_of g.L.PortSet.state g.D.Datagrams.port c.loop.self)
     (state_of g.L.PortSet.state g.D.Datagrams.port c.turn.new.self) start.1
-    (broken_weaker g.S.Storage.shows g.S.Storage.may_leave g.S.Storage.moment g.S.Storage.left_since g.L.PortSet.modeled
+    (broken_weaker g.S.Storage.shows g.S.Storage.may_leave g.S.Storage.moment g.S.Storage.left_since g.S.Storage.failed
+    g.L.PortSet.modeled
     g.D.Datagrams.modeled c.args.lines.now (TakesPart g.M.MessageReader.input_kind
     c.args.self.now.feeder.publisher.publisher.journal
     (entries_of_rest g.M.InputReader.unread g.K.Source.left g.M.MessageReader.entries c.args.self.now.input))
@@ -122,7 +127,8 @@ returns-in_err-taken-clause-broken g c = λ life is.
 pub returns-clause-broken : goal.returns-clause-broken
 returns-clause-broken g c = λ life is.
     let start = c.loop.invariant.fed life is in
-    broken_now g.S.Storage.shows g.S.Storage.may_leave g.S.Storage.moment g.S.Storage.left_since g.L.PortSet.modeled
+    broken_now g.S.Storage.shows g.S.Storage.may_leave g.S.Storage.moment g.S.Storage.left_since g.S.Storage.failed
+    g.L.PortSet.modeled
     g.D.Datagrams.modeled c.args.lines.now g.met.S.Storage.only_now
     (TakesPart g.M.MessageReader.input_kind c.args.self.now.feeder.publisher.publisher.journal
     (entries_of_rest g.M.InputReader.unread g.K.Source.left g.M.MessageReader.entries c.args.self.now.input))

@@ -1,4 +1,4 @@
-use Rattle.std.proofs.Common.{◌≡◌, ◌∙◌, ap, arith, length, subst, sym, [], ◌++◌, false, not, refl}
+use Rattle.std.proofs.Common.{◌≡◌, ◌∙◌, ap, arith, subst, sym, [], ◌++◌, false, not, refl}
 use Rattle.mold_publish.specs.declared.filling.Filled.TheVariants as filled
 use Rattle.mold_session.specs.Journal.{JournalState}
 use Rattle.mold_devices.proofs.LineLemmas.{on_err}
@@ -18,7 +18,8 @@ returns-in_err-gathered-clause-broken g c = λ life is.
     entries_of_rest g.M.InputReader.unread g.K.Source.left g.M.MessageReader.entries c.args.self.now.input in
     let may_close = MayCloseAfter c.args.options.now.end kind c.args.begun old known in
     on_err _
-    (broken_weaker g.S.Storage.shows g.S.Storage.may_leave g.S.Storage.moment g.S.Storage.left_since g.L.PortSet.modeled
+    (broken_weaker g.S.Storage.shows g.S.Storage.may_leave g.S.Storage.moment g.S.Storage.left_since g.S.Storage.failed
+    g.L.PortSet.modeled
     g.D.Datagrams.modeled c.args.options.now.lines (TakesPart kind old known) may_close life
     (TakesPart kind old known) MayNotClose (state_of g.L.PortSet.state g.D.Datagrams.port c.args.self.now)
     (state_of g.L.PortSet.state g.D.Datagrams.port c.publish.new.self) (λ journal part. part)
@@ -38,14 +39,16 @@ returns-in_err-serve_until-clause-broken g c = λ life is.
     let may_close = MayCloseAfter c.args.options.now.end kind c.args.begun old known in
     let one = c.in_ok-gathered.ensures.fed life is in
     on_err _
-    (broken_now g.S.Storage.shows g.S.Storage.may_leave g.S.Storage.moment g.S.Storage.left_since g.L.PortSet.modeled
+    (broken_now g.S.Storage.shows g.S.Storage.may_leave g.S.Storage.moment g.S.Storage.left_since g.S.Storage.failed
+    g.L.PortSet.modeled
     g.D.Datagrams.modeled c.args.options.now.lines g.met.S.Storage.only_now (TakesPart kind old known) may_close life
     one.0
     (state_of g.L.PortSet.state g.D.Datagrams.port c.args.self.now)
     (state_of g.L.PortSet.state g.D.Datagrams.port c.serve_until.new.self)
     (part_at kind old published served known rest (filled_for c.in_ok-gathered.gathered) c.serve_until.ensures.journal
     (c.in_ok-gathered.ensures.taken life is))
-    (fed_serving g.S.Storage.shows g.S.Storage.may_leave g.S.Storage.moment g.S.Storage.left_since g.L.PortSet.modeled
+    (fed_serving g.S.Storage.shows g.S.Storage.may_leave g.S.Storage.moment g.S.Storage.left_since g.S.Storage.failed
+    g.L.PortSet.modeled
     g.D.Datagrams.modeled c.args.options.now.lines life one.0 false
     (state_of g.L.PortSet.state g.D.Datagrams.port c.args.self.now)
     (state_of g.L.PortSet.state g.D.Datagrams.port c.publish.new.self)
@@ -54,7 +57,7 @@ returns-in_err-serve_until-clause-broken g c = λ life is.
 pub returns-in-Some-clause-fed : goal.returns-in-Some-clause-fed
 returns-in-Some-clause-fed g c = λ life is.
     let one = c.in_ok-gathered.ensures.fed life is in
-    let two = fed_serving g.S.Storage.shows g.S.Storage.may_leave g.S.Storage.moment g.S.Storage.left_since
+    let two = fed_serving g.S.Storage.shows g.S.Storage.may_leave g.S.Storage.moment g.S.Storage.left_since g.S.Storage.failed
     g.L.PortSet.modeled g.D.Datagrams.modeled c.args.options.now.lines life one.0 false
     (state_of g.L.PortSet.state g.D.Datagrams.port c.args.self.now)
     (state_of g.L.PortSet.state g.D.Datagrams.port c.publish.new.self)
@@ -77,18 +80,20 @@ returns-in_err-end-clause-broken g c = λ life is.
     ∙ (c.in_ok-gathered.ensures.fed life is).1.rests.publishes.closed
     ∙ sym is.publishes.closed in
     let one = c.in_ok-gathered.ensures.fed life is in
-    let two = fed_serving g.S.Storage.shows g.S.Storage.may_leave g.S.Storage.moment g.S.Storage.left_since
+    let two = fed_serving g.S.Storage.shows g.S.Storage.may_leave g.S.Storage.moment g.S.Storage.left_since g.S.Storage.failed
     g.L.PortSet.modeled g.D.Datagrams.modeled c.args.options.now.lines life one.0 false
     (state_of g.L.PortSet.state g.D.Datagrams.port c.args.self.now)
     (state_of g.L.PortSet.state g.D.Datagrams.port c.publish.new.self)
     (state_of g.L.PortSet.state g.D.Datagrams.port c.serve_until.new.self) one.1 c.serve_until.ensures.fed in
     on_err _
-    (broken_then g.S.Storage.shows g.S.Storage.may_leave g.S.Storage.moment g.S.Storage.left_since g.L.PortSet.modeled
+    (broken_then g.S.Storage.shows g.S.Storage.may_leave g.S.Storage.moment g.S.Storage.left_since g.S.Storage.failed
+    g.L.PortSet.modeled
     g.D.Datagrams.modeled c.args.options.now.lines (TakesPart kind old known) may_close life one.0
     (state_of g.L.PortSet.state g.D.Datagrams.port c.args.self.now)
     (state_of g.L.PortSet.state g.D.Datagrams.port c.serve_until.new.self)
     (state_of g.L.PortSet.state g.D.Datagrams.port c.end.new.self) two
-    (broken_weaker g.S.Storage.shows g.S.Storage.may_leave g.S.Storage.moment g.S.Storage.left_since g.L.PortSet.modeled
+    (broken_weaker g.S.Storage.shows g.S.Storage.may_leave g.S.Storage.moment g.S.Storage.left_since g.S.Storage.failed
+    g.L.PortSet.modeled
     g.D.Datagrams.modeled c.args.options.now.lines (TakesPart kind old known) may_close
     (grown life one.0) (TakesNothing served) (MayCloseNow c.args.options.now.end served)
     (state_of g.L.PortSet.state g.D.Datagrams.port c.serve_until.new.self)
@@ -107,13 +112,14 @@ returns-in_err-end-clause-broken g c = λ life is.
 pub returns-clause-fed : goal.returns-clause-fed
 returns-clause-fed g c = λ life is.
     let one = c.in_ok-gathered.ensures.fed life is in
-    let two = fed_serving g.S.Storage.shows g.S.Storage.may_leave g.S.Storage.moment g.S.Storage.left_since
+    let two = fed_serving g.S.Storage.shows g.S.Storage.may_leave g.S.Storage.moment g.S.Storage.left_since g.S.Storage.failed
     g.L.PortSet.modeled g.D.Datagrams.modeled c.args.options.now.lines life one.0 false
     (state_of g.L.PortSet.state g.D.Datagrams.port c.args.self.now)
     (state_of g.L.PortSet.state g.D.Datagrams.port c.publish.new.self)
     (state_of g.L.PortSet.state g.D.Datagrams.port c.serve_until.new.self) one.1 c.serve_until.ensures.fed in (
       one.0 ++ [],
-      fed_then g.S.Storage.shows g.S.Storage.may_leave g.S.Storage.moment g.S.Storage.left_since g.L.PortSet.modeled
+      fed_then g.S.Storage.shows g.S.Storage.may_leave g.S.Storage.moment g.S.Storage.left_since g.S.Storage.failed
+          g.L.PortSet.modeled
           g.D.Datagrams.modeled c.args.options.now.lines life one.0 []
           (not c.args.options.now.end.stays_open) (state_of g.L.PortSet.state g.D.Datagrams.port c.args.self.now)
           (state_of g.L.PortSet.state g.D.Datagrams.port c.serve_until.new.self)
@@ -138,8 +144,7 @@ returns-in-Some-clause-taken g c = λ life is.
       omega (
         arith,
         c.saturating_sub-number.ensures,
-        c.next.ensures.value,
-        ap (λ (j : JournalState). length j.messages) c.journal.ensures,
+        c.count.ensures.value,
       ),
       (
         rest,

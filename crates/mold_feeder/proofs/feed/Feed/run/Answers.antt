@@ -1,4 +1,4 @@
-use Rattle.std.proofs.Common.{◌≡◌, ◌-◌, Bool, [], ℕ, ap, arith, inr, length, subst, sym}
+use Rattle.std.proofs.Common.{◌≡◌, Bool, [], ℕ, ap, inr, length, subst, sym}
 use Rattle.std.specs.Prelude.{IfOk}
 use Rattle.mold_session.specs.Journal.{JournalState}
 use Rattle.std.proofs.lemmas.Result.{IfOk-weaker, on_err_weaker}
@@ -20,7 +20,8 @@ returns-clause-fed g c = λ life is.
     IfOk-weaker c.publish_all-2.result _ _
     (λ stop next. (
       next.0,
-      fed_then g.S.Storage.shows g.S.Storage.may_leave g.S.Storage.moment g.S.Storage.left_since g.L.PortSet.modeled
+      fed_then g.S.Storage.shows g.S.Storage.may_leave g.S.Storage.moment g.S.Storage.left_since g.S.Storage.failed
+          g.L.PortSet.modeled
           g.D.Datagrams.modeled c.args.options.now.lines life [] next.0 (closes_at c.args.options.now.end stop)
           (state_of g.L.PortSet.state g.D.Datagrams.port c.args.self.now) (state_of g.L.PortSet.state g.D.Datagrams.port c.compare.new.self)
           (state_of g.L.PortSet.state g.D.Datagrams.port c.publish_all-2.new.self) one (next.1),
@@ -30,8 +31,8 @@ returns-clause-fed g c = λ life is.
 pub returns-then-options-clause-taken : goal.returns-then-options-clause-taken
 returns-then-options-clause-taken g c = λ life is.
     let new = c.publish_all.new.self.feeder.publisher.publisher.journal in
-    let begun : c.next-begun.result - 1 ≡ length c.args.self.now.feeder.publisher.publisher.journal.messages =
-    omega (arith, c.next-begun.ensures.value, ap (λ (j : JournalState). length j.messages) c.journal.ensures) in
+    let begun : c.count-begun.result ≡ length c.args.self.now.feeder.publisher.publisher.journal.messages =
+    c.count-begun.ensures.value in
     subst (λ (a : Bool). IfOk c.publish_all.result (TakesInput (HasMessages g.J.Source.left c.args.journal.now c.args.self.now.feeder.publisher.publisher.journal.messages 1) a g.M.MessageReader.input_kind c.args.self.now.feeder.publisher.publisher.journal
     (reopened c.args.self.now.feeder.publisher.publisher.journal new) (entries_of_rest g.M.InputReader.unread g.K.Source.left g.M.MessageReader.entries c.args.self.now.input))) (sym c.if-options.true)
     (subst (λ (n : ℕ). IfOk c.publish_all.result (TakesAfter g.M.MessageReader.input_kind n c.args.self.now.feeder.publisher.publisher.journal
@@ -73,7 +74,8 @@ returns-clause-taken g c = λ life is.
 pub returns-in_err-number-clause-broken : goal.returns-in_err-number-clause-broken
 returns-in_err-number-clause-broken g c = λ life is.
     on_err _
-    (broken_now g.S.Storage.shows g.S.Storage.may_leave g.S.Storage.moment g.S.Storage.left_since g.L.PortSet.modeled
+    (broken_now g.S.Storage.shows g.S.Storage.may_leave g.S.Storage.moment g.S.Storage.left_since g.S.Storage.failed
+    g.L.PortSet.modeled
     g.D.Datagrams.modeled c.args.options.now.lines g.met.S.Storage.only_now
     (TakesYet (HasMessages g.J.Source.left c.args.journal.now c.args.self.now.feeder.publisher.publisher.journal.messages 1) c.args.options.now.appends g.M.MessageReader.input_kind c.args.self.now.feeder.publisher.publisher.journal
     (entries_of_rest g.M.InputReader.unread g.K.Source.left g.M.MessageReader.entries c.args.self.now.input))
@@ -94,10 +96,11 @@ returns-then-options-clause-broken g c = λ life is.
     let kind = g.M.MessageReader.input_kind in
     let known =
     entries_of_rest g.M.InputReader.unread g.K.Source.left g.M.MessageReader.entries c.args.self.now.input in
-    let begun : c.next-begun.result - 1 ≡ length old.messages =
-    omega (arith, c.next-begun.ensures.value, ap (λ (j : JournalState). length j.messages) c.journal.ensures) in
+    let begun : c.count-begun.result ≡ length old.messages =
+    c.count-begun.ensures.value in
     on_err_weaker c.publish_all.result
-    (broken_weaker g.S.Storage.shows g.S.Storage.may_leave g.S.Storage.moment g.S.Storage.left_since g.L.PortSet.modeled
+    (broken_weaker g.S.Storage.shows g.S.Storage.may_leave g.S.Storage.moment g.S.Storage.left_since g.S.Storage.failed
+    g.L.PortSet.modeled
     g.D.Datagrams.modeled c.args.options.now.lines (TakesYet (HasMessages g.J.Source.left c.args.journal.now c.args.self.now.feeder.publisher.publisher.journal.messages 1) c.args.options.now.appends g.M.MessageReader.input_kind
     c.args.self.now.feeder.publisher.publisher.journal
     (entries_of_rest g.M.InputReader.unread g.K.Source.left g.M.MessageReader.entries c.args.self.now.input))
@@ -105,7 +108,7 @@ returns-then-options-clause-broken g c = λ life is.
     c.args.self.now.feeder.publisher.publisher.journal
     (entries_of_rest g.M.InputReader.unread g.K.Source.left g.M.MessageReader.entries c.args.self.now.input)) life
     (TakesPart kind old known)
-    (MayCloseAfter c.args.options.now.end kind (c.next-begun.result - 1) old known)
+    (MayCloseAfter c.args.options.now.end kind c.count-begun.result old known)
     (state_of g.L.PortSet.state g.D.Datagrams.port c.args.self.now)
     (state_of g.L.PortSet.state g.D.Datagrams.port c.publish_all.new.self)
     (λ journal part. subst (λ (a : Bool). TakesYet (HasMessages g.J.Source.left c.args.journal.now c.args.self.now.feeder.publisher.publisher.journal.messages 1) a kind old known journal) (sym c.if-options.true) part)
@@ -133,7 +136,8 @@ returns-clause-broken g c = λ life is.
     let one = c.in_ok-number.ensures.fed life is in
     on_err_weaker c.publish_all-2.result
     (λ broken.
-    broken_then g.S.Storage.shows g.S.Storage.may_leave g.S.Storage.moment g.S.Storage.left_since g.L.PortSet.modeled
+    broken_then g.S.Storage.shows g.S.Storage.may_leave g.S.Storage.moment g.S.Storage.left_since g.S.Storage.failed
+    g.L.PortSet.modeled
     g.D.Datagrams.modeled c.args.options.now.lines (TakesYet (HasMessages g.J.Source.left c.args.journal.now c.args.self.now.feeder.publisher.publisher.journal.messages 1) c.args.options.now.appends g.M.MessageReader.input_kind
     c.args.self.now.feeder.publisher.publisher.journal
     (entries_of_rest g.M.InputReader.unread g.K.Source.left g.M.MessageReader.entries c.args.self.now.input))
@@ -143,7 +147,8 @@ returns-clause-broken g c = λ life is.
     (state_of g.L.PortSet.state g.D.Datagrams.port c.args.self.now)
     (state_of g.L.PortSet.state g.D.Datagrams.port c.compare.new.self)
     (state_of g.L.PortSet.state g.D.Datagrams.port c.publish_all-2.new.self) one
-    (broken_weaker g.S.Storage.shows g.S.Storage.may_leave g.S.Storage.moment g.S.Storage.left_since g.L.PortSet.modeled
+    (broken_weaker g.S.Storage.shows g.S.Storage.may_leave g.S.Storage.moment g.S.Storage.left_since g.S.Storage.failed
+    g.L.PortSet.modeled
     g.D.Datagrams.modeled c.args.options.now.lines (TakesYet (HasMessages g.J.Source.left c.args.journal.now c.args.self.now.feeder.publisher.publisher.journal.messages 1) c.args.options.now.appends g.M.MessageReader.input_kind
     c.args.self.now.feeder.publisher.publisher.journal
     (entries_of_rest g.M.InputReader.unread g.K.Source.left g.M.MessageReader.entries c.args.self.now.input))

@@ -7,7 +7,8 @@ use Rattle.mold_feeder.proofs.feed.Feed.serve_until.Goals as goal
 pub loop-init : goal.loop-init
 loop-init g c = record {
   fed = λ life is.
-      fed_yet g.S.Storage.shows g.S.Storage.may_leave g.S.Storage.moment g.S.Storage.left_since g.L.PortSet.modeled
+      fed_yet g.S.Storage.shows g.S.Storage.may_leave g.S.Storage.moment g.S.Storage.left_since g.S.Storage.failed
+      g.L.PortSet.modeled
       g.D.Datagrams.modeled c.args.lines.now g.met.S.Storage.only_now life
       (state_of g.L.PortSet.state g.D.Datagrams.port c.args.self.now) is;
   longest = c.requires.longest;
@@ -19,7 +20,7 @@ loop-init g c = record {
 pub loop-preserved : goal.loop-preserved
 loop-preserved g c = record {
   fed = λ life is.
-      fed_served_on g.S.Storage.shows g.S.Storage.may_leave g.S.Storage.moment g.S.Storage.left_since
+      fed_served_on g.S.Storage.shows g.S.Storage.may_leave g.S.Storage.moment g.S.Storage.left_since g.S.Storage.failed
       g.L.PortSet.modeled g.D.Datagrams.modeled c.args.lines.now g.met.S.Storage.only_now g.L.PortSet.state g.D.Datagrams.port life
       (state_of g.L.PortSet.state g.D.Datagrams.port c.args.self.now) c.loop.self c.doze.new.self c.serve.new.self
       (c.loop.invariant.fed life is)

@@ -1,7 +1,8 @@
 use Rattle.std.proofs.Common.{◌≡◌, ◌≤◌, [], false, length}
 use Rattle.mold_durable.specs.Life.{Life}
 use Rattle.mold_wire.specs.declared.limits.TheConstants.{MAX_LIMIT}
-use Rattle.mold_feeder.specs.Feeding.{HasFed, IsAtRest, state_of}
+use Rattle.mold_durable_publisher.specs.DurablePublisher.{IsAtRest}
+use Rattle.mold_feeder.specs.Feeding.{HasFed, state_of}
 use Rattle.mold_feeder.proofs.feed.Feed.serve_until.Given as goal
 
 -- what was done so far
@@ -9,7 +10,8 @@ abbrev pub invariant-loop : goal.invariant-loop
 invariant-loop g l = record {
   fed :
       (life : Life) → IsAtRest g.S.Storage.shows g.S.Storage.may_leave l.fn.self.feeder.publisher life →
-      HasFed g.S.Storage.shows g.S.Storage.may_leave g.S.Storage.moment g.S.Storage.left_since g.L.PortSet.modeled
+      HasFed g.S.Storage.shows g.S.Storage.may_leave g.S.Storage.moment g.S.Storage.left_since g.S.Storage.failed
+      g.L.PortSet.modeled
       g.D.Datagrams.modeled l.fn.lines life [] false (state_of g.L.PortSet.state g.D.Datagrams.port l.fn.self)
       (state_of g.L.PortSet.state g.D.Datagrams.port l.self);
   longest : l.self.feeder.publisher.publisher.journal.max_message ≤ l.self.requests.server.max_message;

@@ -2,7 +2,8 @@ use Rattle.std.proofs.Common.{◌∙◌, List, [], Option, Some, ap, false, subs
 use Rattle.mold_input.specs.Entries.{Entry}
 use Rattle.mold_devices.proofs.LineLemmas.{on_err}
 use Rattle.mold_session.specs.Journal.{JournalState}
-use Rattle.mold_feeder.specs.Feeding.{IsAtRest, MayNotClose, grown, state_of}
+use Rattle.mold_durable_publisher.specs.DurablePublisher.{IsAtRest}
+use Rattle.mold_feeder.specs.Feeding.{MayNotClose, grown, state_of}
 use Rattle.mold_feeder.specs.Input.{bytes_come, entries_after, entries_of_rest}
 use Rattle.mold_feeder.specs.Taking.{Takes, TakesPart, filled_now, left_of}
 use Rattle.mold_feeder.specs.declared.feeder.Feeder.{Feeder}
@@ -41,7 +42,8 @@ returns-clause-taken g c = λ life is.
 pub returns-in_err-pause-clause-broken : goal.returns-in_err-pause-clause-broken
 returns-in_err-pause-clause-broken g c = λ life is.
     on_err _
-    (broken_now g.S.Storage.shows g.S.Storage.may_leave g.S.Storage.moment g.S.Storage.left_since g.L.PortSet.modeled
+    (broken_now g.S.Storage.shows g.S.Storage.may_leave g.S.Storage.moment g.S.Storage.left_since g.S.Storage.failed
+    g.L.PortSet.modeled
     g.D.Datagrams.modeled c.args.lines.now g.met.S.Storage.only_now
     (TakesPart g.M.MessageReader.input_kind c.args.self.now.feeder.publisher.publisher.journal
     (entries_of_rest g.M.InputReader.unread g.K.Source.left g.M.MessageReader.entries c.args.self.now.input))
@@ -52,7 +54,8 @@ returns-in_err-pause-clause-broken g c = λ life is.
     c.pause.new.self.feeder.publisher.publisher.journal
     (entries_of_rest g.M.InputReader.unread g.K.Source.left g.M.MessageReader.entries c.args.self.now.input)
     (ap (λ (f : Feeder g.row.S.Denot g.row.L.Denot). f.publisher.publisher.journal) c.pause.ensures.feeder))
-    (fed_rested g.S.Storage.shows g.S.Storage.may_leave g.S.Storage.moment g.S.Storage.left_since g.L.PortSet.modeled
+    (fed_rested g.S.Storage.shows g.S.Storage.may_leave g.S.Storage.moment g.S.Storage.left_since g.S.Storage.failed
+    g.L.PortSet.modeled
     g.D.Datagrams.modeled c.args.lines.now g.met.S.Storage.only_now g.L.PortSet.state g.D.Datagrams.port life
     c.args.self.now c.pause.new.self is
     (ap (λ (f : Feeder g.row.S.Denot g.row.L.Denot). f.publisher) c.pause.ensures.feeder) c.pause.ensures.sent
@@ -66,20 +69,22 @@ returns-in_err-taken-clause-broken g c = λ life is.
     let input = c.pause.new.self.input in
     let come = entries (bytes_come g.M.InputReader.unread input) in
     let before = c.pause.new.self.feeder.publisher.publisher.journal in
-    let waited = fed_rested g.S.Storage.shows g.S.Storage.may_leave g.S.Storage.moment g.S.Storage.left_since
+    let waited = fed_rested g.S.Storage.shows g.S.Storage.may_leave g.S.Storage.moment g.S.Storage.left_since g.S.Storage.failed
     g.L.PortSet.modeled g.D.Datagrams.modeled c.args.lines.now g.met.S.Storage.only_now g.L.PortSet.state g.D.Datagrams.port life
     c.args.self.now c.pause.new.self is
     (ap (λ (f : Feeder g.row.S.Denot g.row.L.Denot). f.publisher) c.pause.ensures.feeder) c.pause.ensures.sent
     c.pause.ensures.requests in
     on_err _
-    (broken_then g.S.Storage.shows g.S.Storage.may_leave g.S.Storage.moment g.S.Storage.left_since g.L.PortSet.modeled
+    (broken_then g.S.Storage.shows g.S.Storage.may_leave g.S.Storage.moment g.S.Storage.left_since g.S.Storage.failed
+    g.L.PortSet.modeled
     g.D.Datagrams.modeled c.args.lines.now (TakesPart g.M.MessageReader.input_kind
     c.args.self.now.feeder.publisher.publisher.journal
     (entries_of_rest g.M.InputReader.unread g.K.Source.left g.M.MessageReader.entries c.args.self.now.input))
     MayNotClose life [] (state_of g.L.PortSet.state g.D.Datagrams.port c.args.self.now)
     (state_of g.L.PortSet.state g.D.Datagrams.port c.pause.new.self)
     (state_of g.L.PortSet.state g.D.Datagrams.port c.take.new.self) waited
-    (broken_weaker g.S.Storage.shows g.S.Storage.may_leave g.S.Storage.moment g.S.Storage.left_since g.L.PortSet.modeled
+    (broken_weaker g.S.Storage.shows g.S.Storage.may_leave g.S.Storage.moment g.S.Storage.left_since g.S.Storage.failed
+    g.L.PortSet.modeled
     g.D.Datagrams.modeled c.args.lines.now (TakesPart g.M.MessageReader.input_kind
     c.args.self.now.feeder.publisher.publisher.journal
     (entries_of_rest g.M.InputReader.unread g.K.Source.left g.M.MessageReader.entries c.args.self.now.input))
@@ -103,7 +108,7 @@ returns-in_err-note-clause-broken g c = λ life is.
     let come = entries (bytes_come g.M.InputReader.unread input) in
     let before = c.pause.new.self.feeder.publisher.publisher.journal in
     let after = c.take.new.self.feeder.publisher.publisher.journal in
-    let waited = fed_rested g.S.Storage.shows g.S.Storage.may_leave g.S.Storage.moment g.S.Storage.left_since
+    let waited = fed_rested g.S.Storage.shows g.S.Storage.may_leave g.S.Storage.moment g.S.Storage.left_since g.S.Storage.failed
     g.L.PortSet.modeled g.D.Datagrams.modeled c.args.lines.now g.met.S.Storage.only_now g.L.PortSet.state g.D.Datagrams.port life
     c.args.self.now c.pause.new.self is
     (ap (λ (f : Feeder g.row.S.Denot g.row.L.Denot). f.publisher) c.pause.ensures.feeder) c.pause.ensures.sent
@@ -114,7 +119,8 @@ returns-in_err-note-clause-broken g c = λ life is.
     (g.K.Source.left input.source) c.in_ok-taken.taken c.in_ok-pause.ensures.rest
     (c.in_ok-taken.ensures.taken (grown life []) waited.rests) in
     on_err _
-    (broken_now g.S.Storage.shows g.S.Storage.may_leave g.S.Storage.moment g.S.Storage.left_since g.L.PortSet.modeled
+    (broken_now g.S.Storage.shows g.S.Storage.may_leave g.S.Storage.moment g.S.Storage.left_since g.S.Storage.failed
+    g.L.PortSet.modeled
     g.D.Datagrams.modeled c.args.lines.now g.met.S.Storage.only_now
     (TakesPart g.M.MessageReader.input_kind c.args.self.now.feeder.publisher.publisher.journal
     (entries_of_rest g.M.InputReader.unread g.K.Source.left g.M.MessageReader.entries c.args.self.now.input))
@@ -127,11 +133,13 @@ returns-in_err-note-clause-broken g c = λ life is.
     (part_at g.M.MessageReader.input_kind before after c.note.new.self.feeder.publisher.publisher.journal known _
     (filled_now c.in_ok-taken.taken)
     (ap (λ (f : Feeder g.row.S.Denot g.row.L.Denot). f.publisher.publisher.journal) c.note.ensures.feeder) takes))
-    (fed_same g.S.Storage.shows g.S.Storage.may_leave g.S.Storage.moment g.S.Storage.left_since g.L.PortSet.modeled
+    (fed_same g.S.Storage.shows g.S.Storage.may_leave g.S.Storage.moment g.S.Storage.left_since g.S.Storage.failed
+    g.L.PortSet.modeled
     g.D.Datagrams.modeled c.args.lines.now g.met.S.Storage.only_now g.L.PortSet.state g.D.Datagrams.port life took.0
     false
     (state_of g.L.PortSet.state g.D.Datagrams.port c.args.self.now) c.take.new.self c.note.new.self
-    (fed_then g.S.Storage.shows g.S.Storage.may_leave g.S.Storage.moment g.S.Storage.left_since g.L.PortSet.modeled
+    (fed_then g.S.Storage.shows g.S.Storage.may_leave g.S.Storage.moment g.S.Storage.left_since g.S.Storage.failed
+    g.L.PortSet.modeled
     g.D.Datagrams.modeled c.args.lines.now life [] took.0 false
     (state_of g.L.PortSet.state g.D.Datagrams.port c.args.self.now)
     (state_of g.L.PortSet.state g.D.Datagrams.port c.pause.new.self)
