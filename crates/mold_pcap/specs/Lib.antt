@@ -1,0 +1,14 @@
+pub mod Blocks
+pub mod Captures
+pub mod Classic
+pub mod Formats
+pub mod Laws
+pub mod Looks
+pub mod Numbers
+pub mod Options
+pub mod Passing
+pub mod Reading
+pub mod Times
+pub mod Windows
+pub mod Written
+pub mod WrittenBlocks
