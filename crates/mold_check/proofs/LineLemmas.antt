@@ -6,28 +6,26 @@ use Rattle.std.specs.List.{flat_map}
 use Rattle.std.specs.Io.KnownBytes.{Appends, prepend_known}
 use Rattle.hex.specs.Hex.{decode_of}
 use Rattle.hex.specs.declared.error.FromHexError.{FromHexError}
-use Rattle.mold_capture.specs.Outcome.{Outcome, whole, incomplete, refused, outcome_in}
+use Rattle.mold_capture.specs.Outcome.{Outcome, whole, incomplete, refused}
 use Rattle.mold_capture.specs.Refusal.{refusal}
 use Rattle.mold_capture.specs.Seen.{Seen, after}
-use Rattle.mold_capture.specs.Verdict.{IsVerdict, lacks, missing_in}
-use Rattle.mold_capture.specs.declared.verdict.Verdict.{Verdict}
+use Rattle.mold_capture.specs.Verdict.{lacks, missing_in}
 use Rattle.mold_devices.specs.Devices.{AppendsPrefix, one_more}
 use Rattle.mold_devices.specs.declared.fault.CommandFault.{CommandFault}
 use Rattle.mold_devices.specs.Lines.{lines_of, GivesLine}
 use Rattle.mold_rule.specs.Ranges as lacking
 use Rattle.mold_rule.specs.declared.refusal.Refusal.{Refusal}
 use Rattle.mold_text.specs.Line.{after_space, joined, line_of}
-use Rattle.mold_text.specs.Text.{refused_line}
+use Rattle.mold_text.specs.Text.{refusal_words, refused_line}
 use Rattle.mold_check.specs.CheckLines.{outcome_at, outcome_from, outcome_or, index_raised, numbered, spelled_before}
 use Rattle.mold_check.specs.CheckLines.{datagrams_of, not_hex_or, not_hex, line_name, names_of, count_line}
 use Rattle.mold_check.specs.CheckLines.{lines_report, lines_status, check_text, check_status}
 use Rattle.mold_check.specs.Checking.{Judged, Checking, beginning, judged_by, judged_digits, judged_after}
 use Rattle.mold_check.specs.Checking.{taken, all_taken, refused_line_text, judged_text, judged_status, checking_text, checking_status}
-use Rattle.mold_check.specs.Checking.{line_refusal_words}
-use Rattle.mold_check.specs.Report.{outcome_status, outcome_text}
-use Rattle.mold_check.specs.declared.line_check.CheckedLineRefusal.{CheckedLineRefusal}
-use Rattle.mold_check.specs.declared.line_check.RefusedLine.{RefusedLine}
-use Rattle.mold_check.proofs.VerdictLemmas.{NoneLacks, verdict_at}
+use Rattle.mold_check.specs.Checking.{not_hex_text, refused_line_of}
+use Rattle.mold_check.specs.Checking.{RefusedLine}
+use Rattle.mold_check.specs.Judgement.{Judgement, found_status, found_text, judgement_status, judgement_text}
+use Rattle.mold_check.specs.declared.refused_datagram.RefusedDatagram.{RefusedDatagram}
 
 -- ---- what is reported about lines, and the status
 
@@ -199,20 +197,33 @@ named_line number words =
     ap (λ (d : List ℕ). codes "refused" ++ (codes " line " ++ (d ++ flat_map after_space words)) ++ codes "\n")
     (sym (append-nil (decimal number)))
 
-pub refused_named : (line : RefusedLine) (why : CheckedLineRefusal) → line.why ≡ why →
-    line_of (codes "refused" ∷ codes "line" ∷ decimal line.number ∷ line_refusal_words why) ≡ refused_line_text line
-refused_named line why is =
-    named_line line.number (line_refusal_words why)
-    ∙ ap (λ (w : CheckedLineRefusal). refused_line (line_name line.number ∷ line_refusal_words w)) (sym is)
+-- What a check of datagrams prints is what is reported about the lines.
+told_datagrams : (seen : Seen) (refused : Option RefusedDatagram) →
+    found_text (codes "line") seen refused ≡ judged_text seen (refused_line_of refused None)
+told_datagrams seen (Some datagram) = named_line datagram.number (refusal_words datagram.why)
+told_datagrams seen None = refl
 
--- What is reported by a check that refused nothing.
-pub told_verdict : NoneLacks → (s : Checking) (v : Verdict) → s.judged.refused ≡ None → IsVerdict v s.judged.seen →
-    (outcome_text [] (outcome_in v) ≡ judged_text s.judged.seen s.judged.refused)
-    × (outcome_status (outcome_in v) ≡ judged_status s.judged.seen s.judged.refused)
-told_verdict law s v none is = (
-  ap (outcome_text []) (verdict_at law s.judged.seen v is)
-      ∙ ap (judged_text s.judged.seen) (sym none),
-  ap outcome_status (verdict_at law s.judged.seen v is) ∙ ap (judged_status s.judged.seen) (sym none),
+told_datagrams_status : (seen : Seen) (refused : Option RefusedDatagram) →
+    found_status seen refused ≡ judged_status seen (refused_line_of refused None)
+told_datagrams_status seen (Some datagram) = refl
+told_datagrams_status seen None = refl
+
+pub told_found : (j : Judgement) (not_hex : Option ℕ) → not_hex ≡ None →
+    (judgement_text (codes "line") j ≡ judged_text j.seen (refused_line_of j.refused not_hex))
+    × (judgement_status j ≡ judged_status j.seen (refused_line_of j.refused not_hex))
+told_found j not_hex none = (
+  told_datagrams j.seen j.refused ∙ ap (λ (n : Option ℕ). judged_text j.seen (refused_line_of j.refused n)) (sym none),
+  told_datagrams_status j.seen j.refused
+      ∙ ap (λ (n : Option ℕ). judged_status j.seen (refused_line_of j.refused n)) (sym none),
+)
+
+pub told_other : (j : Judgement) (not_hex : Option ℕ) (number : ℕ) → not_hex ≡ Some number →
+    (not_hex_text number ≡ judged_text j.seen (refused_line_of j.refused not_hex))
+    × (2 ≡ judged_status j.seen (refused_line_of j.refused not_hex))
+told_other j not_hex number is = (
+  named_line number (codes "NotHex" ∷ [])
+      ∙ ap (λ (n : Option ℕ). judged_text j.seen (refused_line_of j.refused n)) (sym is),
+  ap (λ (n : Option ℕ). judged_status j.seen (refused_line_of j.refused n)) (sym is),
 )
 
 -- The whole text after the text at the start.

@@ -1,18 +1,29 @@
 -- The state of a check of lines.
-use Rattle.std.specs.Prelude.{ℕ, List, [], ◌∷◌, ◌++◌, codes, Option, None, Some, Result, Ok, Err}
+use Rattle.std.specs.Prelude.{ℕ, List, [], ◌∷◌, ◌++◌, codes, decimal, Option, None, Some, Result, Ok, Err}
 use Rattle.hex.specs.Hex.{decode_of}
 use Rattle.hex.specs.declared.error.FromHexError.{FromHexError}
 use Rattle.mold_capture.specs.Refusal.{refusal}
 use Rattle.mold_capture.specs.Seen.{Seen, after, seen_of}
 use Rattle.mold_devices.specs.Devices.{one_more}
 use Rattle.mold_rule.specs.declared.refusal.Refusal.{Refusal}
+use Rattle.mold_text.specs.Line.{line_of}
 use Rattle.mold_text.specs.Text.{refusal_words, refused_line}
 use Rattle.mold_check.specs.CheckLines.{count_line, line_name, outcome_at}
 use Rattle.mold_check.specs.Report.{outcome_status, outcome_text}
+use Rattle.mold_check.specs.Judgement.{Judgement}
 use Rattle.mold_check.specs.declared.line_check.LineCheck.{LineCheck}
-use Rattle.mold_check.specs.declared.line_check.CheckedLineRefusal.{CheckedLineRefusal}
-use Rattle.mold_check.specs.declared.line_check.CheckedLineRefusal.TheVariants.{NotHex, NotAccepted}
-use Rattle.mold_check.specs.declared.line_check.RefusedLine.{RefusedLine}
+use Rattle.mold_check.specs.declared.refused_datagram.RefusedDatagram.{RefusedDatagram}
+
+-- Why a line is refused: it is not an even number of hexadecimal digits, or its datagram is refused after those before
+-- it.
+pub data CheckedLineRefusal : Type 0 where
+  NotHex : CheckedLineRefusal
+  NotAccepted : (why : Refusal) → CheckedLineRefusal
+
+-- A line that is refused. The first line has number 1. The numbers stop at `MAX_NUMBER`.
+pub record RefusedLine : Type 0 where
+  pub number : ℕ
+  pub why : CheckedLineRefusal
 
 -- What the accepted datagrams state, and the line that is refused, if there is one.
 pub record Judged : Type 0 where
@@ -25,12 +36,23 @@ pub record Checking : Type 0 where
   pub datagrams : ℕ
   pub judged : Judged
 
+-- The refused line, given the refused datagram and the number of the line that is not hexadecimal.
+abbrev pub refused_line_of : Option RefusedDatagram → Option ℕ → Option RefusedLine
+refused_line_of datagram (Some number) = Some (record { number = number; why = NotHex })
+refused_line_of None None = None
+refused_line_of (Some datagram) None = Some (record { number = datagram.number; why = NotAccepted datagram.why })
+
+-- What was found in lines, given what was found in their datagrams.
+abbrev pub line_judged : Judgement → Option ℕ → Judged
+line_judged judgement not_hex =
+    record { seen = judgement.seen; refused = refused_line_of judgement.refused not_hex }
+
 -- The state of a `LineCheck`.
 abbrev pub checking_of : LineCheck → Checking
 checking_of check = record {
   next = check.next;
   datagrams = check.datagrams;
-  judged = record { seen = check.checker; refused = check.refused };
+  judged = line_judged check.check check.not_hex;
 }
 
 -- The state before the first line.
@@ -76,6 +98,10 @@ all_taken s (line ∷ lines) = all_taken (taken s line) lines
 abbrev pub line_refusal_words : CheckedLineRefusal → List (List ℕ)
 line_refusal_words NotHex = codes "NotHex" ∷ []
 line_refusal_words (NotAccepted why) = refusal_words why
+
+-- The line of the report about a line that is not hexadecimal.
+abbrev pub not_hex_text : ℕ → List ℕ
+not_hex_text number = line_of (codes "refused" ∷ codes "line" ∷ decimal number ∷ codes "NotHex" ∷ [])
 
 -- The line of the report about a line that is refused.
 abbrev pub refused_line_text : RefusedLine → List ℕ

@@ -1,4 +1,5 @@
 pub mod Entries
 pub mod Report
 pub mod CheckLines
+pub mod Judgement
 pub mod Checking

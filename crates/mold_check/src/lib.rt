@@ -3,14 +3,18 @@
 //! refused.
 #![tactic(auto)]
 
+mod datagram_check;
 mod datagrams;
 mod entry;
 pub mod laws;
 mod line_check;
 mod lines;
+mod refused_datagram;
 mod report;
 
+pub use datagram_check::DatagramCheck;
 pub use datagrams::names_datagram;
 pub use entry::Entry;
 pub use lines::check_lines;
+pub use refused_datagram::RefusedDatagram;
 pub use report::check_entries;

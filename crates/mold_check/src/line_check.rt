@@ -1,47 +1,31 @@
 //! Checks datagrams given as lines of hexadecimal digits, line by line.
 
-ghost use Rattle.std.specs.Prelude.{◌≡◌, ◌++◌, length, take, IfErr, IfOk, OnErr, OnOk};
+ghost use Rattle.std.specs.Prelude.{◌≡◌, ◌++◌, None, length, take, IfErr, IfOk, OnErr, OnOk};
 ghost use Rattle.std.specs.Io.KnownBytes.{Appends};
 ghost use Rattle.hex.specs.Hex.{decode_of};
 ghost use Rattle.mold_check.specs.CheckLines.{count_line};
 ghost use Rattle.mold_check.specs.Checking.{beginning, checking_of, checking_status, checking_text};
-ghost use Rattle.mold_check.specs.Checking.{judged_digits, refused_line_text, taken};
+ghost use Rattle.mold_check.specs.Checking.{judged_digits, line_judged, not_hex_text, taken};
 ghost use Rattle.mold_check.specs.Report.{Keeps};
 ghost use Rattle.mold_devices.specs.Devices.{AppendsPrefix};
 ghost use Rattle.mold_devices.specs.Faults.{CountsSink};
 
-use crate::report::print_verdict;
-use mold_capture::{Checker, Refusal};
+use crate::datagram_check::DatagramCheck;
 use mold_devices::{CommandFault, Sink, end_with, send};
-use mold_rule::laws::lacking_law;
-use mold_text::{Word, push_line, push_line_with, push_refusal};
+use mold_text::{Word, push_line};
 use std::alloc::{AllocError, Global};
 
-/// Why a line is refused.
-#[derive(Clone, Copy)]
-pub(crate) enum CheckedLineRefusal {
-    /// The line is not an even number of hexadecimal digits.
-    NotHex,
-    /// The datagram of the line is refused after those before it.
-    NotAccepted(Refusal),
-}
-
-/// A line that is refused. The first line has number 1. The numbers stop at `u64::MAX`.
-#[derive(Clone, Copy)]
-pub(crate) struct RefusedLine {
-    pub(crate) number: u64,
-    pub(crate) why: CheckedLineRefusal,
-}
-
-/// A check of lines up to the first refused one. The lines after it are only counted. It keeps no line, only
-/// the messages that the checker stores.
+/// A check of lines up to the first refused one, which is not an even number of hexadecimal digits, or has a datagram
+/// that is refused. The lines after it are only counted. It keeps no line, only the messages that the checker stores.
+/// The first line has number 1. The numbers stop at `u64::MAX`.
 #[derive(Drop)]
 pub(crate) struct LineCheck {
-    checker: Checker,
+    check: DatagramCheck,
     bytes: Vec<u8>,
     next: u64,
     datagrams: u64,
-    refused: Option<RefusedLine>,
+    // The number of the refused line, if it is not hexadecimal.
+    not_hex: Option<u64>,
 }
 
 impl LineCheck {
@@ -50,11 +34,11 @@ impl LineCheck {
         ensures { checking_of result ≡ beginning }
     {
         LineCheck {
-            checker: Checker::new(alloc),
+            check: DatagramCheck::new(alloc),
             bytes: Vec::new(alloc),
             next: 1,
             datagrams: 0,
-            refused: None,
+            not_hex: None,
         }
     }
 
@@ -69,8 +53,8 @@ impl LineCheck {
             return Ok(());
         }
         self.datagrams = self.datagrams.saturating_add(1);
-        if self.refused.is_none() {
-            self.refused = judge(&mut self.checker, &mut self.bytes, number, line)?;
+        if self.not_hex.is_none() && self.check.refused().is_none() {
+            self.not_hex = judge(&mut self.check, &mut self.bytes, number, line)?;
         }
         Ok(())
     }
@@ -83,48 +67,32 @@ impl LineCheck {
         ensures front { AppendsPrefix (K.held sink.old) (K.held sink.new) (checking_text (checking_of self.now)) }
         ensures failures { CountsSink (K.failed sink.old) (K.failed sink.new) result }
     {
-        lacking_law();
         let mut text = Vec::new(alloc);
-        if let Some(line) = self.refused {
-            push_count(&mut text, self.datagrams)?;
-            return print_refused_line(sink, &mut text, line);
-        }
-        // The first line is made after the verdict, which may run out of memory.
-        match self.checker.verdict() {
-            Ok(verdict) => {
-                push_count(&mut text, self.datagrams)?;
-                print_verdict(sink, &mut text, &verdict)
-            }
-            Err(_) => Err(CommandFault::Memory),
+        push_count(&mut text, self.datagrams)?;
+        match self.not_hex {
+            Some(number) => print_not_hex(sink, &mut text, number),
+            None => self.check.print(sink, &mut text, b"line"),
         }
     }
 }
 
-// Adds the datagram of the line to the checker. Returns the refusal of the line if it is refused. The decoded
+// Adds the datagram of the line to the check. Returns the number of the line if it is not hexadecimal. The decoded
 // bytes replace the contents of `bytes`.
 fn judge(
-    checker: &mut Checker,
+    check: &mut DatagramCheck,
     bytes: &mut Vec<u8>,
     number: u64,
     digits: &[u8],
-) -> Result<Option<RefusedLine>, AllocError>
-    ensures { IfOk result (λ refused.
-        record { seen = checker.new; refused = refused } ≡ judged_digits checker.old number (decode_of digits.now)) }
+) -> Result<Option<u64>, AllocError>
+    requires { check.old.refused ≡ None }
+    ensures { IfOk result (λ not_hex.
+        line_judged check.new not_hex ≡ judged_digits check.old.seen number (decode_of digits.now)) }
 {
     if !mold_digits::decode(digits, bytes)? {
-        return Ok(Some(RefusedLine {
-            number,
-            why: CheckedLineRefusal::NotHex,
-        }));
+        return Ok(Some(number));
     }
-    match checker.add(bytes.as_slice()) {
-        Ok(()) => Ok(None),
-        Err(Refusal::Memory) => Err(AllocError),
-        Err(why) => Ok(Some(RefusedLine {
-            number,
-            why: CheckedLineRefusal::NotAccepted(why),
-        })),
-    }
+    check.add(number, bytes.as_slice())?;
+    Ok(None)
 }
 
 fn push_count(text: &mut Vec<u8>, datagrams: u64) -> Result<(), AllocError>
@@ -133,38 +101,34 @@ fn push_count(text: &mut Vec<u8>, datagrams: u64) -> Result<(), AllocError>
     push_line(text, &[Word::Text(b"datagrams"), Word::Number(datagrams)])
 }
 
-fn push_refused_line(text: &mut Vec<u8>, line: RefusedLine) -> Result<(), AllocError>
-    ensures line { OnOk result (text.new.items ≡ text.old.items ++ refused_line_text line) }
+fn push_not_hex(text: &mut Vec<u8>, number: u64) -> Result<(), AllocError>
+    ensures line { OnOk result (text.new.items ≡ text.old.items ++ not_hex_text number) }
     ensures kept { OnErr result (take (length text.old.items) text.new.items ≡ text.old.items) }
 {
-    let before = [
-        Word::Text(b"refused"),
-        Word::Text(b"line"),
-        Word::Number(line.number),
-    ];
-    match line.why {
-        CheckedLineRefusal::NotHex => push_line_with(text, &before, &[Word::Text(b"NotHex")]),
-        CheckedLineRefusal::NotAccepted(why) => push_refusal(text, &before, why),
-    }
+    push_line(
+        text,
+        &[
+            Word::Text(b"refused"),
+            Word::Text(b"line"),
+            Word::Number(number),
+            Word::Text(b"NotHex"),
+        ],
+    )
 }
 
-// Writes the text and the reason why the line is refused, and returns the exit status. If an allocation fails, writes
-// the text.
-fn print_refused_line<K: Sink>(
-    sink: &mut K,
-    text: &mut Vec<u8>,
-    line: RefusedLine,
-) -> Result<u8, CommandFault>
+// Writes the text and that the line with this number is not hexadecimal, and returns the exit status. If an allocation
+// fails, writes the text.
+fn print_not_hex<K: Sink>(sink: &mut K, text: &mut Vec<u8>, number: u64) -> Result<u8, CommandFault>
     ensures whole { IfOk result (λ status. Appends (K.held sink.old) (K.held sink.new)
-        (text.old.items ++ refused_line_text line) × (status ≡ 2)) }
+        (text.old.items ++ not_hex_text number) × (status ≡ 2)) }
     ensures front { AppendsPrefix (K.held sink.old) (K.held sink.new)
-        (text.old.items ++ refused_line_text line) }
+        (text.old.items ++ not_hex_text number) }
     ensures kept { IfErr result (λ fault. fault ≡ CommandFault.Memory →
         Keeps (K.held sink.old) (K.held sink.new) text.old.items) }
     ensures failures { CountsSink (K.failed sink.old) (K.failed sink.new) result }
 {
     let told = text.len();
-    match push_refused_line(text, line) {
+    match push_not_hex(text, number) {
         Ok(()) => {
             send(sink, text)?;
             Ok(2)
