@@ -1,0 +1,221 @@
+-- A check of captures, file by file.
+use Rattle.std.proofs.Common.{◌≡◌, ℕ, suc, ◌+◌, ◌≤◌, Bool, true, false, ◌||◌, List, [], ◌∷◌, ◌++◌, length, refl, sym, ap, ◌∙◌, arith, append_assoc, append-nil}
+use Rattle.std.specs.Prelude.{Option, None, Some, IfSome, ◌^◌, ◌-◌, min, is_some, codes, if◌then◌else◌}
+use Rattle.std.specs.List.{filter}
+use Rattle.std.specs.Io.KnownBytes.{prepend_known}
+use Rattle.mold_check.specs.CheckLines.{outcome_of}
+use Rattle.mold_check.specs.Judgement.{all_added, judgement_status, judgement_text, no_judgement, numbered_text}
+use Rattle.mold_check.specs.Report.{outcome_status}
+use Rattle.mold_devices.specs.Devices.{one_more}
+use Rattle.mold_frame.specs.Carried.{Carried}
+use Rattle.mold_frame.specs.Link.{carried}
+use Rattle.mold_pcap.specs.Captures.{Frame, capture_of, captured}
+use Rattle.mold_pcap.specs.Formats.{FormatState, at_start}
+use Rattle.mold_pcap.specs.Reading.{GivesEnd, GivesFrame}
+use Rattle.mold_pcap.specs.declared.fault.CaptureFault.{CaptureFault}
+use Rattle.mold_capture_commands.specs.Captures.{counts_of, faults_text, founds_of, has_fault, number_of, payloads}
+use Rattle.mold_capture_commands.specs.Checking.{CaptureFile, CheckState, all_files_taken, all_taken, beginning, file_taken}
+use Rattle.mold_capture_commands.specs.Checking.{frames_of, founds, no_captures, taken, check_text, check_status}
+use Rattle.mold_capture_commands.specs.Captures.{captures_status, captures_text}
+use Rattle.mold_capture_commands.specs.Counts.{counts_text, is_partial, is_passed, is_skipped, is_unread, more_if}
+use Rattle.mold_capture_commands.specs.Faults.{fault_text}
+use Rattle.mold_capture_commands.specs.Filter.{Found, Passed, Skipped, Partial, Unread, found}
+use Rattle.mold_capture_commands.specs.declared.filter.CaptureFilter.{CaptureFilter}
+use Rattle.mold_capture_commands.specs.declared.counts.CaptureCounts.{CaptureCounts}
+use Rattle.mold_capture_commands.specs.declared.frame_check.FrameCheck.{FrameCheck}
+
+-- ---- frames that were taken
+
+-- Of the known capture, some frames were taken. The remaining ones lead to the same state as all frames do.
+abbrev pub TakenSoFar : CaptureFilter → FrameCheck → FrameCheck → Option (List ℕ) → FormatState → Option (List ℕ) → Type 0
+TakenSoFar filter start now None format left = Unit {0}
+TakenSoFar filter start now (Some input) format None = ⊥
+TakenSoFar filter start now (Some input) format (Some left) =
+    (all_taken start (founds filter (capture_of input).frames) ≡ all_taken now (founds filter (captured format left).frames))
+    × ((capture_of input).fault ≡ (captured format left).fault)
+
+-- No frame was taken.
+pub taken_none : (filter : CaptureFilter) (start : FrameCheck) (known : Option (List ℕ)) (format : FormatState)
+    (rest : List ℕ) → format ≡ at_start → rest ≡ [] → TakenSoFar filter start start known format (prepend_known rest known)
+taken_none filter start None format rest is none = tt
+taken_none filter start (Some input) format rest is none = (
+  ap (λ (b : List ℕ). all_taken start (founds filter (captured at_start b).frames)) (ap (λ (r : List ℕ). r ++ input) (sym none))
+      ∙ ap (λ (f : FormatState). all_taken start (founds filter (captured f (rest ++ input)).frames)) (sym is),
+  ap (λ (b : List ℕ). (captured at_start b).fault) (ap (λ (r : List ℕ). r ++ input) (sym none))
+      ∙ ap (λ (f : FormatState). (captured f (rest ++ input)).fault) (sym is),
+)
+
+-- One more frame was taken.
+pub taken_more : (filter : CaptureFilter) (start now next : FrameCheck) (known left behind : Option (List ℕ))
+    (format later : FormatState) (frame : Frame) → TakenSoFar filter start now known format left →
+    GivesFrame format left frame later behind → next ≡ taken now (found filter (carried frame.link frame.bytes)) →
+    TakenSoFar filter start next known later behind
+unfolding all_taken
+taken_more filter start now next None left behind format later frame so gives is = tt
+taken_more filter start now next (Some input) None behind format later frame so gives is = absurd so
+taken_more filter start now next (Some input) (Some xs) None format later frame so gives is = absurd gives
+taken_more filter start now next (Some input) (Some xs) (Some ys) format later frame so gives is = (
+  so.0 ∙ ap (λ c. all_taken now (founds filter c.frames)) gives
+      ∙ ap (λ (s : FrameCheck). all_taken s (founds filter (captured later ys).frames)) (sym is),
+  so.1 ∙ ap (λ c. c.fault) gives,
+)
+
+-- What a frame counts as that was read.
+pub found_frame : (filter : CaptureFilter) (frame : Frame) (f : Found) (c : Carried) (link : ℕ) (bytes : List ℕ) →
+    f ≡ found filter c → c ≡ carried link bytes → link ≡ frame.link → bytes ≡ frame.bytes →
+    f ≡ found filter (carried frame.link frame.bytes)
+found_frame filter frame f c link bytes is read at all =
+    is ∙ ap (found filter) (read ∙ ap (λ (l : ℕ). carried l bytes) at ∙ ap (carried frame.link) all)
+
+-- All frames were taken.
+pub taken_all : (filter : CaptureFilter) (start now : FrameCheck) (known left : Option (List ℕ)) (format : FormatState)
+    (fault : Option CaptureFault) → TakenSoFar filter start now known format left → GivesEnd format left fault →
+    IfSome known (λ input. (now ≡ all_taken start (founds filter (capture_of input).frames)) × (fault ≡ (capture_of input).fault))
+unfolding all_taken
+taken_all filter start now None left format fault so gives = tt
+taken_all filter start now (Some input) None format fault so gives = absurd so
+taken_all filter start now (Some input) (Some xs) format fault so gives = (
+  sym (so.0 ∙ ap (λ c. all_taken now (founds filter c.frames)) gives),
+  sym (so.1 ∙ ap (λ c. c.fault) gives),
+)
+
+-- ---- the law: a list of frames
+
+-- The number of frames of a kind, counted one by one.
+abbrev folded : (Found → Bool) → ℕ → List Found → ℕ
+folded test count [] = count
+folded test count (found ∷ list) = folded test (more_if (test found) count) list
+
+next_count : (count others most : ℕ) → min (min (count + 1) most + others) most ≡ min (count + suc others) most
+next_count count others most = omega arith
+
+more_small : (b : Bool) (count : ℕ) → count ≤ 2 ^ 64 - 1 → more_if b count ≤ 2 ^ 64 - 1
+more_small true count small = omega arith
+more_small false count small = small
+
+folded_first : (b : Bool) (test : Found → Bool) (first : Found) (count : ℕ) (list : List Found) → test first ≡ b →
+    min (more_if b count + length (filter test list)) (2 ^ 64 - 1) ≡ min (count + length (filter test (first ∷ list))) (2 ^ 64 - 1)
+folded_first true test first count list is =
+    next_count count (length (filter test list)) (2 ^ 64 - 1)
+    ∙ ap (λ (b : Bool). min (count + length (if b then first ∷ filter test list else filter test list)) (2 ^ 64 - 1)) (sym is)
+folded_first false test first count list is =
+    ap (λ (b : Bool). min (count + length (if b then first ∷ filter test list else filter test list)) (2 ^ 64 - 1)) (sym is)
+
+folded_is : (test : Found → Bool) (count : ℕ) (list : List Found) → count ≤ 2 ^ 64 - 1 →
+    folded test count list ≡ min (count + length (filter test list)) (2 ^ 64 - 1)
+folded_is test count [] small = omega (arith, small)
+folded_is test count (first ∷ list) small =
+    folded_is test (more_if (test first) count) list (more_small (test first) count small)
+    ∙ folded_first (test first) test first count list refl
+
+folded_all : (test : Found → Bool) (list : List Found) → folded test 0 list ≡ number_of test list
+folded_all test list =
+    folded_is test 0 list (omega arith)
+    ∙ ap (λ (n : ℕ). min n (2 ^ 64 - 1))
+    (let e : 0 + length (filter test list) ≡ length (filter test list) = omega arith in e)
+
+counts_folded : (s : FrameCheck) (list : List Found) → (all_taken s list).counts ≡ record {
+  datagrams = folded is_passed s.counts.datagrams list;
+  skipped = folded is_skipped s.counts.skipped list;
+  partial = folded is_partial s.counts.partial list;
+  unread = folded is_unread s.counts.unread list;
+}
+unfolding all_taken
+counts_folded s [] = refl
+counts_folded s (first ∷ list) = counts_folded (taken s first) list
+
+counts_are : (list : List Found) → (all_taken beginning list).counts ≡ counts_of list
+counts_are list =
+    counts_folded beginning list
+    ∙ ap (λ (n : ℕ). record { datagrams = n; skipped = folded is_skipped 0 list; partial = folded is_partial 0 list; unread = folded is_unread 0 list })
+    (folded_all is_passed list)
+    ∙ ap (λ (n : ℕ). record { datagrams = number_of is_passed list; skipped = n; partial = folded is_partial 0 list; unread = folded is_unread 0 list })
+    (folded_all is_skipped list)
+    ∙ ap (λ (n : ℕ). record { datagrams = number_of is_passed list; skipped = number_of is_skipped list; partial = n; unread = folded is_unread 0 list })
+    (folded_all is_partial list)
+    ∙ ap (λ (n : ℕ). record { datagrams = number_of is_passed list; skipped = number_of is_skipped list; partial = number_of is_partial list; unread = n })
+    (folded_all is_unread list)
+
+judgement_is : (s : FrameCheck) (list : List Found) →
+    (all_taken s list).check ≡ all_added s.check (one_more s.counts.datagrams) (payloads list)
+unfolding all_taken all_added payloads
+judgement_is s [] = refl
+judgement_is s (Passed datagram ∷ list) = judgement_is (taken s (Passed datagram)) list
+judgement_is s (Skipped ∷ list) = judgement_is (taken s Skipped) list
+judgement_is s (Partial ∷ list) = judgement_is (taken s Partial) list
+judgement_is s (Unread ∷ list) = judgement_is (taken s Unread) list
+
+-- ---- the law: a list of files
+
+taken_append : (s : FrameCheck) (list more : List Found) → all_taken s (list ++ more) ≡ all_taken (all_taken s list) more
+unfolding all_taken
+taken_append s [] more = refl
+taken_append s (first ∷ list) more = taken_append (taken s first) list more
+
+frames_are : (filter : CaptureFilter) (s : CheckState) (files : List CaptureFile) →
+    frames_of (all_files_taken filter s files) ≡ all_taken (frames_of s) (founds_of filter files)
+unfolding all_taken all_files_taken
+frames_are filter s [] = refl
+frames_are filter s (file ∷ files) =
+    frames_are filter (file_taken filter s file.name file.bytes) files
+    ∙ sym (taken_append (frames_of s) (founds filter (capture_of file.bytes).frames) (founds_of filter files))
+
+faults_are : (filter : CaptureFilter) (s : CheckState) (files : List CaptureFile) →
+    (all_files_taken filter s files).faults ≡ s.faults ++ faults_text files
+unfolding all_files_taken
+faults_are filter s [] = sym (append-nil s.faults)
+faults_are filter s (file ∷ files) =
+    faults_are filter (file_taken filter s file.name file.bytes) files
+    ∙ append_assoc s.faults (fault_text file.name (capture_of file.bytes).fault) (faults_text files)
+
+or_or : (a b c : Bool) → ((a || b) || c) ≡ (a || (b || c))
+or_or true b c = refl
+or_or false b c = refl
+
+or_none : (a : Bool) → a ≡ (a || false)
+or_none true = refl
+or_none false = refl
+
+at_fault_is : (filter : CaptureFilter) (s : CheckState) (files : List CaptureFile) →
+    (all_files_taken filter s files).at_fault ≡ (s.at_fault || has_fault files)
+unfolding all_files_taken
+at_fault_is filter s [] = or_none s.at_fault
+at_fault_is filter s (file ∷ files) =
+    at_fault_is filter (file_taken filter s file.name file.bytes) files
+    ∙ or_or s.at_fault (is_some (capture_of file.bytes).fault) (has_fault files)
+
+-- The laws of mold_check that these proofs use.
+abbrev pub TextLaw : Type 0
+TextLaw = (word : List ℕ) (list : List (List ℕ)) →
+    judgement_text word (all_added no_judgement 1 list) ≡ numbered_text word 1 (outcome_of list)
+
+abbrev pub StatusLaw : Type 0
+StatusLaw = (list : List (List ℕ)) → judgement_status (all_added no_judgement 1 list) ≡ outcome_status (outcome_of list)
+
+counts_all : (filter : CaptureFilter) (files : List CaptureFile) →
+    (all_files_taken filter no_captures files).counts ≡ counts_of (founds_of filter files)
+counts_all filter files =
+    ap (λ (f : FrameCheck). f.counts) (frames_are filter no_captures files) ∙ counts_are (founds_of filter files)
+
+judgement_all : (filter : CaptureFilter) (files : List CaptureFile) →
+    (all_files_taken filter no_captures files).judgement ≡ all_added no_judgement 1 (payloads (founds_of filter files))
+judgement_all filter files =
+    ap (λ (f : FrameCheck). f.check) (frames_are filter no_captures files) ∙ judgement_is beginning (founds_of filter files)
+
+pub text_is : TextLaw → (filter : CaptureFilter) (files : List CaptureFile) →
+    check_text (all_files_taken filter no_captures files) ≡ captures_text filter files
+text_is law filter files =
+    let s = all_files_taken filter no_captures files in
+    ap (λ (c : CaptureCounts). (counts_text c ++ s.faults) ++ judgement_text (codes "datagram") s.judgement) (counts_all filter files)
+    ∙ ap (λ (f : List ℕ). (counts_text (counts_of (founds_of filter files)) ++ f) ++ judgement_text (codes "datagram") s.judgement)
+    (faults_are filter no_captures files)
+    ∙ ap (λ (t : List ℕ). (counts_text (counts_of (founds_of filter files)) ++ faults_text files) ++ t)
+    (ap (judgement_text (codes "datagram")) (judgement_all filter files) ∙ law (codes "datagram") (payloads (founds_of filter files)))
+
+pub status_is : StatusLaw → (filter : CaptureFilter) (files : List CaptureFile) →
+    check_status (all_files_taken filter no_captures files) ≡ captures_status filter files
+status_is law filter files =
+    let s = all_files_taken filter no_captures files in
+    ap (λ (b : Bool). if b then 2 else judgement_status s.judgement) (at_fault_is filter no_captures files)
+    ∙ ap (λ (n : ℕ). if has_fault files then 2 else n)
+    (ap judgement_status (judgement_all filter files) ∙ law (payloads (founds_of filter files)))

@@ -1,0 +1,70 @@
+-- What `mold check --capture` prints for its files.
+use Rattle.std.specs.Prelude.{ℕ, min, Bool, List, [], ◌∷◌, ◌++◌, length, codes, is_some, if◌then◌else◌}
+use Rattle.std.specs.List.{filter, flat_map, list_any}
+use Rattle.mold_capture.specs.Outcome.{Outcome}
+use Rattle.mold_check.specs.CheckLines.{outcome_of}
+use Rattle.mold_check.specs.Judgement.{numbered_text}
+use Rattle.mold_check.specs.Report.{outcome_status}
+use Rattle.mold_pcap.specs.Captures.{capture_of}
+use Rattle.mold_wire.specs.declared.limits.TheConstants.{MAX_NUMBER}
+use Rattle.mold_capture_commands.specs.Checking.{CaptureFile, founds}
+use Rattle.mold_capture_commands.specs.Counts.{counts_text, is_partial, is_passed, is_skipped, is_unread}
+use Rattle.mold_capture_commands.specs.Faults.{fault_text}
+use Rattle.mold_capture_commands.specs.Filter.{Found, Passed, Skipped, Partial, Unread}
+use Rattle.mold_capture_commands.specs.declared.counts.CaptureCounts.{CaptureCounts}
+use Rattle.mold_capture_commands.specs.declared.filter.CaptureFilter.{CaptureFilter}
+
+-- What the frames of all files count as.
+abbrev pub founds_of : CaptureFilter → List CaptureFile → List Found
+founds_of filter files = flat_map (λ file. founds filter (capture_of file.bytes).frames) files
+
+-- The payload of a datagram that passes, followed by others.
+abbrev pub payload_before : Found → List (List ℕ) → List (List ℕ)
+payload_before (Passed datagram) others = datagram.payload ∷ others
+payload_before Skipped others = others
+payload_before Partial others = others
+payload_before Unread others = others
+
+-- The payloads of the datagrams that pass.
+unfoldable pub payloads : List Found → List (List ℕ)
+payloads [] = []
+payloads (found ∷ list) = payload_before found (payloads list)
+
+-- The payloads of the datagrams that pass, in all files.
+abbrev pub payloads_of : CaptureFilter → List CaptureFile → List (List ℕ)
+payloads_of filter files = payloads (founds_of filter files)
+
+-- How many of the list are of this kind. The number stops at `MAX_NUMBER`.
+abbrev pub number_of : (Found → Bool) → List Found → ℕ
+number_of test list = min (length (filter test list)) MAX_NUMBER
+
+-- The counts of a list.
+abbrev pub counts_of : List Found → CaptureCounts
+counts_of list = record {
+  datagrams = number_of is_passed list;
+  skipped = number_of is_skipped list;
+  partial = number_of is_partial list;
+  unread = number_of is_unread list;
+}
+
+-- The lines of the files at fault.
+abbrev pub faults_text : List CaptureFile → List ℕ
+faults_text files = flat_map (λ file. fault_text file.name (capture_of file.bytes).fault) files
+
+-- Whether a file is at fault.
+abbrev pub has_fault : List CaptureFile → Bool
+has_fault files = list_any (λ file. is_some (capture_of file.bytes).fault) files
+
+-- The outcome of the payloads that pass.
+abbrev pub captures_outcome : CaptureFilter → List CaptureFile → Outcome
+captures_outcome filter files = outcome_of (payloads_of filter files)
+
+-- What is printed for the files.
+abbrev pub captures_text : CaptureFilter → List CaptureFile → List ℕ
+captures_text filter files =
+    (counts_text (counts_of (founds_of filter files)) ++ faults_text files)
+    ++ numbered_text (codes "datagram") 1 (captures_outcome filter files)
+
+-- The exit status: 2 if a file is at fault, otherwise that of the outcome.
+abbrev pub captures_status : CaptureFilter → List CaptureFile → ℕ
+captures_status filter files = if has_fault files then 2 else outcome_status (captures_outcome filter files)

@@ -1,0 +1,5 @@
+pub mod Filter
+pub mod Counts
+pub mod Faults
+pub mod Checking
+pub mod Captures

@@ -1,0 +1,100 @@
+//! `mold check --capture`: checks the datagrams of captures.
+
+ghost use Rattle.std.specs.Prelude.{◌≡◌, ◌++◌, IfOk, IfSome, OnOk};
+ghost use Rattle.std.specs.Io.KnownBytes.{Appends};
+ghost use Rattle.mold_capture_commands.specs.Checking.{check_status, check_text, file_taken, no_captures};
+ghost use Rattle.mold_devices.specs.Devices.{AppendsPrefix};
+ghost use Rattle.mold_devices.specs.Faults.{CountsRead, CountsSink};
+
+use crate::counts::push_counts;
+use crate::faults::push_fault;
+use crate::filter::CaptureFilter;
+use crate::frame_check::{FrameCheck, read_frames};
+use mold_devices::{CommandFault, ReadFault, Sink, Source};
+use std::alloc::Global;
+use std::marker::Model;
+
+/// The command `check --capture`: a check of the datagrams of captures, which are read one after the other.
+///
+/// It keeps the messages that the checker stores and the lines of the files at fault.
+#[derive(Drop)]
+pub struct CaptureCheck {
+    frames: FrameCheck,
+    // The lines of the files at fault.
+    faults: Vec<u8>,
+    at_fault: bool,
+    alloc: Global,
+}
+
+impl Model for CaptureCheck {
+    ghost use Rattle.std.specs.Coded.{codes};
+    ghost use Rattle.mold_capture.specs.Seen.{seen_code};
+    ghost use Rattle.mold_capture_commands.specs.Checking.{CheckState};
+
+    ghost Value = { CheckState };
+
+    ghost coded = { Prim.hlevel (codes, seen_code) };
+
+    ghost view = { λ c. record {
+      counts = c.frames.counts;
+      judgement = c.frames.check;
+      faults = c.faults.items;
+      at_fault = c.at_fault;
+    } };
+}
+
+impl CaptureCheck {
+    /// Returns a check of no capture. This allocates nothing.
+    pub fn new(alloc: Global) -> CaptureCheck
+        ensures { result ≡ no_captures }
+    {
+        CaptureCheck {
+            frames: FrameCheck::new(alloc),
+            faults: Vec::new(alloc),
+            at_fault: false,
+            alloc,
+        }
+    }
+
+    /// Reads a capture and checks its datagrams that pass, after those of the captures before it. If the file is at
+    /// fault, the datagrams before its fault are checked, and `print` reports the fault under the name.
+    ///
+    /// `Read` is returned only if the source failed, `Memory` only if an allocation failed.
+    pub fn read<S: Source>(
+        &mut self,
+        name: &[u8],
+        filter: &CaptureFilter,
+        source: &mut S,
+    ) -> Result<(), ReadFault>
+        ensures taken { OnOk result (IfSome (S.left source.old) (λ bytes.
+            self.new ≡ file_taken filter.now self.old name.now bytes)) }
+        ensures failures { CountsRead (S.failed source.old) (S.failed source.new) result }
+    {
+        if let Some(fault) = read_frames(self.alloc, filter, source, &mut self.frames)? {
+            self.at_fault = true;
+            push_fault(&mut self.faults, name, fault)?;
+        }
+        Ok(())
+    }
+
+    /// Writes the counts of the frames, the lines of the files at fault and the outcome of the datagrams, and returns
+    /// the exit status: 2 if a file is at fault or a datagram is refused, otherwise 0 whole and 1 incomplete. After a
+    /// fault, a prefix of the text was written.
+    ///
+    /// `Write` is returned only if the sink failed, `Memory` only if an allocation failed, and `Read` never.
+    pub fn print<K: Sink>(&self, sink: &mut K) -> Result<u8, CommandFault>
+        ensures whole { IfOk result (λ status. Appends (K.held sink.old) (K.held sink.new)
+            (check_text self.now) × (status ≡ check_status self.now)) }
+        ensures front { AppendsPrefix (K.held sink.old) (K.held sink.new) (check_text self.now) }
+        ensures failures { CountsSink (K.failed sink.old) (K.failed sink.new) result }
+    {
+        let mut text = Vec::new(self.alloc);
+        push_counts(&mut text, self.frames.counts)?;
+        text.extend_from_slice(self.faults.as_slice())?;
+        let status = self.frames.check.print(sink, &mut text, b"datagram")?;
+        if self.at_fault {
+            return Ok(2);
+        }
+        Ok(status)
+    }
+}

@@ -1,0 +1,17 @@
+//! The commands over captures: which datagrams pass the filters, and the check of those that pass.
+#![tactic(auto)]
+
+mod capture_check;
+mod counts;
+mod faults;
+mod filter;
+mod found;
+mod frame_check;
+mod ip_address;
+pub mod laws;
+
+pub use capture_check::CaptureCheck;
+pub use counts::CaptureCounts;
+pub use filter::CaptureFilter;
+pub use found::Found;
+pub use ip_address::IpAddress;
