@@ -4,19 +4,14 @@ use Rattle.std.specs.List.{list_any, starts_with}
 use Rattle.std.specs.Str.{bytes_eq}
 use Rattle.mold_frame.specs.Carried.{Carried, Datagram, Target, Whole, Fragment, Cut, Other}
 use Rattle.mold_frame.specs.Carried.{Unread as UnreadLink}
+use Rattle.mold_frame.specs.IpAddress.{address_bytes}
 use Rattle.mold_frame.specs.Lent.{lent_datagram}
+use Rattle.mold_frame.specs.declared.ip_address.IpAddress.{IpAddress}
 use Rattle.mold_wire.specs.declared.session.Session.{Session}
 use Rattle.mold_capture_commands.specs.declared.filter.CaptureFilter.{CaptureFilter}
 use Rattle.mold_capture_commands.specs.declared.found.Found.{Found as LentFound}
 use Rattle.mold_capture_commands.specs.declared.found.Found.TheVariants.{Passed as LentPassed, Skipped as LentSkipped}
 use Rattle.mold_capture_commands.specs.declared.found.Found.TheVariants.{Partial as LentPartial, Unread as LentUnread}
-use Rattle.mold_capture_commands.specs.declared.ip_address.IpAddress.{IpAddress}
-use Rattle.mold_capture_commands.specs.declared.ip_address.IpAddress.TheVariants.{V4, V6}
-
--- The bytes of an address.
-abbrev pub address_bytes : IpAddress → List ℕ
-address_bytes (V4 bytes) = bytes
-address_bytes (V6 bytes) = bytes
 
 -- The port is one of these, or there are none.
 abbrev pub passes_port : List ℕ → ℕ → Bool

@@ -3,14 +3,13 @@
 ghost use Rattle.std.specs.Prelude.{◌≡◌};
 ghost use Rattle.std.specs.List.{list_any};
 ghost use Rattle.std.specs.Str.{bytes_eq};
-ghost use Rattle.mold_capture_commands.specs.Filter.{address_bytes, found, found_part, lent_found, passes};
-ghost use Rattle.mold_capture_commands.specs.Filter.{passes_group};
+ghost use Rattle.mold_capture_commands.specs.Filter.{found, found_part, lent_found, passes, passes_group};
 ghost use Rattle.mold_capture_commands.specs.Filter.{may_pass_port, passes_port, passes_session, passes_target};
+ghost use Rattle.mold_frame.specs.IpAddress.{address_bytes};
 ghost use Rattle.mold_frame.specs.Lent.{lent_carried, lent_datagram, lent_target};
 
 use crate::found::Found;
-use crate::ip_address::IpAddress;
-use mold_frame::{Carried, Datagram, Target};
+use mold_frame::{Carried, Datagram, IpAddress, Target};
 use mold_wire::Session;
 
 /// The filters of a capture. A datagram passes if it passes each of them.

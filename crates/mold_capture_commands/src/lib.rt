@@ -7,11 +7,9 @@ mod faults;
 mod filter;
 mod found;
 mod frame_check;
-mod ip_address;
 pub mod laws;
 
 pub use capture_check::CaptureCheck;
 pub use counts::CaptureCounts;
 pub use filter::CaptureFilter;
 pub use found::Found;
-pub use ip_address::IpAddress;

@@ -7,3 +7,4 @@ pub mod Ipv6
 pub mod Link
 pub mod Written
 pub mod Addresses
+pub mod IpAddress

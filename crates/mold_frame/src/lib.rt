@@ -4,6 +4,7 @@
 mod carried;
 mod datagram;
 mod extension;
+mod ip_address;
 mod ipv4;
 mod ipv6;
 pub mod laws;
@@ -16,5 +17,6 @@ mod udp;
 
 pub use carried::Carried;
 pub use datagram::Datagram;
+pub use ip_address::IpAddress;
 pub use link::read_frame;
 pub use target::Target;
