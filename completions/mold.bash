@@ -4,9 +4,11 @@
 # The options of a command, with --help, which every command has.
 _mold_options() {
     case $1 in
-    show) printf '%s ' --request ;;
+    show) printf '%s ' --request --capture --port --group --session ;;
     pack) printf '%s ' --session --limit --journal --blocks --end-at-empty ;;
     sim) printf '%s ' --session --limit --server-limit --window --receivers --burst ;;
+    check) printf '%s ' --capture --port --group --session ;;
+    sessions) printf '%s ' --capture --port --group ;;
     publish) printf '%s ' --session --limit --a --b --journal --beats --ends --blocks --end-at-empty ;;
     feed) printf '%s ' --session --limit --a --b --interface-a --interface-b --ttl --journal --append --bind --burst \
         --rate --idle --beats --ends --open --linger --blocks ;;
@@ -24,7 +26,7 @@ _mold_options() {
     printf '%s' --help
 }
 
-_mold_commands='show pack sim check publish feed serve listen receive loop upgrade dump help'
+_mold_commands='show pack sim check sessions publish feed serve listen receive loop upgrade dump help'
 
 # Completes a file name with -f, or the name of a folder with -d.
 _mold_files() {
@@ -53,7 +55,7 @@ _mold() {
     fi
     case $command:$before in
     help:*) _mold_words "$_mold_commands" "$word" ;;
-    *:--journal | *:--to) _mold_files -f "$word" ;;
+    *:--journal | *:--to | *:--capture) _mold_files -f "$word" ;;
     *:--a | *:--b | *:--bind | *:--server)
         compopt -o nospace 2>/dev/null
         _mold_words '127.0.0.1: 0.0.0.0:' "$word"
@@ -65,7 +67,7 @@ _mold() {
     *:--help) ;;
     *:--*) ;;
     check:*) case $word in
-        -*) _mold_words --help "$word" ;;
+        -*) _mold_words "$(_mold_options check)" "$word" ;;
         *) _mold_files -d "$word" ;;
         esac ;;
     *) _mold_words "$(_mold_options "$command")" "$word" ;;

@@ -3,6 +3,9 @@
 
 ghost use Rattle.mold_commands.specs.Command.{IsStreamed};
 
+mod captures;
+
+use captures::run_captures;
 use mold_commands::{
     DumpOptions, check_folder, dump_file, run_command, run_pack_journal, run_upgrade,
 };
@@ -143,6 +146,9 @@ fn run(rt: &HostRuntime, order: &Order) -> Result<u8, ProgramFault> {
         Order::Sim(_) => Ok(run_streamed(rt, order)?),
         Order::Check { folder } => Ok(run_check(rt, folder.as_str())?),
         Order::CheckLines => Ok(run_streamed(rt, order)?),
+        Order::CheckCaptures(_) | Order::ShowCaptures(_) | Order::Sessions(_) => {
+            run_captures(rt, order)
+        }
         Order::Publish(order) => run_publish(rt, order),
         Order::Feed(order) => run_feed(rt, order),
         Order::Serve(order) => run_serve(rt, order),

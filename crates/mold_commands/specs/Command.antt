@@ -8,7 +8,7 @@ use Rattle.mold_words.specs.declared.sim_order.SimOrder.{SimOrder}
 use Rattle.mold_words.specs.declared.types.Order.{Order}
 use Rattle.mold_words.specs.declared.types.Order.TheVariants.{Show, Pack, PackJournal, Sim, Check, CheckLines}
 use Rattle.mold_words.specs.declared.types.Order.TheVariants.{Publish, Feed, Serve, Listen, Receive, Record, Loop}
-use Rattle.mold_words.specs.declared.types.Order.TheVariants.{Upgrade, Dump}
+use Rattle.mold_words.specs.declared.types.Order.TheVariants.{Upgrade, Dump, CheckCaptures, ShowCaptures, Sessions}
 
 -- The state of the simulation at the start of the order's script.
 abbrev pub sim_start : SimOrder → SimState
@@ -16,8 +16,8 @@ sim_start order = sim_beginning (record { 0 = order.session }) order.limits.limi
     order.window order.receivers
 
 -- The order reads lines or message blocks from a source and prints text: it is `show`, `pack` without a journal, `sim`
--- or `check -`. `pack` with a journal writes a file too. A check of a folder, an upgrade and a dump read files instead,
--- and the remaining orders use ports.
+-- or `check -`. `pack` with a journal writes a file too. A check of a folder, an upgrade, a dump and the orders over
+-- captures read files instead, and the remaining orders use ports.
 abbrev pub IsStreamed : Order → Type 0
 IsStreamed (Show requests) = ⊤
 IsStreamed (Pack order) = ⊤
@@ -25,6 +25,9 @@ IsStreamed (PackJournal order) = ⊥
 IsStreamed (Sim order) = ⊤
 IsStreamed (Check folder) = ⊥
 IsStreamed CheckLines = ⊤
+IsStreamed (CheckCaptures order) = ⊥
+IsStreamed (ShowCaptures order) = ⊥
+IsStreamed (Sessions order) = ⊥
 IsStreamed (Publish order) = ⊥
 IsStreamed (Feed order) = ⊥
 IsStreamed (Serve order) = ⊥
@@ -43,6 +46,9 @@ text (PackJournal order) input = []
 text (Sim order) input = sim_text (sim_start order) input
 text (Check folder) input = []
 text CheckLines input = check_text input
+text (CheckCaptures order) input = []
+text (ShowCaptures order) input = []
+text (Sessions order) input = []
 text (Publish order) input = []
 text (Feed order) input = []
 text (Serve order) input = []
@@ -62,6 +68,9 @@ status (PackJournal order) input = 0
 status (Sim order) input = sim_status (sim_start order) input
 status (Check folder) input = 0
 status CheckLines input = check_status input
+status (CheckCaptures order) input = 0
+status (ShowCaptures order) input = 0
+status (Sessions order) input = 0
 status (Publish order) input = 0
 status (Feed order) input = 0
 status (Serve order) input = 0

@@ -48,6 +48,9 @@ pub fn run_command<S: Source, K: Sink>(
         // The contract requires an order that reads the source.
         Order::PackJournal(_)
         | Order::Check { folder: _ }
+        | Order::CheckCaptures(_)
+        | Order::ShowCaptures(_)
+        | Order::Sessions(_)
         | Order::Publish(_)
         | Order::Feed(_)
         | Order::Serve(_)

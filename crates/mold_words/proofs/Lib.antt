@@ -1,6 +1,7 @@
 pub mod FaultLemmas
 pub mod FoldLemmas
+pub mod IpLemmas
 pub mod NameLemmas
 pub mod OrderLemmas
-pub mod ServerLemmas
+pub mod ValuesLemmas
 pub mod ValueLemmas

@@ -1,9 +1,11 @@
 -- Defines the models of orders: what command-line arguments ask for.
 use Rattle.std.specs.Prelude.{ℕ, Bool, List, Option, map, option_map, string_bytes}
 use Rattle.clap.specs.Words.{Text}
+use Rattle.mold_frame.specs.declared.ip_address.IpAddress.{IpAddress}
 use Rattle.mold_input.specs.declared.message_format.MessageFormat.{MessageFormat}
 use Rattle.mold_words.specs.Addresses.{HostPort, address_view}
 use Rattle.mold_words.specs.LinePorts.{Port, line_port_view}
+use Rattle.mold_words.specs.declared.capture_order.CaptureOrder.{CaptureOrder}
 use Rattle.mold_words.specs.declared.feed_times.FeedTimes.{FeedTimes}
 use Rattle.mold_words.specs.declared.line_options.LineOptions.{LineOptions}
 use Rattle.mold_words.specs.declared.receive_order.ReceiveOrder.{ReceiveOrder}
@@ -13,6 +15,7 @@ use Rattle.mold_words.specs.declared.types.Order.{Order}
 use Rattle.mold_words.specs.declared.types.Order.TheVariants.{Show, Pack, PackJournal, Sim, Check, CheckLines}
 use Rattle.mold_words.specs.declared.types.Order.TheVariants.{Publish, Serve, Listen, Receive, Record, Loop}
 use Rattle.mold_words.specs.declared.types.Order.TheVariants.{Feed, Upgrade, Dump}
+use Rattle.mold_words.specs.declared.types.Order.TheVariants.{CheckCaptures, ShowCaptures, Sessions}
 
 -- The model of a `sim` order.
 pub record SimArguments : Type 0 where
@@ -222,6 +225,17 @@ pub record DumpArguments : Type 0 where
   -- How the output encodes the messages.
   pub output : MessageFormat
 
+-- The model of an order over captures.
+pub record CaptureArguments : Type 0 where
+  -- The names of the capture files, in the order in which they are read. `-` is standard input.
+  pub captures : List Text
+  -- The destination ports that pass. If there are none, every port passes.
+  pub ports : List ℕ
+  -- The destination addresses that pass. If there are none, every address passes.
+  pub groups : List IpAddress
+  -- The session that passes. With `None` every session passes.
+  pub session : Option (List ℕ)
+
 -- The model of an order: the command and the values of its options. `pack` has a session, the maximum datagram
 -- length, how its input encodes the messages, and the journal file if there is one. `upgrade` has the two files and
 -- whether the journal is closed.
@@ -232,6 +246,9 @@ pub data Arguments : Type 0 where
   sim_wanted : SimArguments → Arguments
   check_wanted : Text → Arguments
   check_lines_wanted : Arguments
+  check_captures_wanted : CaptureArguments → Arguments
+  show_captures_wanted : CaptureArguments → Arguments
+  sessions_wanted : CaptureArguments → Arguments
   publish_wanted : PublishArguments → Arguments
   feed_wanted : FeedArguments → Arguments
   serve_wanted : ServeArguments → Arguments
@@ -303,6 +320,15 @@ sent_lines_view lines = record {
 abbrev pub feed_times_view : FeedTimes → TimeArguments
 feed_times_view times = record { idle = times.idle; rate = times.rate; linger = times.linger }
 
+-- The model of an order over captures, as the program reads it.
+abbrev pub capture_view : CaptureOrder → CaptureArguments
+capture_view order = record {
+  captures = map string_bytes order.captures.items;
+  ports = order.ports.items;
+  groups = order.groups.items;
+  session = order.session;
+}
+
 -- The model of the program's `Order`: its command and the values of its options.
 abbrev pub view : Order → Arguments
 view (Show request) = show_wanted request
@@ -319,6 +345,9 @@ view (Sim order) = sim_wanted (record {
 })
 view (Check folder) = check_wanted (string_bytes folder)
 view CheckLines = check_lines_wanted
+view (CheckCaptures order) = check_captures_wanted (capture_view order)
+view (ShowCaptures order) = show_captures_wanted (capture_view order)
+view (Sessions order) = sessions_wanted (capture_view order)
 view (Publish order) = publish_wanted (record {
   session = order.session;
   limit = order.limit;

@@ -1,5 +1,7 @@
 pub mod Addresses
+pub mod CaptureOptions
 pub mod Faults
+pub mod IpAddresses
 pub mod LinePorts
 pub mod NoOrders
 pub mod Orders

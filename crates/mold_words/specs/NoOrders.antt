@@ -1,7 +1,7 @@
 -- Defines facts about the reasons why accepted arguments give no order.
 use Rattle.std.specs.Prelude.{◌≡◌, ◌⊎◌, Bool, true, false, Option, None}
 use Rattle.mold_words.specs.declared.no_order.NoOrder.{NoOrder}
-use Rattle.mold_words.specs.declared.no_order.NoOrder.TheVariants.{Address, Group, Host, LinePort, Memory}
+use Rattle.mold_words.specs.declared.no_order.NoOrder.TheVariants.{Address, Group, Host, Ip, LinePort, Memory}
 
 -- Whether the reason is an invalid address.
 abbrev pub is_address : NoOrder → Bool
@@ -9,6 +9,7 @@ is_address (Address name) = true
 is_address (LinePort name) = true
 is_address (Group name) = true
 is_address (Host name) = true
+is_address (Ip name) = true
 is_address _ = false
 
 -- The options do not give this value, and the reason is not an invalid address.

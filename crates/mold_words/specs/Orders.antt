@@ -9,12 +9,15 @@ use Rattle.mold_input.specs.declared.message_format.MessageFormat.{MessageFormat
 use Rattle.mold_input.specs.declared.message_format.MessageFormat.TheVariants.{Lines, Blocks, BlocksToEmpty}
 use Rattle.mold_words.specs.Addresses.{HostPort, address_of, host_of}
 use Rattle.mold_words.specs.LinePorts.{Port, line_port_of}
-use Rattle.mold_words.specs.Values.{session_of, number_of}
+use Rattle.mold_words.specs.CaptureOptions.{captures_of, port_of, session_or_none}
+use Rattle.mold_words.specs.IpAddresses.{ip_of}
+use Rattle.mold_words.specs.Values.{session_of, number_of, values_of}
 use Rattle.mold_words.specs.Arguments.{Arguments, LineArguments, ReceiveArguments, RequestArguments, SentArguments}
 use Rattle.mold_words.specs.Arguments.{TimeArguments, check_lines_wanted, check_wanted, dump_wanted, feed_wanted}
 use Rattle.mold_words.specs.Arguments.{listen_wanted, loop_wanted, pack_journal_wanted, pack_wanted, publish_wanted}
 use Rattle.mold_words.specs.Arguments.{receive_wanted, record_wanted, serve_wanted, show_wanted, sim_wanted}
-use Rattle.mold_words.specs.Arguments.{upgrade_wanted}
+use Rattle.mold_words.specs.Arguments.{upgrade_wanted, CaptureArguments, check_captures_wanted, sessions_wanted}
+use Rattle.mold_words.specs.Arguments.{show_captures_wanted}
 use Rattle.mold_words.specs.Words.{mold_app}
 use Rattle.mold_words.specs.declared.options.TheConstants.{MAX_TURNS}
 use Rattle.mold_wire.specs.declared.limits.TheConstants.{MAX_BURST, MAX_WIDE_WINDOW, MAX_WINDOW}
@@ -125,6 +128,10 @@ is_no_host rows name = option_map_or (λ text. not (is_some (host_of text))) (fi
 abbrev pub has_invalid_server : List Row → Bool
 has_invalid_server rows = list_any (λ text. not (is_some (address_of text))) (texts_in (codes "server") rows)
 
+-- Whether a value of `--group`, which may be given several times, is not an address of IPv4 or IPv6.
+abbrev pub has_invalid_group : List Row → Bool
+has_invalid_group rows = list_any (λ text. not (is_some (ip_of text))) (texts_in (codes "group") rows)
+
 -- Whether the value of any option of `receive` that takes an address is invalid.
 unfoldable pub receives_no_address : List Row → Bool
 receives_no_address rows =
@@ -136,11 +143,41 @@ unfoldable pub has_no_address : Text → List Row → Bool
 has_no_address name rows =
     if bytes_eq name (codes "receive") then receives_no_address rows
     else list_any (is_no_address rows) (codes "a" ∷ codes "b" ∷ codes "server" ∷ codes "bind" ∷ [])
-    || list_any (is_no_host rows) (codes "interface-a" ∷ codes "interface-b" ∷ [])
+    || (list_any (is_no_host rows) (codes "interface-a" ∷ codes "interface-b" ∷ []) || has_invalid_group rows)
 
--- What `show` asks for with these options.
-unfoldable pub show_of : List Row → Arguments
-show_of rows = show_wanted (flag_in (codes "request") rows)
+-- Whether an option or argument of this name is given.
+abbrev pub is_given : List Row → Text → Bool
+is_given rows name = is_some (first_of name rows)
+
+-- Whether an option is given that filters the datagrams of captures.
+abbrev pub has_filter : List Row → Bool
+has_filter rows = list_any (is_given rows) (codes "port" ∷ codes "group" ∷ codes "session" ∷ [])
+
+-- The captures of these options and which of their datagrams pass, if the values are valid.
+unfoldable pub captures_in : List Row → Option CaptureArguments
+captures_in rows =
+    option_and_then
+    (λ ports. option_and_then
+    (λ groups. option_and_then
+    (λ session. option_map
+    (λ captures. record { captures = captures; ports = ports; groups = groups; session = session })
+    (captures_of (texts_in (codes "capture") rows)))
+    (session_or_none (first_of (codes "session") rows)))
+    (values_of ip_of (texts_in (codes "group") rows)))
+    (values_of port_of (texts_in (codes "port") rows))
+
+-- What `show` asks for with captures. Requests are not read from captures.
+abbrev pub shown_captures : List Row → Option Arguments
+shown_captures rows =
+    if flag_in (codes "request") rows then None else option_map show_captures_wanted (captures_in rows)
+
+-- What `show` asks for without captures. It has no filter.
+abbrev pub shown_lines : List Row → Option Arguments
+shown_lines rows = if has_filter rows then None else Some (show_wanted (flag_in (codes "request") rows))
+
+-- What `show` asks for with these options, if their values are valid.
+unfoldable pub show_of : List Row → Option Arguments
+show_of rows = if is_given rows (codes "capture") then shown_captures rows else shown_lines rows
 
 -- What `pack` asks for: to print packets, or to save a journal if the name of a file is given.
 abbrev pub packed_to : List ℕ → ℕ → MessageFormat → Option Text → Arguments
@@ -178,13 +215,27 @@ sim_of rows =
     (limits_in rows))
     (session_in (codes "session") rows)
 
--- What `check` asks for with its argument. `-` asks to check lines on standard input, and any other text names a
--- folder.
-unfoldable pub check_of : List Row → Option Arguments
-check_of rows =
-    option_and_then
-    (λ folder. Some (if bytes_eq folder (codes "-") then check_lines_wanted else check_wanted folder))
+-- What `check` asks for with captures. It has no folder.
+abbrev pub checked_captures : List Row → Option Arguments
+checked_captures rows =
+    if is_given rows (codes "folder") then None else option_map check_captures_wanted (captures_in rows)
+
+-- What `check` asks for without captures. It has a folder and no filter. `-` asks to check lines on standard input, and
+-- any other text names a folder.
+abbrev pub checked_folder : List Row → Option Arguments
+checked_folder rows =
+    if has_filter rows then None
+    else option_map
+    (λ folder. if bytes_eq folder (codes "-") then check_lines_wanted else check_wanted folder)
     (first_of (codes "folder") rows)
+
+-- What `check` asks for with its argument and options, if their values are valid.
+unfoldable pub check_of : List Row → Option Arguments
+check_of rows = if is_given rows (codes "capture") then checked_captures rows else checked_folder rows
+
+-- What `sessions` asks for with these options, if their values are valid.
+unfoldable pub sessions_of : List Row → Option Arguments
+sessions_of rows = option_map sessions_wanted (captures_in rows)
 
 -- What `publish` asks for with these options, if their values are valid.
 unfoldable pub publish_of : List Row → Option Arguments
@@ -399,17 +450,11 @@ lines_in rows =
     (port_or_none (first_of (codes "b") rows)))
     (option_and_then line_port_of (first_of (codes "a") rows))
 
--- The addresses of these texts, if all are addresses.
-unfoldable pub addresses_of : List Text → Option (List HostPort)
-addresses_of [] = Some []
-addresses_of (text ∷ rest) =
-    option_and_then (λ address. option_map (λ others. address ∷ others) (addresses_of rest)) (address_of text)
-
 -- The addresses of the servers, if there are at most 8 and all are valid.
 unfoldable pub servers_in : List Row → Option (List HostPort)
 servers_in rows =
     if nat_lt MAX_SERVERS (length (texts_in (codes "server") rows)) then None
-    else addresses_of (texts_in (codes "server") rows)
+    else values_of address_of (texts_in (codes "server") rows)
 
 -- When and how often messages are requested, if the numbers are valid. The ceiling is at least the timeout.
 unfoldable pub requests_in : List Row → Option RequestArguments
@@ -557,10 +602,11 @@ dump_of rows =
 -- What the command of this name asks for with these options, if their values are valid.
 unfoldable pub order_at : Text → List Row → Option Arguments
 order_at name rows =
-    if bytes_eq name (codes "show") then Some (show_of rows)
+    if bytes_eq name (codes "show") then show_of rows
     else if bytes_eq name (codes "pack") then pack_of rows
     else if bytes_eq name (codes "sim") then sim_of rows
     else if bytes_eq name (codes "check") then check_of rows
+    else if bytes_eq name (codes "sessions") then sessions_of rows
     else if bytes_eq name (codes "publish") then publish_of rows
     else if bytes_eq name (codes "feed") then feed_of rows
     else if bytes_eq name (codes "serve") then serve_of rows

@@ -1,7 +1,8 @@
--- Defines the values of options that are sessions and numbers.
+-- Defines the values of options that are sessions and numbers, and of options that are given several times.
 use Rattle.std.specs.Prelude.{ℕ, ◌-◌, List, ◌++◌, Bool, length, replicate, nat_le, nat_lt, ◌&&◌, if◌then◌else◌}
-use Rattle.std.specs.Prelude.{Option, None, Some}
+use Rattle.std.specs.Prelude.{[], ◌∷◌, Option, None, Some, option_map}
 use Rattle.std.specs.List.{list_all}
+use Rattle.std.specs.Option.{option_and_then}
 use Rattle.clap.specs.Words.{Text}
 use Rattle.mold_digits.specs.Numbers.{decimal_of}
 
@@ -33,3 +34,9 @@ in_range least most (Some n) = if is_within least most n then Some n else None
 -- The number that the decimal digits of a text represent, if it is from `least` to `most`.
 unfoldable pub number_of : ℕ → ℕ → Text → Option ℕ
 number_of least most text = in_range least most (decimal_of text)
+
+-- The values of these texts, if `value_of` gives each of them a value.
+unfoldable pub values_of : {A : Type 0} → (Text → Option A) → List Text → Option (List A)
+values_of value_of [] = Some []
+values_of value_of (text ∷ rest) =
+    option_and_then (λ value. option_map (λ others. value ∷ others) (values_of value_of rest)) (value_of text)

@@ -5,12 +5,15 @@ use Rattle.std.specs.Str.{bytes_eq}
 use Rattle.clap.specs.Words.{App, Rule, Text, new_app, new_rule, with_rule, with_subcommand}
 use Rattle.clap.specs.declared.builder.ArgAction.TheVariants.{Append, Set, SetTrue}
 use Rattle.mold_words.specs.declared.table.Kind.{Kind}
-use Rattle.mold_words.specs.declared.table.Kind.TheVariants.{Flag, Optional, Repeated, Required, Word}
+use Rattle.mold_words.specs.declared.table.Kind.TheVariants.{Flag, Optional, Repeated, Required, RequiredRepeated, Word}
 
 -- The first commands, each with its options.
 abbrev pub first_commands : List (Text × List (Text × Kind))
-first_commands =
-    (codes "show", (codes "request", Flag) ∷ [])
+first_commands = (
+  codes "show",
+  (codes "request", Flag) ∷ (codes "capture", Repeated) ∷ (codes "port", Repeated) ∷ (codes "group", Repeated)
+      ∷ (codes "session", Optional) ∷ [],
+)
     ∷ (
       codes "pack",
       (codes "session", Required) ∷ (codes "limit", Optional) ∷ (codes "journal", Optional)
@@ -21,7 +24,15 @@ first_commands =
       (codes "session", Required) ∷ (codes "limit", Optional) ∷ (codes "server-limit", Optional)
           ∷ (codes "window", Optional) ∷ (codes "receivers", Optional) ∷ (codes "burst", Optional) ∷ [],
     )
-    ∷ (codes "check", (codes "folder", Word) ∷ [])
+    ∷ (
+      codes "check",
+      (codes "folder", Word) ∷ (codes "capture", Repeated) ∷ (codes "port", Repeated) ∷ (codes "group", Repeated)
+          ∷ (codes "session", Optional) ∷ [],
+    )
+    ∷ (
+      codes "sessions",
+      (codes "capture", RequiredRepeated) ∷ (codes "port", Repeated) ∷ (codes "group", Repeated) ∷ [],
+    )
     ∷ (
       codes "publish",
       (codes "session", Required) ∷ (codes "limit", Optional) ∷ (codes "a", Required) ∷ (codes "b", Required)
@@ -91,7 +102,7 @@ abbrev pub is_command : Text → Bool
 is_command name = list_any (λ command. bytes_eq command.0 name) commands
 
 -- The `clap` rule of an option with this name. A flag has no value, and any other option has one. A repeated option may
--- be given several times. A positional argument is given without its name.
+-- be given several times. A positional argument is given without its name, and may be left out.
 abbrev pub rule_for : Text → Kind → Rule
 rule_for name Flag = record (new_rule name) { long = Some name; action = Some SetTrue }
 rule_for name Optional =
@@ -100,7 +111,9 @@ rule_for name Repeated =
     record (new_rule name) { long = Some name; action = Some Append; value_names = 1 }
 rule_for name Required =
     record (new_rule name) { long = Some name; action = Some Set; value_names = 1; required = true }
-rule_for name Word = record (new_rule name) { action = Some Set; value_names = 1; required = true }
+rule_for name RequiredRepeated =
+    record (new_rule name) { long = Some name; action = Some Append; value_names = 1; required = true }
+rule_for name Word = record (new_rule name) { action = Some Set; value_names = 1 }
 
 -- A command with one more option.
 abbrev pub with_option : App → Text × Kind → App

@@ -4,11 +4,13 @@ ghost use Rattle.std.specs.Prelude.{◌≡◌, MatchResult, false, is_some, not,
 ghost use Rattle.std.specs.List.{list_any};
 ghost use Rattle.clap.specs.Words.{found_of, rows_of};
 ghost use Rattle.mold_words.specs.Addresses.{address_of};
+ghost use Rattle.mold_words.specs.IpAddresses.{ip_of};
 ghost use Rattle.mold_words.specs.NoOrders.{is_address};
-ghost use Rattle.mold_words.specs.Orders.{has_invalid_server, has_no_address, is_no_address, is_no_host, is_no_port};
-ghost use Rattle.mold_words.specs.Orders.{receives_no_address};
+ghost use Rattle.mold_words.specs.Orders.{has_invalid_group, has_invalid_server, has_no_address, is_no_address};
+ghost use Rattle.mold_words.specs.Orders.{is_no_host, is_no_port, receives_no_address};
 
 use crate::addresses::{address_of, host_of};
+use crate::ip_addresses::ip_of;
 use crate::line_ports::line_port_of;
 use crate::no_order::NoOrder;
 use crate::options::{text_in, texts_in};
@@ -89,6 +91,34 @@ fn check_servers(options: &ArgMatches<'_>) -> Result<(), NoOrder>
     Ok(())
 }
 
+fn is_no_ip(text: &str) -> bool
+    ensures { result ≡ not (is_some (ip_of text.now)) }
+{
+    ip_of(text).is_none()
+}
+
+// Whether any of the texts is not an address of IPv4 or IPv6.
+fn have_no_ip(texts: &[&str]) -> bool
+    ensures { result ≡ list_any (λ text. not (is_some (ip_of text.now))) texts.now }
+{
+    texts.iter().any(|text| is_no_ip(text))
+}
+
+// Refuses groups that are not addresses of IPv4 or IPv6.
+fn check_groups(options: &ArgMatches<'_>) -> Result<(), NoOrder>
+    ensures { MatchResult result
+        (λ _. has_invalid_group (rows_of (found_of options.now)) ≡ false)
+        (λ none. (has_invalid_group (rows_of (found_of options.now)) ≡ true) × (is_address none ≡ true)) }
+{
+    let Some(texts) = texts_in(options, "group") else {
+        return Ok(());
+    };
+    if have_no_ip(texts) {
+        return Err(NoOrder::Ip { name: "group" });
+    }
+    Ok(())
+}
+
 // Refuses the values of `receive` that are not ports, IPv4 addresses or addresses.
 #[tactic(auto, unfolding(crate::specs::Orders::receives_no_address))]
 fn check_received(options: &ArgMatches<'_>) -> Result<(), NoOrder>
@@ -118,5 +148,6 @@ pub(crate) fn check_addresses(name: &str, options: &ArgMatches<'_>) -> Result<()
     check_address(options, "server")?;
     check_address(options, "bind")?;
     check_host(options, "interface-a")?;
-    check_host(options, "interface-b")
+    check_host(options, "interface-b")?;
+    check_groups(options)
 }

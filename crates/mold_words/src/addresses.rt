@@ -7,8 +7,8 @@ ghost use Rattle.mold_words.specs.declared.addresses.TheConstants.{MAX_PORT};
 use crate::address::Address;
 use crate::values::number_of;
 
-// The greatest port number.
-const MAX_PORT: u64 = 65535;
+/// The greatest port number.
+pub(crate) const MAX_PORT: u64 = 65535;
 
 // Returns the text before the first period and the text after it.
 fn cut_at_point(text: &str) -> Option<(&str, &str)>

@@ -26,7 +26,7 @@ fn action_of(kind: Kind) -> ArgAction
 {
     match kind {
         Kind::Flag => ArgAction::SetTrue,
-        Kind::Repeated => ArgAction::Append,
+        Kind::Repeated | Kind::RequiredRepeated => ArgAction::Append,
         Kind::Optional | Kind::Required | Kind::Word => ArgAction::Set,
     }
 }
@@ -35,7 +35,7 @@ fn action_of(kind: Kind) -> ArgAction
 fn is_required(kind: Kind) -> bool
     ensures { result ≡ (rule_for [] kind).required }
 {
-    matches!(kind, Kind::Required | Kind::Word)
+    matches!(kind, Kind::Required | Kind::RequiredRepeated)
 }
 
 // Returns the `clap` argument of an option. `clap` reads each value as text.

@@ -1,22 +1,40 @@
 //! Laws of the command line: what `clap` accepts, and which orders the arguments give.
-ghost use Rattle.std.specs.Prelude.{◌≡◌, [], ◌∷◌, IfSome, IsTrue, List, None, Some, codes, false, true};
+ghost use Rattle.std.specs.Prelude.{◌≡◌, ◌↔◌, ℕ, [], ◌∷◌, IfSome, IsTrue, List, None, Some, codes, false, true};
+ghost use Rattle.std.specs.Net.Addr.{octets_of};
+ghost use Rattle.std.specs.Net.Grammar.{IsColonHex};
 ghost use Rattle.clap.specs.Words.{Text, fault_of, subcommand_of};
-ghost use Rattle.clap.specs.declared.error.kind.ErrorKind.TheVariants.{DisplayHelp, DisplayVersion, UnknownArgument};
+ghost use Rattle.clap.specs.declared.error.kind.ErrorKind.TheVariants.{DisplayHelp, DisplayVersion};
+ghost use Rattle.clap.specs.declared.error.kind.ErrorKind.TheVariants.{MissingRequiredArgument, UnknownArgument};
+ghost use Rattle.mold_frame.specs.declared.ip_address.IpAddress.TheVariants.{V4, V6};
 ghost use Rattle.mold_input.specs.declared.message_format.MessageFormat.TheVariants.{Lines, Blocks, BlocksToEmpty};
 ghost use Rattle.mold_words.specs.Orders.{AreTaken, Say, order_of};
 ghost use Rattle.mold_words.specs.Arguments.{check_lines_wanted, check_wanted, dump_wanted, feed_wanted};
-ghost use Rattle.mold_words.specs.Arguments.{listen_wanted, loop_wanted};
+ghost use Rattle.mold_words.specs.Arguments.{check_captures_wanted, listen_wanted, loop_wanted, sessions_wanted};
+ghost use Rattle.mold_words.specs.Arguments.{show_captures_wanted};
+ghost use Rattle.mold_words.specs.IpAddresses.{ipv6_of};
 ghost use Rattle.mold_words.specs.Arguments.{pack_journal_wanted, pack_wanted, publish_wanted, receive_wanted};
 ghost use Rattle.mold_words.specs.Arguments.{record_wanted, serve_wanted, show_wanted, sim_wanted, upgrade_wanted};
 ghost use Rattle.mold_words.specs.LinePorts.{bound_to, opened_as};
 ghost use Rattle.mold_words.specs.Words.{is_command, mold_app};
 
 /// `show` is accepted, and asks to show packets, as `--` alone does. `show --request` is accepted, and asks to show
-/// requests.
+/// requests. `--capture F` asks to show the packets of the capture `F`, and `--session` to show those of one session. With
+/// `--capture`, `--request` is refused. Without it, `--session` is refused.
 pub fn show_taken_law()
     ensures plain { Say (codes "show" ∷ []) (show_wanted false) }
     ensures request { Say (codes "show" ∷ codes "--request" ∷ []) (show_wanted true) }
     ensures no_command { Say (codes "--" ∷ []) (show_wanted false) }
+    ensures captures { Say
+        (codes "show" ∷ codes "--session" ∷ codes "MKT" ∷ codes "--capture" ∷ codes "F" ∷ [])
+        (show_captures_wanted (record {
+          captures = codes "F" ∷ [];
+          ports = [];
+          groups = [];
+          session = Some (codes "MKT       ");
+        })) }
+    ensures request_of_captures { order_of
+        (codes "show" ∷ codes "--request" ∷ codes "--capture" ∷ codes "F" ∷ []) ≡ None }
+    ensures filter { order_of (codes "show" ∷ codes "--session" ∷ codes "MKT" ∷ []) ≡ None }
 {}
 
 /// `pack --session MKT` is accepted, and asks to pack the session `MKT`, padded with seven spaces, into datagrams of up
@@ -81,11 +99,58 @@ pub fn sim_taken_law()
 {}
 
 /// `check DIR` is accepted, and asks to check the folder `DIR`. `check -` asks to check lines, and `check ./-` to
-/// check the folder of that name.
+/// check the folder of that name. `check --capture F` asks to check the capture `F`, and `--port` and `--group` to check
+/// the datagrams that are sent to this port and this address. Each of these options may be given several times. Refused
+/// are a command without a folder and a capture, both of them together, `--port` without a capture, and the port 0.
 pub fn check_taken_law()
     ensures folder { Say (codes "check" ∷ codes "DIR" ∷ []) (check_wanted (codes "DIR")) }
     ensures lines { Say (codes "check" ∷ codes "-" ∷ []) check_lines_wanted }
     ensures dash { Say (codes "check" ∷ codes "./-" ∷ []) (check_wanted (codes "./-")) }
+    ensures captures { Say
+        (codes "check" ∷ codes "--capture" ∷ codes "F" ∷ codes "--port" ∷ codes "26477" ∷ codes "--group"
+        ∷ codes "239.192.1.1" ∷ [])
+        (check_captures_wanted (record {
+          captures = codes "F" ∷ [];
+          ports = 26477 ∷ [];
+          groups = V4 (239 ∷ 192 ∷ 1 ∷ 1 ∷ []) ∷ [];
+          session = None;
+        })) }
+    ensures several { Say
+        (codes "check" ∷ codes "--group" ∷ codes "ff02::1" ∷ codes "--capture" ∷ codes "F" ∷ codes "--port" ∷ codes "1"
+        ∷ codes "--capture" ∷ codes "-" ∷ codes "--port" ∷ codes "65535" ∷ codes "--session" ∷ codes "MKT"
+        ∷ codes "--group" ∷ codes "10.0.0.1" ∷ [])
+        (check_captures_wanted (record {
+          captures = codes "F" ∷ codes "-" ∷ [];
+          ports = 1 ∷ 65535 ∷ [];
+          groups = V6 (255 ∷ 2 ∷ 0 ∷ 0 ∷ 0 ∷ 0 ∷ 0 ∷ 0 ∷ 0 ∷ 0 ∷ 0 ∷ 0 ∷ 0 ∷ 0 ∷ 0 ∷ 1 ∷ [])
+              ∷ V4 (10 ∷ 0 ∷ 0 ∷ 1 ∷ []) ∷ [];
+          session = Some (codes "MKT       ");
+        })) }
+    ensures no_input { order_of (codes "check" ∷ []) ≡ None }
+    ensures both { order_of (codes "check" ∷ codes "DIR" ∷ codes "--capture" ∷ codes "F" ∷ []) ≡ None }
+    ensures filter { order_of (codes "check" ∷ codes "--port" ∷ codes "1" ∷ codes "DIR" ∷ []) ≡ None }
+    ensures zero { order_of
+        (codes "check" ∷ codes "--capture" ∷ codes "F" ∷ codes "--port" ∷ codes "0" ∷ []) ≡ None }
+{}
+
+/// `sessions --capture F` is accepted, and asks to list the sessions of the capture `F`. `--capture` is required, and
+/// standard input can be given only once. There is no `--session`.
+pub fn sessions_taken_law()
+    ensures usual { Say (codes "sessions" ∷ codes "--capture" ∷ codes "F" ∷ [])
+        (sessions_wanted (record { captures = codes "F" ∷ []; ports = []; groups = []; session = None })) }
+    ensures alone { fault_of mold_app (codes "sessions" ∷ []) ≡ MissingRequiredArgument ∷ [] }
+    ensures twice { order_of
+        (codes "sessions" ∷ codes "--capture" ∷ codes "-" ∷ codes "--capture" ∷ codes "-" ∷ []) ≡ None }
+    ensures session { fault_of mold_app
+        (codes "sessions" ∷ codes "--capture" ∷ codes "F" ∷ codes "--session" ∷ codes "MKT" ∷ [])
+        ≡ UnknownArgument ∷ [] }
+{}
+
+/// A text gives an IPv6 address exactly if it writes this address: by eight groups, or by fewer and `::`, of which the
+/// last two may be an IPv4 address. `--group` accepts these texts.
+pub fn ipv6_text_law()
+    ensures { (text bytes : List ℕ) → (ipv6_of text ≡ Some bytes)
+        ↔ ((segments : List ℕ) × IsColonHex text segments × (bytes ≡ octets_of segments)) }
 {}
 
 /// `publish --session MKT --a .. --b .. --journal J` is accepted, and asks to send the session `MKT` to these addresses

@@ -4,12 +4,15 @@
 mod address;
 mod address_checks;
 mod addresses;
+mod capture_options;
+mod capture_order;
 mod command;
 mod dump_order;
 mod fault;
 mod feed_options;
 mod feed_order;
 mod feed_times;
+mod ip_addresses;
 pub mod laws;
 mod limits;
 mod line_options;
@@ -37,6 +40,7 @@ mod upgrade_order;
 mod values;
 
 pub use address::Address;
+pub use capture_order::CaptureOrder;
 pub use command::VERSION;
 pub use dump_order::DumpOrder;
 pub use fault::UsageFault;

@@ -38,6 +38,10 @@ pub(crate) enum NoOrder {
     Host {
         name: &'static str,
     },
+    /// A value of this option is not an address of IPv4 or IPv6.
+    Ip {
+        name: &'static str,
+    },
     /// Neither a session nor `--learn` is given.
     NoSession,
     /// Both of these options are given, which exclude each other.
@@ -65,6 +69,16 @@ pub(crate) enum NoOrder {
     NextWithJournal,
     /// `--give-up` is above 0, and `--journal` is given.
     GiveUpWithJournal,
+    /// Neither a folder nor `--capture` is given.
+    NoFolder,
+    /// Both a folder and `--capture` are given.
+    FolderWithCapture,
+    /// This option is given without `--capture`.
+    FilterWithoutCapture {
+        name: &'static str,
+    },
+    /// `--capture -` is given more than once.
+    InputTwice,
     /// An allocation failed.
     Memory,
 }
@@ -99,6 +113,7 @@ impl NoOrder {
                 | NoOrder::LinePort { name: _ }
                 | NoOrder::Group { name: _ }
                 | NoOrder::Host { name: _ }
+                | NoOrder::Ip { name: _ }
         )
     }
 
@@ -136,6 +151,12 @@ impl NoOrder {
             NoOrder::Host { name } => {
                 invalid_value(alloc, name, "not an IPv4 address such as 127.0.0.1")
             }
+            NoOrder::Ip { name } => {
+                invalid_value(alloc, name, "not an address such as 239.192.1.1 or ff02::1")
+            }
+            NoOrder::FilterWithoutCapture { name } => {
+                format!(in alloc; "error: '--{name}' requires '--capture'\n")
+            }
             NoOrder::Both { first, second } => {
                 format!(in alloc; "error: '--{first}' and '--{second}' exclude each other\n")
             }
@@ -151,7 +172,10 @@ impl NoOrder {
             | NoOrder::EndWithoutBlocks
             | NoOrder::NoSyncWithoutJournal
             | NoOrder::NextWithJournal
-            | NoOrder::GiveUpWithJournal => String::from_str(alloc, self.fixed_text()),
+            | NoOrder::GiveUpWithJournal
+            | NoOrder::NoFolder
+            | NoOrder::FolderWithCapture
+            | NoOrder::InputTwice => String::from_str(alloc, self.fixed_text()),
         }
     }
 
@@ -173,6 +197,9 @@ impl NoOrder {
             NoOrder::GiveUpWithJournal => {
                 "error: '--give-up' above 0 and '--journal' exclude each other\n"
             }
+            NoOrder::NoFolder => "error: '<FOLDER>' or '--capture' is required\n",
+            NoOrder::FolderWithCapture => "error: '<FOLDER>' and '--capture' exclude each other\n",
+            NoOrder::InputTwice => "error: '--capture -' is given more than once\n",
             _ => "",
         }
     }

@@ -5,10 +5,11 @@ ghost use Rattle.clap.specs.Words.{found_of, rows_of, subcommand_rows_of};
 ghost use Rattle.mold_words.specs.NoOrders.{LacksOrder, is_address};
 ghost use Rattle.mold_words.specs.Orders.{check_of, dump_of, excludes_journal, feed_of, kept_in, lacks_address};
 ghost use Rattle.mold_words.specs.Orders.{listen_of, loop_of, order_at, order_in, pack_of, publish_of, receive_in};
-ghost use Rattle.mold_words.specs.Orders.{receive_of, serve_of, show_of, sim_of, upgrade_of};
+ghost use Rattle.mold_words.specs.Orders.{receive_of, serve_of, sessions_of, show_of, sim_of, upgrade_of};
 ghost use Rattle.mold_words.specs.Arguments.{receive_view, view};
 
 use crate::address_checks::check_addresses;
+use crate::capture_options::{captures_in, check_unfiltered, is_given};
 use crate::dump_order::DumpOrder;
 use crate::feed_options::{address_or_none, feed_times_in, sent_lines_in};
 use crate::feed_order::FeedOrder;
@@ -60,10 +61,11 @@ fn order_at(alloc: Global, name: &str, options: &ArgMatches<'_>) -> Result<Order
         (LacksOrder (order_at name.now (rows_of (found_of options.now)))) }
 {
     match name {
-        "show" => Ok(show_order(options)),
+        "show" => show_order(alloc, options),
         "pack" => pack_order(alloc, options),
         "sim" => sim_order(options),
         "check" => check_order(alloc, options),
+        "sessions" => sessions_order(alloc, options),
         "publish" => publish_order(alloc, options),
         "feed" => feed_order(alloc, options),
         "serve" => serve_order(alloc, options),
@@ -77,12 +79,23 @@ fn order_at(alloc: Global, name: &str, options: &ArgMatches<'_>) -> Result<Order
 }
 
 #[tactic(auto, unfolding(crate::specs::Orders::show_of))]
-fn show_order(options: &ArgMatches<'_>) -> Order
-    ensures { view result ≡ show_of (rows_of (found_of options.now)) }
+fn show_order(alloc: Global, options: &ArgMatches<'_>) -> Result<Order, NoOrder>
+    ensures { MatchResult result
+        (λ order. show_of (rows_of (found_of options.now)) ≡ Some (view order))
+        (LacksOrder (show_of (rows_of (found_of options.now)))) }
 {
-    Order::Show {
-        request: flag_in(options, "request"),
+    let request = flag_in(options, "request");
+    if !is_given(options, "capture") {
+        check_unfiltered(options)?;
+        return Ok(Order::Show { request });
     }
+    if request {
+        return Err(NoOrder::Both {
+            first: "request",
+            second: "capture",
+        });
+    }
+    Ok(Order::ShowCaptures(captures_in(alloc, options)?))
 }
 
 #[tactic(auto, unfolding(crate::specs::Orders::pack_of))]
@@ -171,13 +184,31 @@ fn check_order(alloc: Global, options: &ArgMatches<'_>) -> Result<Order, NoOrder
         (λ order. check_of (rows_of (found_of options.now)) ≡ Some (view order))
         (LacksOrder (check_of (rows_of (found_of options.now)))) }
 {
-    let folder = required_in(options, "folder")?;
+    if is_given(options, "capture") {
+        if is_given(options, "folder") {
+            return Err(NoOrder::FolderWithCapture);
+        }
+        return Ok(Order::CheckCaptures(captures_in(alloc, options)?));
+    }
+    check_unfiltered(options)?;
+    let Some(folder) = text_in(options, "folder") else {
+        return Err(NoOrder::NoFolder);
+    };
     if folder == "-" {
         return Ok(Order::CheckLines);
     }
     Ok(Order::Check {
         folder: String::from_str(alloc, folder)?,
     })
+}
+
+#[tactic(auto, unfolding(crate::specs::Orders::sessions_of))]
+fn sessions_order(alloc: Global, options: &ArgMatches<'_>) -> Result<Order, NoOrder>
+    ensures { MatchResult result
+        (λ order. sessions_of (rows_of (found_of options.now)) ≡ Some (view order))
+        (LacksOrder (sessions_of (rows_of (found_of options.now)))) }
+{
+    Ok(Order::Sessions(captures_in(alloc, options)?))
 }
 
 #[tactic(auto, unfolding(crate::specs::Orders::publish_of))]

@@ -4,13 +4,13 @@ ghost use Rattle.std.specs.Prelude.{◌≡◌, ◌<◌, ◌≤◌, IfOk, IfSome,
 ghost use Rattle.std.specs.Prelude.{true};
 ghost use Rattle.std.specs.List.{list_all};
 ghost use Rattle.clap.specs.Words.{first_of, found_of, rows_of};
-ghost use Rattle.mold_words.specs.Addresses.{address_view};
+ghost use Rattle.mold_words.specs.Addresses.{address_of, address_view};
 ghost use Rattle.mold_words.specs.Arguments.{line_options_view, request_options_view};
 ghost use Rattle.mold_words.specs.LinePorts.{is_line_port, line_port_of, line_port_view};
 ghost use Rattle.mold_words.specs.NoOrders.{LacksOrder, LacksValue};
-ghost use Rattle.mold_words.specs.Orders.{addresses_of, host_or_none, learned_in, lines_in, number_in, port_or_none};
+ghost use Rattle.mold_words.specs.Orders.{host_or_none, learned_in, lines_in, number_in, port_or_none};
 ghost use Rattle.mold_words.specs.Orders.{requests_in, servers_in, start_in};
-ghost use Rattle.mold_words.specs.Values.{is_character};
+ghost use Rattle.mold_words.specs.Values.{is_character, values_of};
 ghost use Rattle.std.specs.Option.{option_and_then};
 
 use crate::address::Address;
@@ -145,8 +145,9 @@ pub(crate) fn lines_in(options: &ArgMatches<'_>) -> Result<LineOptions, NoOrder>
 // Returns the addresses of these texts.
 fn addresses_of(alloc: Global, texts: &[&str]) -> Result<Vec<Address>, NoOrder>
     ensures value { MatchResult result
-        (λ addresses. addresses_of (map (λ text. text.now) texts.now) ≡ Some (map address_view addresses.items))
-        (LacksOrder (addresses_of (map (λ text. text.now) texts.now))) }
+        (λ addresses. values_of address_of (map (λ text. text.now) texts.now)
+        ≡ Some (map address_view addresses.items))
+        (LacksOrder (values_of address_of (map (λ text. text.now) texts.now))) }
     ensures count { IfOk result (λ addresses. length addresses.items ≡ length texts.now) }
 {
     let mut addresses = Vec::new(alloc);

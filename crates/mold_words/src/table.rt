@@ -11,7 +11,9 @@ pub enum Kind {
     Repeated,
     /// An option with a value, which must be given.
     Required,
-    /// A positional argument, which must be given.
+    /// An option with a value, which must be given, and may be given several times.
+    RequiredRepeated,
+    /// A positional argument, which may be left out.
     Word,
 }
 
@@ -44,9 +46,9 @@ pub(crate) fn value_name(option: &str) -> &'static str {
     match option {
         "session" => "NAME",
         "a" | "b" | "server" | "bind" => "ADDRESS",
-        "journal" | "to" => "FILE",
+        "journal" | "to" | "capture" => "FILE",
         "folder" => "FOLDER",
-        "source-a" | "source-b" | "interface-a" | "interface-b" => "IP",
+        "source-a" | "source-b" | "interface-a" | "interface-b" | "group" => "IP",
         _ => number_name(option),
     }
 }
@@ -59,6 +61,7 @@ fn number_name(option: &str) -> &'static str {
         "window" | "rate" => "MESSAGES",
         "burst" => "PACKETS",
         "next" | "from" => "NUMBER",
+        "port" => "PORT",
         "patience" => "US",
         "timeout" | "ceiling" | "idle" | "linger" => "MS",
         "ttl" => "HOPS",
@@ -169,20 +172,61 @@ const END_AT_EMPTY_BOTH: OptionRow = OptionRow {
         output with an empty block if the session is finished",
 };
 
+const CAPTURE_HELP: &str =
+    "The capture file, pcap or pcapng; - reads standard input. May be given\n\
+    several times. The files are read one after the other";
+
+// Reads captures in place of the command's other input.
+const CAPTURE: OptionRow = OptionRow {
+    name: "capture",
+    kind: Kind::Repeated,
+    help: CAPTURE_HELP,
+};
+
+// Filters the datagrams of captures by their destination port.
+const PORT: OptionRow = OptionRow {
+    name: "port",
+    kind: Kind::Repeated,
+    help: "Read only datagrams that are sent to this UDP port, 1 to 65535. May be\n\
+        given several times",
+};
+
+// Filters the datagrams of captures by their destination address.
+const GROUP: OptionRow = OptionRow {
+    name: "group",
+    kind: Kind::Repeated,
+    help: "Read only datagrams that are sent to this IPv4 or IPv6 address. May be\n\
+        given several times",
+};
+
+// Filters the datagrams of captures by their session.
+const SESSION_OF_CAPTURE: OptionRow = OptionRow {
+    name: "session",
+    kind: Kind::Optional,
+    help: "Read only datagrams of this session, 1 to 10 characters from space to ~",
+};
+
 // For the prover, the commands are in four lists: the cost of a function that names a list grows with the square of the
 // number of texts in it.
 
 /// The first commands, in the order in which help lists them.
-pub static FIRST_COMMANDS: [CommandRow; 5] = [
+pub static FIRST_COMMANDS: [CommandRow; 6] = [
     CommandRow {
         name: "show",
-        about: "Print packets given as lines of hexadecimal digits on standard input",
-        options: &[OptionRow {
-            name: "request",
-            kind: Kind::Flag,
-            help: "Read each line as a request packet",
-        }],
-        example: "Example:\n  echo 53455353494f4e30303100000000000000010002000241420000 | mold show",
+        about: "Print packets given as lines of hexadecimal digits on standard input or in captures",
+        options: &[
+            OptionRow {
+                name: "request",
+                kind: Kind::Flag,
+                help: "Read each line as a request packet",
+            },
+            CAPTURE,
+            PORT,
+            GROUP,
+            SESSION_OF_CAPTURE,
+        ],
+        example: "Example:\n  echo 53455353494f4e30303100000000000000010002000241420000 | mold show\
+            \n  mold show --capture day.pcap --port 26477",
     },
     CommandRow {
         name: "pack",
@@ -220,13 +264,35 @@ pub static FIRST_COMMANDS: [CommandRow; 5] = [
     CommandRow {
         name: "check",
         about: "Report whether captured datagrams are one whole session",
-        options: &[OptionRow {
-            name: "folder",
-            kind: Kind::Word,
-            help: "The folder; each of its files whose name ends in .pkt is a datagram\n\
-                - reads datagrams as lines of hexadecimal digits on standard input",
-        }],
-        example: "Example:\n  mold check captures",
+        options: &[
+            OptionRow {
+                name: "folder",
+                kind: Kind::Word,
+                help: "The folder; each of its files whose name ends in .pkt is a datagram\n\
+                    - reads datagrams as lines of hexadecimal digits on standard input\n\
+                    Required unless --capture is given",
+            },
+            CAPTURE,
+            PORT,
+            GROUP,
+            SESSION_OF_CAPTURE,
+        ],
+        example: "Example:\n  mold check captures\
+            \n  mold check --capture day.pcap --group 239.192.1.1 --port 26477",
+    },
+    CommandRow {
+        name: "sessions",
+        about: "List the destinations and the sessions of the datagrams in captures",
+        options: &[
+            OptionRow {
+                name: "capture",
+                kind: Kind::RequiredRepeated,
+                help: CAPTURE_HELP,
+            },
+            PORT,
+            GROUP,
+        ],
+        example: "Example:\n  mold sessions --capture day.pcap",
     },
     CommandRow {
         name: "publish",

@@ -1,5 +1,6 @@
 //! The order: the parsed command line.
 
+use crate::capture_order::CaptureOrder;
 use crate::dump_order::DumpOrder;
 use crate::feed_order::FeedOrder;
 use crate::listen_order::ListenOrder;
@@ -13,7 +14,8 @@ use crate::serve_order::ServeOrder;
 use crate::sim_order::SimOrder;
 use crate::upgrade_order::UpgradeOrder;
 
-/// The parsed command line. There is one variant for each command, and two for `check`, `pack` and `receive`.
+/// The parsed command line. There is one variant for each command, two for `show`, `pack` and `receive`, and three for
+/// `check`.
 #[derive(Drop)]
 pub enum Order {
     /// Prints the packets on standard input, each given as a line of hexadecimal digits.
@@ -34,6 +36,12 @@ pub enum Order {
     },
     /// Checks the same for datagrams on standard input, each given as a line of hexadecimal digits.
     CheckLines,
+    /// Checks the same for the datagrams of captures.
+    CheckCaptures(CaptureOrder),
+    /// Prints the packets of the datagrams of captures.
+    ShowCaptures(CaptureOrder),
+    /// Prints the sessions of the datagrams of captures, with their destinations.
+    Sessions(CaptureOrder),
     /// Sends a session, whose messages are read from standard input, on two lines. Saves its journal.
     Publish(PublishOrder),
     /// Keeps a session, whose messages are read from standard input, in a durable journal, sends it on one or two lines,

@@ -3,7 +3,7 @@ use Rattle.clap.specs.Words.{Rule, Text, new_rule}
 use Rattle.clap.specs.declared.builder.ArgAction.{ArgAction}
 use Rattle.mold_words.specs.Words.{rule_for}
 use Rattle.mold_words.specs.declared.table.Kind.{Kind}
-use Rattle.mold_words.specs.declared.table.Kind.TheVariants.{Flag, Optional, Repeated, Required, Word}
+use Rattle.mold_words.specs.declared.table.Kind.TheVariants.{Flag, Optional, Repeated, Required, RequiredRepeated, Word}
 use Rattle.mold_words.proofs.command.argument_of.Goals as goal
 
 -- an option with a value that is given by its name
@@ -17,6 +17,7 @@ named name Word action required flag word acts requires = absurd (word refl)
 named name Optional action required flag word acts requires = rw (acts, requires) refl
 named name Repeated action required flag word acts requires = rw (acts, requires) refl
 named name Required action required flag word acts requires = rw (acts, requires) refl
+named name RequiredRepeated action required flag word acts requires = rw (acts, requires) refl
 
 pub returns-in_default-clause-rule : goal.returns-in_default-clause-rule
 returns-in_default-clause-rule c =
