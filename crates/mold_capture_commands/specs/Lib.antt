@@ -3,3 +3,4 @@ pub mod Counts
 pub mod Faults
 pub mod Checking
 pub mod Captures
+pub mod Address

@@ -1,0 +1,18 @@
+//! Watches the reading of captures.
+
+/// What is called while a capture is read, so that a program can report the progress. It has no effect on the outcome.
+pub trait Watch {
+    /// Is called after each frame. `bytes` is the number of bytes of this capture up to the end of the last part that
+    /// was passed, `datagrams` the number of datagrams so far that passed the filters. Both stay at `u64::MAX` once
+    /// they are there.
+    fn watch(&mut self, bytes: u64, datagrams: u64);
+}
+
+/// A `Watch` that does nothing.
+#[derive(Clone, Copy, Debug, PartialEq, Eq)]
+pub struct NoWatch;
+
+impl Watch for NoWatch {
+    #[inline(always)]
+    fn watch(&mut self, _bytes: u64, _datagrams: u64) {}
+}
