@@ -10,6 +10,7 @@ use crate::counts::push_counts;
 use crate::faults::push_fault;
 use crate::filter::CaptureFilter;
 use crate::frame_check::{FrameCheck, read_frames};
+use crate::watch::Watch;
 use mold_devices::{CommandFault, ReadFault, Sink, Source};
 use std::alloc::Global;
 use std::marker::Model;
@@ -57,20 +58,22 @@ impl CaptureCheck {
     }
 
     /// Reads a capture and checks its datagrams that pass, after those of the captures before it. If the file is at
-    /// fault, the datagrams before its fault are checked, and `print` reports the fault under the name.
+    /// fault, the datagrams before its fault are checked, and `print` reports the fault under the name. `watch` is
+    /// called after each frame; it has no effect on the outcome.
     ///
     /// `Read` is returned only if the source failed, `Memory` only if an allocation failed.
-    pub fn read<S: Source>(
+    pub fn read<S: Source, W: Watch>(
         &mut self,
         name: &[u8],
         filter: &CaptureFilter,
         source: &mut S,
+        watch: &mut W,
     ) -> Result<(), ReadFault>
         ensures taken { OnOk result (IfSome (S.left source.old) (λ bytes.
             self.new ≡ file_taken filter.now self.old name.now bytes)) }
         ensures failures { CountsRead (S.failed source.old) (S.failed source.new) result }
     {
-        if let Some(fault) = read_frames(self.alloc, filter, source, &mut self.frames)? {
+        if let Some(fault) = read_frames(self.alloc, filter, source, &mut self.frames, watch)? {
             self.at_fault = true;
             push_fault(&mut self.faults, name, fault)?;
         }

@@ -9,6 +9,7 @@ ghost use Rattle.mold_pcap.specs.Captures.{capture_of};
 use crate::counts::CaptureCounts;
 use crate::filter::CaptureFilter;
 use crate::found::Found;
+use crate::watch::Watch;
 use mold_check::DatagramCheck;
 use mold_devices::{ReadFault, Source};
 use mold_frame::read_frame;
@@ -46,12 +47,13 @@ impl FrameCheck {
 }
 
 /// Reads a capture and takes its frames. Returns the fault of the capture, if it has one. The frames before the fault
-/// are taken.
-pub(crate) fn read_frames<S: Source>(
+/// are taken. `watch` is called after each frame.
+pub(crate) fn read_frames<S: Source, W: Watch>(
     alloc: Global,
     filter: &CaptureFilter,
     source: &mut S,
     check: &mut FrameCheck,
+    watch: &mut W,
 ) -> Result<Option<CaptureFault>, ReadFault>
     ensures taken { IfOk result (λ fault. IfSome (S.left source.old) (λ bytes.
         (check.new ≡ all_taken check.old (founds filter.now (capture_of bytes).frames))
@@ -61,7 +63,10 @@ pub(crate) fn read_frames<S: Source>(
     let mut reader = CaptureReader::new(alloc)?;
     'frames: loop {
         match reader.advance(source) {
-            Ok(true) => check.take(filter.find(read_frame(reader.link(), reader.frame())))?,
+            Ok(true) => {
+                check.take(filter.find(read_frame(reader.link(), reader.frame())))?;
+                watch.watch(reader.position(), check.counts.datagrams);
+            }
             Ok(false) => return Ok(None),
             Err(CaptureError::Fault(fault)) => return Ok(Some(fault)),
             Err(CaptureError::Read) => return Err(ReadFault::Read),
