@@ -1,8 +1,10 @@
--- Addresses of IPv6, group by group.
+-- Addresses of IPv6, group by group, and text that stays.
 use Rattle.std.proofs.Common.{◌≡◌, ◌∙◌, ℕ, false, List, [], ◌∷◌, ◌++◌, ap, append_assoc, drop, length, arith, refl, sym, take}
 use Rattle.std.specs.Prelude.{◌==◌}
 use Rattle.std.proofs.lemmas.Grind.{common_steps}
 use Rattle.std.specs.List.{flat_map}
+use Rattle.std.proofs.lemmas.List.{take_all}
+use Rattle.mold_text.proofs.KeptLemmas.{kept_through}
 use Rattle.mold_capture_commands.specs.Address.{after_colon, groups}
 
 -- The first group of bytes, and the others.
@@ -26,3 +28,11 @@ colons_more start now next bytes rest group some so first is =
 pub kept_more : (old now next more : List ℕ) → take (length old) now ≡ old → next ≡ now ++ more →
     take (length old) next ≡ old
 kept_more old now next more kept is = grind (arith, common_steps)
+
+-- The earlier text stays when three parts follow it and a fourth one fails.
+pub kept_last : (old a b now next x y z : List ℕ) → a ≡ old ++ x → b ≡ a ++ y → now ≡ b ++ z →
+    take (length now) next ≡ now → take (length old) next ≡ old
+kept_last old a b now next x y z is then last kept =
+    kept_through old now next
+    (kept_more old b now z (kept_more old a b y (kept_more old old a x (take_all (length old) old (omega arith)) is) then) last)
+    kept

@@ -1,2 +1,4 @@
 pub mod CheckLemmas
 pub mod AddressLemmas
+pub mod ShowLemmas
+pub mod ShownLemmas

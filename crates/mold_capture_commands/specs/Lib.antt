@@ -4,3 +4,6 @@ pub mod Faults
 pub mod Checking
 pub mod Captures
 pub mod Address
+pub mod Shown
+pub mod CaptureShow
+pub mod Showing

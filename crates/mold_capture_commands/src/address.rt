@@ -23,8 +23,8 @@ fn split_group(bytes: &[u8]) -> (&[u8], &[u8])
     bytes.split_at(bytes.len().min(GROUP_BYTES))
 }
 
-// Appends the number in decimal.
-fn push_number(text: &mut Vec<u8>, number: u64) -> Result<(), AllocError>
+/// Appends the number in decimal. If an allocation fails, other bytes may follow the earlier text.
+pub(crate) fn push_number(text: &mut Vec<u8>, number: u64) -> Result<(), AllocError>
     ensures text { OnOk result (text.new.items ≡ text.old.items ++ decimal number) }
     ensures kept { OnErr result (take (length text.old.items) text.new.items ≡ text.old.items) }
 {

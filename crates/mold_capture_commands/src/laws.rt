@@ -1,11 +1,13 @@
 //! The laws of this crate: theorems about the definitions alone. Each is a function that does nothing, and its
 //! contract is the theorem.
 
-ghost use Rattle.std.specs.Prelude.{◌≡◌, ℕ, List};
+ghost use Rattle.std.specs.Prelude.{◌≡◌, ◌++◌, ℕ, List};
 ghost use Rattle.std.specs.List.{All};
 ghost use Rattle.mold_wire.specs.Block.{IsBytes};
 ghost use Rattle.mold_capture.specs.Outcome.{IsOutcome};
 ghost use Rattle.mold_capture_commands.specs.Captures.{captures_outcome, captures_status, captures_text, payloads_of};
+ghost use Rattle.mold_capture_commands.specs.CaptureShow.{all_files_shown, nothing_shown, show_captures_status};
+ghost use Rattle.mold_capture_commands.specs.CaptureShow.{show_captures_text, show_status, shown_text};
 ghost use Rattle.mold_capture_commands.specs.Checking.{CaptureFile, all_files_taken, check_status, check_text};
 ghost use Rattle.mold_capture_commands.specs.Checking.{no_captures};
 ghost use Rattle.mold_capture_commands.specs.declared.filter.CaptureFilter.{CaptureFilter};
@@ -26,3 +28,13 @@ pub fn capture_check_law()
     datagram_check_law();
     lines_outcome_law();
 }
+
+/// What a `CaptureShow` prints for these files, the text of their datagrams and then the lines of the files at fault, is
+/// a function of the files. So is the exit status.
+pub fn capture_show_law()
+    ensures text { (filter : CaptureFilter) (files : List CaptureFile) →
+        shown_text filter files ++ (all_files_shown filter nothing_shown files).faults
+        ≡ show_captures_text filter files }
+    ensures status { (filter : CaptureFilter) (files : List CaptureFile) →
+        show_status (all_files_shown filter nothing_shown files) ≡ show_captures_status filter files }
+{}

@@ -1,17 +1,21 @@
-//! The commands over captures: which datagrams pass the filters, and the check of those that pass.
+//! The commands over captures: which datagrams pass the filters, and the check and the text of those that pass.
 #![tactic(auto)]
 
 mod address;
 mod capture_check;
+mod capture_show;
 mod counts;
 mod faults;
 mod filter;
 mod found;
 mod frame_check;
+mod frame_show;
 pub mod laws;
+mod shown;
 mod watch;
 
 pub use capture_check::CaptureCheck;
+pub use capture_show::CaptureShow;
 pub use counts::CaptureCounts;
 pub use filter::CaptureFilter;
 pub use found::Found;
