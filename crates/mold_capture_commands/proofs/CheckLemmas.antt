@@ -152,7 +152,7 @@ unfolding all_taken
 taken_append s [] more = refl
 taken_append s (first ∷ list) more = taken_append (taken s first) list more
 
-frames_are : (filter : CaptureFilter) (s : CheckState) (files : List CaptureFile) →
+pub frames_are : (filter : CaptureFilter) (s : CheckState) (files : List CaptureFile) →
     frames_of (all_files_taken filter s files) ≡ all_taken (frames_of s) (founds_of filter files)
 unfolding all_taken all_files_taken
 frames_are filter s [] = refl

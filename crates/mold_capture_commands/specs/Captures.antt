@@ -1,7 +1,8 @@
 -- What `mold check --capture` prints for its files.
-use Rattle.std.specs.Prelude.{ℕ, min, Bool, List, [], ◌∷◌, ◌++◌, length, codes, is_some, if◌then◌else◌}
+use Rattle.std.specs.Prelude.{ℕ, zero, suc, min, Bool, false, List, [], ◌∷◌, ◌++◌, length, slice_index_or, codes}
+use Rattle.std.specs.Prelude.{is_some, if◌then◌else◌}
 use Rattle.std.specs.List.{filter, flat_map, list_any}
-use Rattle.mold_capture.specs.Outcome.{Outcome}
+use Rattle.mold_capture.specs.Outcome.{Outcome, whole, incomplete, refused}
 use Rattle.mold_check.specs.CheckLines.{outcome_of}
 use Rattle.mold_check.specs.Judgement.{numbered_text}
 use Rattle.mold_check.specs.Report.{outcome_status}
@@ -11,6 +12,7 @@ use Rattle.mold_capture_commands.specs.Checking.{CaptureFile, founds}
 use Rattle.mold_capture_commands.specs.Counts.{counts_text, is_partial, is_passed, is_skipped, is_unread}
 use Rattle.mold_capture_commands.specs.Faults.{fault_text}
 use Rattle.mold_capture_commands.specs.Filter.{Found, Passed, Skipped, Partial, Unread}
+use Rattle.mold_capture_commands.specs.Targets.{Destination, destination_of, differ}
 use Rattle.mold_capture_commands.specs.declared.counts.CaptureCounts.{CaptureCounts}
 use Rattle.mold_capture_commands.specs.declared.filter.CaptureFilter.{CaptureFilter}
 
@@ -33,6 +35,27 @@ payloads (found ∷ list) = payload_before found (payloads list)
 -- The payloads of the datagrams that pass, in all files.
 abbrev pub payloads_of : CaptureFilter → List CaptureFile → List (List ℕ)
 payloads_of filter files = payloads (founds_of filter files)
+
+-- The destination of a datagram that passes, followed by others.
+abbrev pub destination_before : Found → List Destination → List Destination
+destination_before (Passed datagram) others = destination_of datagram ∷ others
+destination_before Skipped others = others
+destination_before Partial others = others
+destination_before Unread others = others
+
+-- The destinations of the datagrams that pass.
+unfoldable pub destinations : List Found → List Destination
+destinations [] = []
+destinations (found ∷ list) = destination_before found (destinations list)
+
+-- Whether the refused datagram of an outcome has another destination than the first datagram. If the first datagram is
+-- refused, none was accepted before it.
+abbrev pub refuses_other : List Destination → Outcome → Bool
+refuses_other [] outcome = false
+refuses_other (first ∷ others) (whole messages) = false
+refuses_other (first ∷ others) (incomplete missing end) = false
+refuses_other (first ∷ others) (refused zero why) = false
+refuses_other (first ∷ others) (refused (suc index) why) = differ first (slice_index_or others index first)
 
 -- How many of the list are of this kind. The number stops at `MAX_NUMBER`.
 abbrev pub number_of : (Found → Bool) → List Found → ℕ
@@ -58,6 +81,11 @@ has_fault files = list_any (λ file. is_some (capture_of file.bytes).fault) file
 -- The outcome of the payloads that pass.
 abbrev pub captures_outcome : CaptureFilter → List CaptureFile → Outcome
 captures_outcome filter files = outcome_of (payloads_of filter files)
+
+-- Whether the refused datagram of the files has another destination than the first accepted one.
+abbrev pub captures_refuse_other : CaptureFilter → List CaptureFile → Bool
+captures_refuse_other filter files =
+    refuses_other (destinations (founds_of filter files)) (captures_outcome filter files)
 
 -- What is printed for the files.
 abbrev pub captures_text : CaptureFilter → List CaptureFile → List ℕ

@@ -7,13 +7,14 @@ use Rattle.mold_pcap.specs.Captures.{Capture, Frame, capture_of}
 use Rattle.mold_capture_commands.specs.Counts.{counted, counts_text, no_counts}
 use Rattle.mold_capture_commands.specs.Faults.{fault_text}
 use Rattle.mold_capture_commands.specs.Filter.{Found, Passed, Skipped, Partial, Unread, found}
+use Rattle.mold_capture_commands.specs.Targets.{TargetState, aimed, destination_of, no_targets}
 use Rattle.mold_capture_commands.specs.declared.counts.CaptureCounts.{CaptureCounts}
 use Rattle.mold_capture_commands.specs.declared.filter.CaptureFilter.{CaptureFilter}
 use Rattle.mold_capture_commands.specs.declared.frame_check.FrameCheck.{FrameCheck}
 
 -- Before the first frame.
 abbrev pub beginning : FrameCheck
-beginning = record { counts = no_counts; check = no_judgement }
+beginning = record { counts = no_counts; check = no_judgement; targets = no_targets }
 
 -- What was found after one more frame. A datagram that passes has the number of such datagrams so far.
 abbrev pub judged : Judgement → ℕ → Found → Judgement
@@ -22,11 +23,19 @@ judged judgement number Skipped = judgement
 judged judgement number Partial = judgement
 judged judgement number Unread = judgement
 
+-- What is kept of the destinations after one more frame, by the judgements before and after it.
+abbrev pub sent_to : TargetState → Judgement → Judgement → Found → TargetState
+sent_to targets before after (Passed datagram) = aimed targets before.refused after.refused (destination_of datagram)
+sent_to targets before after Skipped = targets
+sent_to targets before after Partial = targets
+sent_to targets before after Unread = targets
+
 -- The state after one more frame.
 abbrev pub taken : FrameCheck → Found → FrameCheck
 taken s found = record {
   counts = counted s.counts found;
   check = judged s.check (one_more s.counts.datagrams) found;
+  targets = sent_to s.targets s.check (judged s.check (one_more s.counts.datagrams) found) found;
 }
 
 -- The state after the frames.
@@ -38,26 +47,34 @@ all_taken s (found ∷ list) = all_taken (taken s found) list
 abbrev pub founds : CaptureFilter → List Frame → List Found
 founds filter frames = map (λ frame. found filter (carried frame.link frame.bytes)) frames
 
--- The state of a `CaptureCheck`: the counts, what was found, and the lines of the files at fault.
+-- The state of a `CaptureCheck`: the counts, what was found, the destinations, and the lines of the files at fault.
 pub record CheckState : Type 0 where
   pub counts : CaptureCounts
   pub judgement : Judgement
+  pub targets : TargetState
   pub faults : List ℕ
   pub at_fault : Bool
 
 -- Before the first file.
 abbrev pub no_captures : CheckState
-no_captures = record { counts = no_counts; judgement = no_judgement; faults = []; at_fault = false }
+no_captures = record {
+  counts = no_counts;
+  judgement = no_judgement;
+  targets = no_targets;
+  faults = [];
+  at_fault = false;
+}
 
 -- The state of the frames.
 abbrev pub frames_of : CheckState → FrameCheck
-frames_of s = record { counts = s.counts; check = s.judgement }
+frames_of s = record { counts = s.counts; check = s.judgement; targets = s.targets }
 
 -- The state after one more file, with these frames and this fault.
 abbrev pub capture_taken : CheckState → FrameCheck → List ℕ → Capture → CheckState
 capture_taken s frames name capture = record {
   counts = frames.counts;
   judgement = frames.check;
+  targets = frames.targets;
   faults = s.faults ++ fault_text name capture.fault;
   at_fault = s.at_fault || is_some capture.fault;
 }

@@ -1,5 +1,6 @@
 pub mod Filter
 pub mod Counts
+pub mod Targets
 pub mod Faults
 pub mod Checking
 pub mod Captures

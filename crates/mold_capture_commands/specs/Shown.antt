@@ -1,6 +1,6 @@
 -- What is printed for a captured datagram.
-use Rattle.std.specs.Prelude.{ℕ, ◌+◌, ◌/◌, ◌%◌, Bool, true, false, List, [], ◌∷◌, ◌++◌, map, codes, decimal, Option, None}
-use Rattle.std.specs.Prelude.{Some, Result, Ok, Err}
+use Rattle.std.specs.Prelude.{ℕ, ◌+◌, ◌/◌, ◌%◌, Bool, true, false, List, [], ◌∷◌, ◌++◌, map, codes, decimal}
+use Rattle.std.specs.Prelude.{Option, None, Some, Result, Ok, Err}
 use Rattle.mold_frame.specs.Carried.{Datagram}
 use Rattle.mold_pcap.specs.declared.time.FrameTime.{FrameTime}
 use Rattle.mold_text.specs.Line.{line_of}

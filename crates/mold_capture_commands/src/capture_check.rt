@@ -39,6 +39,7 @@ impl Model for CaptureCheck {
     ghost view = { λ c. record {
       counts = c.frames.counts;
       judgement = c.frames.check;
+      targets = c.frames.targets;
       faults = c.faults.items;
       at_fault = c.at_fault;
     } };
@@ -78,6 +79,15 @@ impl CaptureCheck {
             push_fault(&mut self.faults, name, fault)?;
         }
         Ok(())
+    }
+
+    /// Returns whether the first refused datagram has another destination, another address or another port, than the
+    /// first accepted one. It is false if no datagram is refused, or none was accepted before. Then the datagrams may
+    /// be those of several sessions, which `mold sessions` lists.
+    pub fn sees_other_target(&self) -> bool
+        ensures { result ≡ self.now.targets.other }
+    {
+        self.frames.targets.other()
     }
 
     /// Writes the counts of the frames, the lines of the files at fault and the outcome of the datagrams, and returns

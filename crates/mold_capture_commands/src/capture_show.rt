@@ -47,8 +47,9 @@ impl CaptureShow {
         }
     }
 
-    /// Reads a capture and writes the lines of its datagrams that pass. If the file is at fault, the datagrams before its
-    /// fault are printed, and `end` reports the fault under the name. After a fault, a prefix of the lines was written.
+    /// Reads a capture and writes the lines of its datagrams that pass. If the file is at fault, the datagrams before
+    /// its fault are printed, and `end` reports the fault under the name. After a fault, a prefix of the lines was
+    /// written.
     ///
     /// `Read` is returned only if the source failed, `Write` only if the sink failed, `Memory` only if an allocation
     /// failed. It holds some 430 KiB and less than 65,536 bytes of text besides the lines of one datagram.

@@ -3,16 +3,20 @@
 ghost use Rattle.std.specs.Prelude.{◌≡◌, IfOk, IfSome, OnOk};
 ghost use Rattle.mold_capture_commands.specs.Checking.{all_taken, beginning, founds, taken};
 ghost use Rattle.mold_capture_commands.specs.Filter.{lent_found};
+ghost use Rattle.mold_capture_commands.specs.Targets.{aimed, destination_of};
+ghost use Rattle.mold_check.specs.Judgement.{added};
 ghost use Rattle.mold_devices.specs.Faults.{CountsRead};
+ghost use Rattle.mold_frame.specs.Lent.{lent_datagram};
 ghost use Rattle.mold_pcap.specs.Captures.{capture_of};
 
 use crate::counts::CaptureCounts;
 use crate::filter::CaptureFilter;
 use crate::found::Found;
+use crate::targets::Targets;
 use crate::watch::Watch;
 use mold_check::DatagramCheck;
 use mold_devices::{ReadFault, Source};
-use mold_frame::read_frame;
+use mold_frame::{Datagram, read_frame};
 use mold_pcap::{CaptureError, CaptureFault, CaptureReader};
 use std::alloc::{AllocError, Global};
 
@@ -21,6 +25,7 @@ use std::alloc::{AllocError, Global};
 pub(crate) struct FrameCheck {
     pub(crate) counts: CaptureCounts,
     pub(crate) check: DatagramCheck,
+    pub(crate) targets: Targets,
 }
 
 impl FrameCheck {
@@ -31,7 +36,21 @@ impl FrameCheck {
         FrameCheck {
             counts: CaptureCounts::new(),
             check: DatagramCheck::new(alloc),
+            targets: Targets::new(alloc),
         }
+    }
+
+    // Checks the next datagram that passes.
+    fn judge(&mut self, datagram: &Datagram<'_>) -> Result<(), AllocError>
+        ensures check { OnOk result (self.new.check ≡
+            added self.old.check self.old.counts.datagrams datagram.now.payload.now) }
+        ensures targets { OnOk result (self.new.targets ≡ aimed self.old.targets self.old.check.refused
+            self.new.check.refused (destination_of (lent_datagram datagram.now))) }
+        ensures counts { self.new.counts ≡ self.old.counts }
+    {
+        let before = self.check.refused();
+        self.check.add(self.counts.datagrams, datagram.payload)?;
+        self.targets.take(before, self.check.refused(), datagram)
     }
 
     // Takes the next frame. It returns an error if an allocation fails.
@@ -40,7 +59,7 @@ impl FrameCheck {
     {
         self.counts.add(&found);
         match found {
-            Found::Passed(datagram) => self.check.add(self.counts.datagrams, datagram.payload),
+            Found::Passed(datagram) => self.judge(&datagram),
             Found::Skipped | Found::Partial | Found::Unread => Ok(()),
         }
     }

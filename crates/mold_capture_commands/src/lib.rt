@@ -12,6 +12,7 @@ mod frame_check;
 mod frame_show;
 pub mod laws;
 mod shown;
+mod targets;
 mod watch;
 
 pub use capture_check::CaptureCheck;

@@ -110,9 +110,9 @@ fn push_payload(text: &mut Vec<u8>, payload: &[u8]) -> Result<bool, AllocError>
     }
 }
 
-/// Appends the lines of a datagram that was captured at this time: the line before it, and its packet or why its payload
-/// does not encode one. Returns whether the payload is refused. If an allocation fails, a part of the lines may follow
-/// the earlier text.
+/// Appends the lines of a datagram that was captured at this time: the line before it, and its packet or why its
+/// payload does not encode one. Returns whether the payload is refused. If an allocation fails, a part of the lines may
+/// follow the earlier text.
 pub(crate) fn push_datagram(
     text: &mut Vec<u8>,
     time: Option<FrameTime>,
