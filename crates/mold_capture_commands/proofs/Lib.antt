@@ -3,3 +3,8 @@ pub mod AddressLemmas
 pub mod ShowLemmas
 pub mod ShownLemmas
 pub mod TargetLemmas
+pub mod PairLemmas
+pub mod LineLemmas
+pub mod SessionLemmas
+pub mod TextLemmas
+pub mod EqLemmas

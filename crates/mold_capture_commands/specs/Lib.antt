@@ -8,3 +8,6 @@ pub mod Address
 pub mod Shown
 pub mod CaptureShow
 pub mod Showing
+pub mod Pairs
+pub mod Sessions
+pub mod SessionState

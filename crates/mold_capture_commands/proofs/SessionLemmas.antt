@@ -1,0 +1,145 @@
+-- The sessions of captures, file by file.
+use Rattle.std.proofs.Common.{◌≡◌, ℕ, Bool, true, false, ◌||◌, List, [], ◌∷◌, ◌++◌, length, inl, inr, refl, sym, ap, ◌∙◌, append_assoc, append-nil}
+use Rattle.std.specs.Prelude.{Option, None, Some, IfSome, is_some, if◌then◌else◌}
+use Rattle.std.specs.Io.KnownBytes.{prepend_known}
+use Rattle.mold_frame.specs.Addresses.{HasAddresses, IsAddress}
+use Rattle.mold_frame.specs.Carried.{Carried, Datagram, Whole, Fragment, Cut, Other}
+use Rattle.mold_frame.specs.Carried.{Unread as UnreadLink}
+use Rattle.mold_frame.specs.Link.{carried}
+use Rattle.mold_pcap.specs.Captures.{Frame, capture_of, captured}
+use Rattle.mold_pcap.specs.Formats.{FormatState, at_start}
+use Rattle.mold_pcap.specs.Reading.{GivesEnd, GivesFrame}
+use Rattle.mold_pcap.specs.declared.fault.CaptureFault.{CaptureFault}
+use Rattle.mold_capture_commands.specs.Captures.{faults_text, founds_of, has_fault}
+use Rattle.mold_capture_commands.specs.Checking.{CaptureFile, founds}
+use Rattle.mold_capture_commands.specs.Faults.{fault_text}
+use Rattle.mold_capture_commands.specs.Filter.{Found, Passed, Skipped, Partial, found, passes, passes_target}
+use Rattle.mold_capture_commands.specs.SessionState.{HasTarget, SessionState, all_lines, all_sessions_taken, lines_text, lines_with}
+use Rattle.mold_capture_commands.specs.SessionState.{no_sessions, sessions_taken, state_status, state_text}
+use Rattle.mold_capture_commands.specs.Sessions.{sessions_status, sessions_text}
+use Rattle.mold_capture_commands.specs.declared.filter.CaptureFilter.{CaptureFilter}
+use Rattle.mold_capture_commands.specs.declared.pair.Pair.{Pair}
+use Rattle.mold_capture_commands.specs.declared.tally.Tally.{Tally}
+use Rattle.mold_capture_commands.proofs.LineLemmas.{pairs_are}
+
+-- ---- frames that were counted
+
+-- Of the known capture, some frames were counted. The remaining ones lead to the same lines as all frames do.
+abbrev pub CountedSoFar : CaptureFilter → List (Pair × Tally) → List (Pair × Tally) → Option (List ℕ) → FormatState → Option (List ℕ) → Type 0
+CountedSoFar filter start now None format left = Unit {0}
+CountedSoFar filter start now (Some input) format None = ⊥
+CountedSoFar filter start now (Some input) format (Some left) =
+    (all_lines start (founds filter (capture_of input).frames) ≡ all_lines now (founds filter (captured format left).frames))
+    × ((capture_of input).fault ≡ (captured format left).fault)
+
+-- No frame was counted.
+pub counted_none : (filter : CaptureFilter) (start : List (Pair × Tally)) (known : Option (List ℕ)) (format : FormatState)
+    (rest : List ℕ) → format ≡ at_start → rest ≡ [] → CountedSoFar filter start start known format (prepend_known rest known)
+counted_none filter start None format rest is none = tt
+counted_none filter start (Some input) format rest is none = (
+  ap (λ (b : List ℕ). all_lines start (founds filter (captured at_start b).frames)) (ap (λ (r : List ℕ). r ++ input) (sym none))
+      ∙ ap (λ (f : FormatState). all_lines start (founds filter (captured f (rest ++ input)).frames)) (sym is),
+  ap (λ (b : List ℕ). (captured at_start b).fault) (ap (λ (r : List ℕ). r ++ input) (sym none))
+      ∙ ap (λ (f : FormatState). (captured f (rest ++ input)).fault) (sym is),
+)
+
+-- One more frame was counted.
+pub counted_more : (filter : CaptureFilter) (start now next : List (Pair × Tally)) (known left behind : Option (List ℕ))
+    (format later : FormatState) (frame : Frame) → CountedSoFar filter start now known format left →
+    GivesFrame format left frame later behind → next ≡ lines_with now (found filter (carried frame.link frame.bytes)) →
+    CountedSoFar filter start next known later behind
+unfolding all_lines
+counted_more filter start now next None left behind format later frame so gives is = tt
+counted_more filter start now next (Some input) None behind format later frame so gives is = absurd so
+counted_more filter start now next (Some input) (Some xs) None format later frame so gives is = absurd gives
+counted_more filter start now next (Some input) (Some xs) (Some ys) format later frame so gives is = (
+  so.0 ∙ ap (λ c. all_lines now (founds filter c.frames)) gives
+      ∙ ap (λ (l : List (Pair × Tally)). all_lines l (founds filter (captured later ys).frames)) (sym is),
+  so.1 ∙ ap (λ c. c.fault) gives,
+)
+
+-- All frames were counted.
+pub counted_all : (filter : CaptureFilter) (start now : List (Pair × Tally)) (known left : Option (List ℕ)) (format : FormatState)
+    (fault : Option CaptureFault) → CountedSoFar filter start now known format left → GivesEnd format left fault →
+    IfSome known (λ input. (now ≡ all_lines start (founds filter (capture_of input).frames)) × (fault ≡ (capture_of input).fault))
+unfolding all_lines
+counted_all filter start now None left format fault so gives = tt
+counted_all filter start now (Some input) None format fault so gives = absurd so
+counted_all filter start now (Some input) (Some xs) format fault so gives = (
+  sym (so.0 ∙ ap (λ c. all_lines now (founds filter c.frames)) gives),
+  sym (so.1 ∙ ap (λ c. c.fault) gives),
+)
+
+-- ---- the destination of a datagram
+
+chosen_target : (b : Bool) (datagram : Datagram) → IsAddress datagram.target →
+    HasTarget (if b then Passed datagram else Skipped)
+chosen_target true datagram is = is
+chosen_target false datagram is = tt
+
+part_target : (b : Bool) → HasTarget (if b then Partial else Skipped)
+part_target true = tt
+part_target false = tt
+
+same_length : (target source : List ℕ) → IsAddress source → length target ≡ length source → IsAddress target
+same_length target source (inl four) same = inl (same ∙ four)
+same_length target source (inr sixteen) same = inr (same ∙ sixteen)
+
+pub found_target : (filter : CaptureFilter) (c : Carried) → HasAddresses c → HasTarget (found filter c)
+found_target filter (Whole datagram) has =
+    chosen_target (passes filter datagram) datagram (same_length datagram.target datagram.source has.0 has.1)
+found_target filter (Fragment target) has = part_target (passes_target filter target.port target.address)
+found_target filter (Cut target) has = part_target (passes_target filter target.port target.address)
+found_target filter Other has = tt
+found_target filter UnreadLink has = tt
+
+-- ---- the law: a list of files
+
+lines_append : (lines : List (Pair × Tally)) (list more : List Found) →
+    all_lines lines (list ++ more) ≡ all_lines (all_lines lines list) more
+unfolding all_lines
+lines_append lines [] more = refl
+lines_append lines (first ∷ list) more = lines_append (lines_with lines first) list more
+
+lines_all : (filter : CaptureFilter) (s : SessionState) (files : List CaptureFile) →
+    (all_sessions_taken filter s files).lines ≡ all_lines s.lines (founds_of filter files)
+unfolding all_lines all_sessions_taken
+lines_all filter s [] = refl
+lines_all filter s (file ∷ files) =
+    lines_all filter (sessions_taken filter s file.name file.bytes) files
+    ∙ sym (lines_append s.lines (founds filter (capture_of file.bytes).frames) (founds_of filter files))
+
+faults_all : (filter : CaptureFilter) (s : SessionState) (files : List CaptureFile) →
+    (all_sessions_taken filter s files).faults ≡ s.faults ++ faults_text files
+unfolding all_sessions_taken
+faults_all filter s [] = sym (append-nil s.faults)
+faults_all filter s (file ∷ files) =
+    faults_all filter (sessions_taken filter s file.name file.bytes) files
+    ∙ append_assoc s.faults (fault_text file.name (capture_of file.bytes).fault) (faults_text files)
+
+or_or : (a b c : Bool) → ((a || b) || c) ≡ (a || (b || c))
+or_or true b c = refl
+or_or false b c = refl
+
+or_none : (a : Bool) → a ≡ (a || false)
+or_none true = refl
+or_none false = refl
+
+at_fault_all : (filter : CaptureFilter) (s : SessionState) (files : List CaptureFile) →
+    (all_sessions_taken filter s files).at_fault ≡ (s.at_fault || has_fault files)
+unfolding all_sessions_taken
+at_fault_all filter s [] = or_none s.at_fault
+at_fault_all filter s (file ∷ files) =
+    at_fault_all filter (sessions_taken filter s file.name file.bytes) files
+    ∙ or_or s.at_fault (is_some (capture_of file.bytes).fault) (has_fault files)
+
+pub text_is : (filter : CaptureFilter) (files : List CaptureFile) →
+    state_text (all_sessions_taken filter no_sessions files) ≡ sessions_text filter files
+text_is filter files =
+    let lines = ap lines_text (lines_all filter no_sessions files) ∙ pairs_are (founds_of filter files) in
+    let faults = faults_all filter no_sessions files in
+    (λ i. lines i ++ faults i)
+
+pub status_is : (filter : CaptureFilter) (files : List CaptureFile) →
+    state_status (all_sessions_taken filter no_sessions files) ≡ sessions_status files
+status_is filter files = ap (λ (b : Bool). if b then 2 else 0) (at_fault_all filter no_sessions files)

@@ -1,0 +1,102 @@
+-- The state of a `Sessions`.
+use Rattle.std.specs.Prelude.{ℕ, ◌||◌, Bool, false, min, max, List, [], ◌∷◌, ◌++◌, is_some, if◌then◌else◌}
+use Rattle.std.specs.Prelude.{None, Result, ⊤}
+use Rattle.std.specs.List.{flat_map}
+use Rattle.mold_devices.specs.Devices.{one_more}
+use Rattle.mold_frame.specs.Addresses.{IsAddress}
+use Rattle.mold_pcap.specs.Captures.{Capture, capture_of}
+use Rattle.mold_wire.specs.Reading.{reading}
+use Rattle.mold_wire.specs.declared.error.DecodeError.{DecodeError}
+use Rattle.mold_wire.specs.declared.packet.Packet.{Packet}
+use Rattle.mold_capture_commands.specs.Checking.{CaptureFile, founds}
+use Rattle.mold_capture_commands.specs.Counts.{more_if}
+use Rattle.mold_capture_commands.specs.Faults.{fault_text}
+use Rattle.mold_capture_commands.specs.Filter.{Found, Passed, Skipped, Partial, Unread}
+use Rattle.mold_capture_commands.specs.Pairs.{carried_numbers, end_numbers, greatest, is_heartbeat, joint, last, later, least}
+use Rattle.mold_capture_commands.specs.Pairs.{pair_of, same_pair}
+use Rattle.mold_capture_commands.specs.Sessions.{pair_text}
+use Rattle.mold_capture_commands.specs.declared.filter.CaptureFilter.{CaptureFilter}
+use Rattle.mold_capture_commands.specs.declared.pair.Pair.{Pair}
+use Rattle.mold_capture_commands.specs.declared.tally.Tally.{Tally}
+
+-- What is counted of no datagram.
+abbrev pub no_tally : Tally
+no_tally = record { datagrams = 0; first = None; last = None; heartbeats = 0; end = None }
+
+-- What is counted with one more datagram.
+abbrev pub tally_more : Tally → Result Packet DecodeError → Tally
+tally_more tally read = record {
+  datagrams = one_more tally.datagrams;
+  first = joint min tally.first (least (carried_numbers read));
+  last = joint max tally.last (greatest (carried_numbers read));
+  heartbeats = more_if (is_heartbeat read) tally.heartbeats;
+  end = joint later tally.end (last (end_numbers read));
+}
+
+-- The pairs with one more datagram. A new pair is the last one.
+unfoldable pub lines_more : List (Pair × Tally) → Pair → Result Packet DecodeError → List (Pair × Tally)
+lines_more [] pair read = (pair, tally_more no_tally read) ∷ []
+lines_more (line ∷ lines) pair read =
+    if same_pair pair line.0
+    then (line.0, tally_more line.1 read) ∷ lines
+    else line ∷ lines_more lines pair read
+
+-- The pairs after one more frame.
+abbrev pub lines_with : List (Pair × Tally) → Found → List (Pair × Tally)
+lines_with lines (Passed datagram) = lines_more lines (pair_of datagram) (reading datagram.payload)
+lines_with lines Skipped = lines
+lines_with lines Partial = lines
+lines_with lines Unread = lines
+
+-- A datagram that passes has an address of 4 or 16 bytes as its destination.
+abbrev pub HasTarget : Found → Type 0
+HasTarget (Passed datagram) = IsAddress datagram.target
+HasTarget Skipped = ⊤
+HasTarget Partial = ⊤
+HasTarget Unread = ⊤
+
+-- The pairs after the frames.
+unfoldable pub all_lines : List (Pair × Tally) → List Found → List (Pair × Tally)
+all_lines lines [] = lines
+all_lines lines (found ∷ list) = all_lines (lines_with lines found) list
+
+-- The state of a `Sessions`: the pairs, and the lines of the files at fault.
+pub record SessionState : Type 0 where
+  pub lines : List (Pair × Tally)
+  pub faults : List ℕ
+  pub at_fault : Bool
+
+-- Before the first file.
+abbrev pub no_sessions : SessionState
+no_sessions = record { lines = []; faults = []; at_fault = false }
+
+-- The state after one more file, which leads to these pairs.
+abbrev pub sessions_with : SessionState → List (Pair × Tally) → List ℕ → Capture → SessionState
+sessions_with s lines name capture = record {
+  lines = lines;
+  faults = s.faults ++ fault_text name capture.fault;
+  at_fault = s.at_fault || is_some capture.fault;
+}
+
+-- The state after one more file, which has this name and these bytes.
+abbrev pub sessions_taken : CaptureFilter → SessionState → List ℕ → List ℕ → SessionState
+sessions_taken filter s name bytes =
+    sessions_with s (all_lines s.lines (founds filter (capture_of bytes).frames)) name (capture_of bytes)
+
+-- The state after the files.
+unfoldable pub all_sessions_taken : CaptureFilter → SessionState → List CaptureFile → SessionState
+all_sessions_taken filter s [] = s
+all_sessions_taken filter s (file ∷ files) =
+    all_sessions_taken filter (sessions_taken filter s file.name file.bytes) files
+
+-- The lines of the pairs.
+abbrev pub lines_text : List (Pair × Tally) → List ℕ
+lines_text lines = flat_map (λ line. pair_text line.0 line.1) lines
+
+-- What is printed after the last file.
+abbrev pub state_text : SessionState → List ℕ
+state_text s = lines_text s.lines ++ s.faults
+
+-- The exit status after the last file.
+abbrev pub state_status : SessionState → ℕ
+state_status s = if s.at_fault then 2 else 0

@@ -1,0 +1,134 @@
+//! The pairs of the datagrams so far, each with its tally.
+
+ghost use Rattle.std.specs.Prelude.{◌≡◌, ◌++◌, [], IfSome, None, OnOk, position, slice_get};
+ghost use Rattle.std.specs.Map.{keys_of, values_of};
+ghost use Rattle.indexmap.specs.IndexMap.{set_value_at};
+ghost use Rattle.mold_capture_commands.specs.Filter.{lent_found};
+ghost use Rattle.mold_capture_commands.specs.Pairs.{same_pair};
+ghost use Rattle.mold_capture_commands.specs.SessionState.{HasTarget, lines_more, lines_text, lines_with};
+ghost use Rattle.mold_capture_commands.specs.SessionState.{tally_more};
+
+use crate::found::Found;
+use crate::pair::Pair;
+use crate::session_text::push_pair;
+use crate::tally::Tally;
+use indexmap::IndexMap;
+use mold_wire::{DecodeError, Packet, decode};
+use std::alloc::{AllocError, Global};
+use std::marker::Model;
+
+/// The pairs of the datagrams so far, in the order of their first appearance, each with its tally. A datagram of the
+/// pair of the last one costs a comparison, any other one a search of a hash table.
+#[derive(Drop)]
+pub(crate) struct PairLines {
+    map: IndexMap<Pair, Tally>,
+    // The index of the pair of the last datagram.
+    last: usize,
+    // The datagrams so far. It stays at `u64::MAX` once it is there.
+    datagrams: u64,
+}
+
+impl Model for PairLines {
+    ghost use Rattle.std.specs.Prelude.{List};
+    ghost use Rattle.mold_capture_commands.specs.declared.pair.Pair.{Pair};
+    ghost use Rattle.mold_capture_commands.specs.declared.tally.Tally.{Tally};
+
+    ghost Value = { List (Pair × Tally) };
+
+    ghost view = { λ l. l.map.entries };
+}
+
+impl PairLines {
+    /// Returns no pairs. This allocates nothing.
+    pub(crate) fn new(alloc: Global) -> PairLines
+        ensures { result ≡ [] }
+    {
+        PairLines {
+            map: IndexMap::new(alloc),
+            last: 0,
+            datagrams: 0,
+        }
+    }
+
+    /// Returns the number of the datagrams so far. It stays at `u64::MAX` once it is there.
+    pub(crate) fn datagrams(&self) -> u64 {
+        self.datagrams
+    }
+
+    // Returns the index of the pair, if it is there.
+    fn find(&self, pair: &Pair) -> Option<usize>
+        ensures { result ≡ position (same_pair pair.now) (keys_of self.now) }
+    {
+        if let Some((known, _)) = self.map.as_slice().get_index(self.last) {
+            if pair == known {
+                return Some(self.last);
+            }
+        }
+        self.map.get_index_of(pair)
+    }
+
+    // Counts a datagram of the pair at this index, if there is one.
+    fn add_at(&mut self, index: usize, read: &Result<Packet<'_>, DecodeError>)
+        ensures { IfSome (slice_get (values_of self.old) index) (λ tally.
+            self.new ≡ set_value_at self.old index (tally_more tally read.now)) }
+    {
+        if let Some(tally) = self.map.get_index_mut(index) {
+            tally.add(read);
+        }
+    }
+
+    // Adds a pair that is not there, with its first datagram.
+    fn add_new(
+        &mut self,
+        pair: Pair,
+        read: &Result<Packet<'_>, DecodeError>,
+    ) -> Result<(), AllocError>
+        requires { position (same_pair pair) (keys_of self.old) ≡ None }
+        ensures { OnOk result (self.new ≡ lines_more self.old pair read.now) }
+    {
+        let mut tally = Tally::new();
+        tally.add(read);
+        self.map.insert(pair, tally)?;
+        Ok(())
+    }
+
+    // Counts a datagram of the pair.
+    fn add(&mut self, pair: Pair, read: &Result<Packet<'_>, DecodeError>) -> Result<(), AllocError>
+        ensures { OnOk result (self.new ≡ lines_more self.old pair read.now) }
+    {
+        match self.find(&pair) {
+            Some(index) => {
+                self.last = index;
+                self.add_at(index, read);
+                Ok(())
+            }
+            None => {
+                self.last = self.map.len();
+                self.add_new(pair, read)
+            }
+        }
+    }
+
+    /// Counts a frame. It returns an error if an allocation fails.
+    pub(crate) fn take(&mut self, found: Found<'_>) -> Result<(), AllocError>
+        requires { HasTarget (lent_found found) }
+        ensures { OnOk result (self.new ≡ lines_with self.old (lent_found found.entry)) }
+    {
+        let Found::Passed(datagram) = found else {
+            return Ok(());
+        };
+        self.datagrams = self.datagrams.saturating_add(1);
+        let read = decode(datagram.payload);
+        self.add(Pair::new(&datagram, &read), &read)
+    }
+
+    /// Appends the lines of the pairs.
+    pub(crate) fn push_text(&self, text: &mut Vec<u8>) -> Result<(), AllocError>
+        ensures { OnOk result (text.new.items ≡ text.old.items ++ lines_text self.now) }
+    {
+        for (pair, tally) in self.map.iter() {
+            push_pair(text, pair, tally)?;
+        }
+        Ok(())
+    }
+}

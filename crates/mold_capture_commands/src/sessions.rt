@@ -1,0 +1,91 @@
+//! `mold sessions --capture`: lists the destinations and sessions of captures.
+
+ghost use Rattle.std.specs.Prelude.{◌≡◌, IfOk, IfSome, OnOk};
+ghost use Rattle.std.specs.Io.KnownBytes.{Appends};
+ghost use Rattle.mold_capture_commands.specs.SessionState.{no_sessions, sessions_taken, state_status, state_text};
+ghost use Rattle.mold_devices.specs.Devices.{AppendsPrefix};
+ghost use Rattle.mold_devices.specs.Faults.{CountsRead, CountsSink};
+
+use crate::faults::push_fault;
+use crate::filter::CaptureFilter;
+use crate::pair_lines::PairLines;
+use crate::session_frames::read_sessions;
+use crate::watch::Watch;
+use mold_devices::{CommandFault, ReadFault, Sink, Source, send};
+use std::alloc::Global;
+use std::marker::Model;
+
+/// The command `sessions --capture`: the destinations and sessions of the datagrams of captures, which are read one
+/// after the other.
+///
+/// It keeps what it prints of each pair of destination and session, and the lines of the files at fault.
+#[derive(Drop)]
+pub struct Sessions {
+    lines: PairLines,
+    // The lines of the files at fault.
+    faults: Vec<u8>,
+    at_fault: bool,
+    alloc: Global,
+}
+
+impl Model for Sessions {
+    ghost use Rattle.mold_capture_commands.specs.SessionState.{SessionState};
+
+    ghost Value = { SessionState };
+
+    ghost view = { λ s. record { lines = s.lines; faults = s.faults.items; at_fault = s.at_fault } };
+}
+
+impl Sessions {
+    /// Returns a list of no sessions. This allocates nothing.
+    pub fn new(alloc: Global) -> Sessions
+        ensures { result ≡ no_sessions }
+    {
+        Sessions {
+            lines: PairLines::new(alloc),
+            faults: Vec::new(alloc),
+            at_fault: false,
+            alloc,
+        }
+    }
+
+    /// Reads a capture and counts its datagrams that pass, after those of the captures before it. If the file is at
+    /// fault, the datagrams before its fault are counted, and `print` reports the fault under the name. The cost of a
+    /// datagram does not grow with the number of pairs, unless their hashes collide. `watch` is called after each frame.
+    ///
+    /// `Read` is returned only if the source failed, `Memory` only if an allocation failed.
+    pub fn read<S: Source, W: Watch>(
+        &mut self,
+        name: &[u8],
+        filter: &CaptureFilter,
+        source: &mut S,
+        watch: &mut W,
+    ) -> Result<(), ReadFault>
+        ensures taken { OnOk result (IfSome (S.left source.old) (λ bytes.
+            self.new ≡ sessions_taken filter.now self.old name.now bytes)) }
+        ensures failures { CountsRead (S.failed source.old) (S.failed source.new) result }
+    {
+        if let Some(fault) = read_sessions(self.alloc, filter, source, watch, &mut self.lines)? {
+            self.at_fault = true;
+            push_fault(&mut self.faults, name, fault)?;
+        }
+        Ok(())
+    }
+
+    /// Writes a line for each pair of destination and session and the lines of the files at fault, and returns the exit
+    /// status: 2 if a file is at fault, otherwise 0. After a fault, a prefix of the text was written.
+    ///
+    /// `Write` is returned only if the sink failed, `Memory` only if an allocation failed, and `Read` never.
+    pub fn print<K: Sink>(&self, sink: &mut K) -> Result<u8, CommandFault>
+        ensures whole { IfOk result (λ status. Appends (K.held sink.old) (K.held sink.new)
+            (state_text self.now) × (status ≡ state_status self.now)) }
+        ensures front { AppendsPrefix (K.held sink.old) (K.held sink.new) (state_text self.now) }
+        ensures failures { CountsSink (K.failed sink.old) (K.failed sink.new) result }
+    {
+        let mut text = Vec::new(self.alloc);
+        self.lines.push_text(&mut text)?;
+        text.extend_from_slice(self.faults.as_slice())?;
+        send(sink, &mut text)?;
+        Ok(if self.at_fault { 2 } else { 0 })
+    }
+}
