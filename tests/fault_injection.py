@@ -7,6 +7,7 @@ import subprocess
 import threading
 from dataclasses import dataclass, field
 
+import captures_model as captures
 import model
 import processes
 import udp_peers
@@ -142,6 +143,27 @@ def calls_of_files():
     ]
 
 
+def calls_of_captures():
+    """Calls of the commands that read captures: of each format, of all formats of addresses, and at fault."""
+    end, other = model.encoding(model.Packet("end", S, 3)), model.encoding(model.Packet("end", b"OTHER     ", 3))
+    frames = [captures.ethernet(captures.ipv4(captures.udp(it))) for it in (data(1, b"AB", b""), end)]
+    wrong = captures.ethernet(captures.ipv6(captures.udp(other), extensions=[captures.extension(60)]))
+    file, records = captures.pcapng(frames, "big"), captures.classic([*frames, wrong, frames[0][:40]])
+    files, filters = {"a": file, "b": records}, ["--port", "26400", "--group", "239.1.1.1", "--session", "SESSION001"]
+    both, cut = ["--capture", "@a", "--capture", "@b"], records[:-1]
+    return [
+        Call("check of captures", ["check", *both, *filters], files=files),
+        # The datagram that is refused has another destination, so there is a line on standard error.
+        Call("check of captures, refused", ["check", *both], files=files, status=2),
+        Call("check of captures, at fault", ["check", "--capture", "-", *filters], cut, status=2),
+        Call("show of captures", ["show", *both, *filters], files=files),
+        Call("show of captures, at fault", ["show", "--capture", "-", "--capture", "@a"], cut, {"a": file}, status=2),
+        Call("sessions", ["sessions", *both], files=files),
+        Call("sessions, at fault", ["sessions", "--capture", "@a", "--capture", "-"], cut, {"a": file}, status=2),
+        Call("a read fault of captures", ["sessions", "--capture", "@none"], status=FAULT, devices=()),
+    ]
+
+
 def calls_over_ports():
     limits = ["--limit", "64"]
     loop = ["loop", "--session", "SESSION001", *limits, "--server-limit", "64", "--window", "4"]
@@ -193,6 +215,7 @@ def all_calls():
         Call("check of lines", ["check", "-"], captured, status=1),
         Call("check of lines, refused", ["check", "-"], b"\n" + HEX + b"\n", status=2),
         *calls_of_files(),
+        *calls_of_captures(),
         *calls_over_ports(),
         Call("help", ["--help"], devices=("write",)),
         Call("help of a command", ["listen", "--help"], devices=("write",)),
