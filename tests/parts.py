@@ -87,6 +87,8 @@ LANES = (
         over_program("tests/mutations", "examples/packets.*", "tests/table*"),
         # Longer runs with other seeds are not part of the gate.
         over_program("tests/long-run gate 200"),
+        # More captures with other seeds are not part of the gate. What tshark reads is left out if it is not installed.
+        over_program("tests/captures"),
     ),
     (
         Part("sh tests/launcher", ("mold", "tests/checks.sh")),
@@ -122,7 +124,7 @@ def imported(path):
     if not os.path.isfile(f"{TOP}/{path}"):
         return []
     with open(f"{TOP}/{path}", encoding="utf-8") as file:
-        modules = (f"tests/{name}.py" for name in re.findall(r"^import (\w+)$", file.read(), re.M))
+        modules = (f"tests/{name}.py" for name in re.findall(r"^import (\w+)(?: as \w+)?$", file.read(), re.M))
         return [it for it in modules if os.path.isfile(f"{TOP}/{it}")]
 
 
