@@ -113,6 +113,10 @@ def add_ipv4():
         ipv4(udp(ONE), protocol=6), ipv4(udp(ONE), protocol=1), ipv4(udp(ONE), protocol=6, fragment=0x2000),
         ipv4(udp(ONE), total=0), ipv4(udp(ONE), total=19), b"\x44" + ipv4(udp(ONE))[1:], ipv4(udp(ONE))[:19],
     ), counts(0, 7) + NOTHING)
+    # Bytes 16 to 23 of these packets could be the header of a datagram.
+    short = ipv4(udp(ONE, (12 + len(ONE), PORT)))
+    check("IPv4 headers that are too short", of_packets(b"\x44" + short[1:], ipv4(udp(ONE), total=0, fragment=0x2000),
+                                                        ipv4(udp(ONE), total=19, fragment=1)), counts(0, 3) + NOTHING)
     check("an IPv4 packet of 28 bytes has an empty payload", of_packets(ipv4(udp(b""))),
           counts(1) + "refused datagram 1 Malformed Short 0\n", 2)
 
@@ -127,6 +131,13 @@ def add_fragments():
     check("fragments by port and group", both, counts(0, 1, 1) + NOTHING, 1, " --port 1 --group 239.1.1.1")
     check("a fragment without its port", of_packets(ipv4(udp(ONE)[:3], fragment=0x2000)), counts(0, 0, 1) + NOTHING, 1,
           " --port 1")
+    # The ports are not in the fragments, but in the padding after them.
+    padded = [ipv4(b"\x13\x88", fragment=0x2000), ipv6(b"\x13\x88", extensions=[captures.fragment_header(1)])]
+    check("padding after a fragment", of_packets(*(it + bytes(18) for it in padded)), counts(0, 0, 2) + NOTHING, 1,
+          " --port 1")
+    cut_header = captures.FRAGMENT, bytes(1) + captures.big(1) + bytes(2)
+    check("a packet of 6 bytes of a fragment header", of_packets(ipv6(b"", extensions=[cut_header])),
+          counts(0, 1) + NOTHING)
     headers = [captures.fragment_header(1), captures.fragment_header(8)]
     both = of_packets(*(ipv6(udp(ONE), extensions=[captures.extension(60), it]) for it in headers))
     check("fragments of IPv6", both, counts(0, 1, 1) + NOTHING, 1, " --port 1")
@@ -178,6 +189,8 @@ def add_ipv6():
           WHOLE, 0)
     eight = [captures.extension(60)] * 7 + [captures.extension(43)]
     check("eight extension headers", of_packets(ipv6(udp(ONE), extensions=eight), ipv6(udp(END))), WHOLE, 0)
+    nine = of_packets(ipv6(udp(ONE), extensions=[captures.extension(60)] * 9))
+    check("nine extension headers", nine, counts(0, 1) + NOTHING)
     check("other packets of IPv6", of_packets(
         ipv6(udp(ONE), protocol=6), ipv6(udp(ONE), protocol=59), ipv6(udp(ONE), protocol=50),
         ipv6(udp(ONE), size=0), ipv6(udp(ONE))[:39], ipv6(b"\x11\x01" + bytes(6), protocol=60),
@@ -260,7 +273,9 @@ def add_faults_of_blocks():
     at_fault("a block of another kind", start + captures.block(5, bytes(8))[:-1], f"Cut {at}")
     for kind in (1, 3, 5, 6):
         at_fault(f"the length 8 of kind {kind}", start + captures.block(kind, bytes(20), total=8), f"BadBlock {at}")
-        at_fault(f"an odd length of kind {kind}", start + captures.block(kind, bytes(40), total=33), f"BadBlock {at}")
+        # Both lengths of the block are 34.
+        odd = captures.block(kind, bytes(20), total=34)[:-4] + bytes(2) + (34).to_bytes(4, "little")
+        at_fault(f"a length of kind {kind} that 4 does not divide", start + odd, f"BadBlock {at}")
         at_fault(f"two lengths of kind {kind}", start + captures.block(kind, bytes(40), last=56), f"BadBlock {at}")
     for kind, size in ((1, 4), (3, 0), (6, 16)):
         at_fault(f"a short block of kind {kind}", start + captures.block(kind, bytes(size)), f"BadBlock {at}")
@@ -444,6 +459,7 @@ def add_times():
     timed("nanoseconds", 1700000000123456789, "1700000000.123456789", 9, order="big")
     timed("picoseconds are cut", 1999999999999, "1.999999999", 12)
     timed("seconds", 1700000000, "1700000000.000000000", 0)
+    timed("2^0", 5, "5.000000000", 0x80)
     timed("2^10", 1025, "1.000976562", 0x8A)
     timed("2^63", 1 << 62, "0.500000000", 0x80 + 63)
     timed("10^19", 5 * 10**18, "0.500000000", 19)
@@ -460,7 +476,7 @@ def add_times():
     timed("without the end of options", 1500, "1.500000000", options=name + milli)
     timed("after the end of options", 1500000, "1.500000000", options=end + milli)
     timed("an option of another length", 1500000, "1.500000000", options=captures.option(9, b"\3\3") + end)
-    timed("an option that is cut", 1500000, "1.500000000", options=(14).to_bytes(2, "little") + b"\x08\0" + bytes(4))
+    timed("an option that is cut", 1500000, "1.500000000", options=b"\x0e\0\x08\0\1\0\0\0")
     file = captures.section() + captures.interface() + captures.simple(to_group(BEAT))
     show("a simple packet has no time", file, shown("none", BEAT_TEXT))
     file = captures.section() + captures.interface(options=captures.clock(resolution=3)) + captures.interface()
