@@ -14,6 +14,8 @@ GROUPS_4, GROUPS_6 = ["239.1.1.1", "239.1.1.2", "10.0.0.9"], ["ff02::1:2", "2001
 PORTS = [26400, 26401, 1, 65535]
 ORDERS, UNITS = ["big", "little"], ["microseconds", "nanoseconds"]
 RESOLUTIONS = [None, 0, 3, 6, 9, 12, 19, 20, 127, 128, 138, 191, 192, 255]
+# tshark computes wrong times with resolutions above 10^10 or so, because its numbers of 64 bits overflow.
+PLAIN_RESOLUTIONS = [None, None, 3, 6, 9, 138, 148]
 OFFSETS = [None, None, 1, 1700000000, -1, -5, (1 << 63) - 1, -(1 << 63)]
 # What a block of a kind that is not read is, or of the obsolete packet block.
 OTHER_KINDS = [2, 4, 5, 0x0BAD, 0x80000001, 0xFFFFFFFF]
@@ -30,7 +32,9 @@ class Case:
     files: list
 
 
-def units(chance):
+def units(chance, is_plain=False):
+    if is_plain:
+        return chance.choice([0, 1, 1700000000123456789, chance.getrandbits(40)])
     edges = [0, 1, 10**6, 1700000000 * 10**6 + 1, 1700000000 * 10**9, model.GREATEST]
     return chance.choice([*edges, chance.getrandbits(64)])
 
@@ -146,7 +150,7 @@ def new_interfaces(chance, order, is_plain):
     descriptions = []
     for link in links:
         snaplen = 0 if is_plain else chance.choice([0, 0, 60, 262144])
-        resolution = None if is_plain else chance.choice(RESOLUTIONS)
+        resolution = chance.choice(PLAIN_RESOLUTIONS if is_plain else RESOLUTIONS)
         options = captures.clock(order, resolution, None if is_plain else chance.choice(OFFSETS))
         if not is_plain and has(chance, 0.2):
             name = captures.option(2, b"eth0", order)
@@ -178,7 +182,7 @@ def packet_block(chance, links, datagram, order, is_plain):
         number = len(links)
     # A comment.
     options = captures.option(1, b"ab", order) + captures.option(0, b"", order) if has(chance, 0.2) else b""
-    return captures.enhanced(drawn, order, number, units(chance), options=options)
+    return captures.enhanced(drawn, order, number, units(chance, is_plain), options=options)
 
 
 def pcapng(chance, datagrams, is_plain=False):
