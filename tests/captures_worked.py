@@ -9,11 +9,12 @@ import model
 from captures_model import ethernet, ipv4, ipv6, linked, udp
 
 S, HEX, PORT = b"SESSION001", "53455353494f4e303031", 26400
+OTHER, HEX_OTHER = b"OTHER     ", "4f544845522020202020"
 ONE = model.encoding(model.Packet("data", S, 1, (b"A",)))
 TWO = model.encoding(model.Packet("data", S, 2, (b"B", b"")))
 BEAT = model.encoding(model.Packet("heartbeat", S, 1))
 END = model.encoding(model.Packet("end", S, 2))
-OTHER_END = model.encoding(model.Packet("end", b"OTHER     ", 9))
+OTHER_END = model.encoding(model.Packet("end", OTHER, 9))
 # The whole session of one message.
 WHOLE = "datagrams 2 skipped 0 partial 0 unread 0\nwhole 1\n"
 # The end of the text without an end of session, and without a gap.
@@ -21,7 +22,6 @@ NOTHING = "incomplete end none\n"
 LINKS = {"Ethernet": captures.ETHERNET, "raw IP": captures.RAW, "raw IPv4": captures.IPV4_LINK,
          "raw IPv6": captures.IPV6_LINK, "Linux cooked": captures.COOKED, "Linux cooked 2": captures.COOKED_2,
          "BSD loopback, null": captures.NULL, "BSD loopback": captures.LOOP}
-LONGEST = "0" * 19 + "1"
 
 
 @dataclass
@@ -65,6 +65,11 @@ def of_payloads(*payloads):
     return captures.classic([to_group(it) for it in payloads])
 
 
+def address(last):
+    """The text of an address of IPv6."""
+    return f"ff02:0000:0000:0000:0000:0000:0000:{last:04x}"
+
+
 # What a frame carries.
 
 
@@ -89,16 +94,14 @@ def add_tags():
     three = ethernet(ipv4(udp(ONE)), [0x8100] * 3)
     check("three tags", captures.classic([three]), counts(0, 1) + NOTHING)
     check("other protocols of Ethernet", captures.classic([
-        ethernet(ipv4(udp(ONE)), (), 0x0806), ethernet(ipv4(udp(ONE)), (), 60), ethernet(ipv4(udp(ONE)), (), IPV6),
-        ethernet(ipv6(udp(ONE)), (), IPV4), ethernet(b"", (), 0x8100), b"", bytes(13),
+        ethernet(ipv4(udp(ONE)), (), 0x0806), ethernet(ipv4(udp(ONE)), (), 60),
+        ethernet(ipv4(udp(ONE)), (), captures.IPV6), ethernet(ipv6(udp(ONE)), (), captures.IPV4),
+        ethernet(b"", (), 0x8100), b"", bytes(13),
     ]), counts(0, 7) + NOTHING)
     check("the loopback family is not judged",
           captures.classic([b"\xff" * 4 + ipv4(udp(ONE)), bytes(4) + ipv6(udp(END))], link=captures.LOOP), WHOLE, 0)
     check("the version of raw IP", captures.classic([b"\x55" + bytes(40), b"", b"\x45"], link=captures.RAW),
           counts(0, 3) + NOTHING)
-
-
-IPV4, IPV6 = captures.IPV4, captures.IPV6
 
 
 def add_ipv4():
@@ -331,11 +334,6 @@ def add_files():
     add("check: no second file", "check --capture f --capture none", missing, "", 3, "fault Read\n")
 
 
-def address(last):
-    """The text of an address of IPv6."""
-    return f"ff02:0000:0000:0000:0000:0000:0000:{last:04x}"
-
-
 def add_filters():
     frames = [to_group(ONE), to_group(END), to_group(OTHER_END, "239.1.1.2"), to_group(OTHER_END, port=26401)]
     frames += [ethernet(ipv6(udp(OTHER_END), target="ff02::1"))]
@@ -349,7 +347,7 @@ def add_filters():
     CASES[-1].errors = "see mold sessions\n"
     check("two ports", captures.classic([to_group(ONE, port=1), to_group(END, port=65535), to_group(OTHER_END)]),
           counts(2, 1) + "whole 1\n", 0, " --port 65535 --port 1")
-    check("a port with zeros", file, counts(0, 5) + NOTHING, 1, f" --port {LONGEST}")
+    check("a port of 20 digits", file, whole, 0, f" --port {PORT:020} --group 239.1.1.1")
     check("another port", file, all_others, 1, " --port 5000")
     check("another group", file, all_others, 1, " --group 10.0.0.1")
     check("a session", file, whole, 0, " --session SESSION001")
@@ -498,12 +496,11 @@ def add_sessions():
     sessions("several ends", of_payloads(model.encoding(model.Packet("end", S, 9)), END), line(datagrams=2, end="2"))
     frames = [to_group(END, port=1), to_group(OTHER_END), to_group(b"x"), to_group(ONE, port=1), to_group(END)]
     frames += [ethernet(ipv6(udp(b""), target="ff02::1")), to_group(b"")]
-    other = HEX_OTHER
-    text = line("239.1.1.1:1", datagrams=2, numbers="1 1", end="2") + line(session=other, end="9")
+    text = line("239.1.1.1:1", datagrams=2, numbers="1 1", end="2") + line(session=HEX_OTHER, end="9")
     text += "to 239.1.1.1:26400 session none refused 2\n" + line(end="2")
     text += f"to [{address(1)}]:26400 session none refused 1\n"
     sessions("in the order of their appearance", captures.classic(frames), text)
-    sessions("filters", captures.classic(frames), line(session=other, end="9") +
+    sessions("filters", captures.classic(frames), line(session=HEX_OTHER, end="9") +
              "to 239.1.1.1:26400 session none refused 2\n" + line(end="2"), 0, " --port 26400 --group 239.1.1.1")
     sessions("no datagrams", captures.classic([b""]), "")
     greatest = S + b"\xff" * 8 + b"\0\2\0\1A\0\0"
@@ -516,7 +513,6 @@ def add_sessions():
     add("sessions: standard input", "sessions --capture -", {"-": of_payloads(END)}, line(end="2"))
 
 
-HEX_OTHER = "4f544845522020202020"
 # Arguments that are refused. The program's library words the texts that begin with `error: `.
 USAGE = """check DIR --capture f
 check - --capture f
