@@ -5,10 +5,10 @@ use Rattle.mold_wire.specs.declared.session.Session.{Session}
 use Rattle.mold_capture_commands.specs.Pairs.{same_address, same_pair, same_session}
 use Rattle.mold_capture_commands.specs.contracts.pair.PairPartialEq.TheImpl.{eq-value}
 use Rattle.mold_capture_commands.specs.declared.pair.Pair.{Pair}
-use Rattle.mold_capture_commands.specs.declared.target_address.TargetAddress.{TargetAddress}
-use Rattle.mold_capture_commands.specs.declared.target_address.TargetAddress.TheVariants.{V4, V6}
+use Rattle.mold_frame.specs.declared.ip_address.IpAddress.{IpAddress}
+use Rattle.mold_frame.specs.declared.ip_address.IpAddress.TheVariants.{V4, V6}
 
-eq_fields : (a b : TargetAddress) (p q : ℕ) (s t : Option Session) →
+eq_fields : (a b : IpAddress) (p q : ℕ) (s t : Option Session) →
     eq-value.it (record { target = a; port = p; session = s }) (record { target = b; port = q; session = t })
     ≡ (same_address a b && (p == q && same_session s t))
 eq_fields (V4 a) (V4 b) p q None None = refl

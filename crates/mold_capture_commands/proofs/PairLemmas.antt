@@ -20,8 +20,8 @@ use Rattle.mold_capture_commands.specs.Pairs.{same_address, same_pair, same_sess
 use Rattle.mold_capture_commands.specs.SessionState.{no_tally, tally_more}
 use Rattle.mold_capture_commands.specs.declared.pair.Pair.{Pair}
 use Rattle.mold_capture_commands.specs.declared.tally.Tally.{Tally}
-use Rattle.mold_capture_commands.specs.declared.target_address.TargetAddress.{TargetAddress}
-use Rattle.mold_capture_commands.specs.declared.target_address.TargetAddress.TheVariants.{V4, V6}
+use Rattle.mold_frame.specs.declared.ip_address.IpAddress.{IpAddress}
+use Rattle.mold_frame.specs.declared.ip_address.IpAddress.TheVariants.{V4, V6}
 
 -- ---- equality of pairs
 
@@ -38,13 +38,13 @@ bytes_equal one other = (bytes_eq-Decides one other).0
 bytes_same : (bytes : List ℕ) → bytes_eq bytes bytes ≡ true
 bytes_same bytes = (bytes_eq-Decides bytes bytes).1 refl
 
-address_equal : (one other : TargetAddress) → same_address one other ≡ true → one ≡ other
+address_equal : (one other : IpAddress) → same_address one other ≡ true → one ≡ other
 address_equal (V4 one) (V4 other) h = ap V4 (bytes_equal one other h)
 address_equal (V6 one) (V6 other) h = ap V6 (bytes_equal one other h)
 address_equal (V4 one) (V6 other) h = absurd (true≢false (sym h))
 address_equal (V6 one) (V4 other) h = absurd (true≢false (sym h))
 
-address_same : (address : TargetAddress) → same_address address address ≡ true
+address_same : (address : IpAddress) → same_address address address ≡ true
 address_same (V4 bytes) = bytes_same bytes
 address_same (V6 bytes) = bytes_same bytes
 

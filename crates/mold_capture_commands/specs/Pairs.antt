@@ -4,6 +4,7 @@ use Rattle.std.specs.Prelude.{Option, None, Some, Result, Ok, Err, if◌then◌e
 use Rattle.std.specs.List.{filter, flat_map}
 use Rattle.std.specs.Str.{bytes_eq}
 use Rattle.mold_frame.specs.Carried.{Datagram}
+use Rattle.mold_frame.specs.IpAddress.{ip_address}
 use Rattle.mold_wire.specs.Packet.{messages_of}
 use Rattle.mold_wire.specs.Reading.{reading}
 use Rattle.mold_wire.specs.declared.error.DecodeError.{DecodeError}
@@ -14,17 +15,8 @@ use Rattle.mold_wire.specs.declared.packet.Body.TheVariants.{Data, Heartbeat, En
 use Rattle.mold_wire.specs.declared.session.Session.{Session}
 use Rattle.mold_capture_commands.specs.declared.pair.Pair.{Pair}
 use Rattle.mold_capture_commands.specs.declared.tally.Tally.{Tally}
-use Rattle.mold_capture_commands.specs.declared.target_address.TargetAddress.{TargetAddress}
-use Rattle.mold_capture_commands.specs.declared.target_address.TargetAddress.TheVariants.{V4, V6}
-
--- The address with these 4 or 16 bytes.
-abbrev pub target_address : List ℕ → TargetAddress
-target_address bytes = if length bytes == 4 then V4 bytes else V6 bytes
-
--- The bytes of an address.
-abbrev pub target_bytes : TargetAddress → List ℕ
-target_bytes (V4 bytes) = bytes
-target_bytes (V6 bytes) = bytes
+use Rattle.mold_frame.specs.declared.ip_address.IpAddress.{IpAddress}
+use Rattle.mold_frame.specs.declared.ip_address.IpAddress.TheVariants.{V4, V6}
 
 -- The session of a packet. Bytes that do not encode a packet have none.
 abbrev pub session_read : Result Packet DecodeError → Option Session
@@ -34,13 +26,13 @@ session_read (Err fault) = None
 -- The pair that a datagram belongs to: its destination, and the session of its packet.
 abbrev pub pair_of : Datagram → Pair
 pair_of datagram = record {
-  target = target_address datagram.target;
+  target = ip_address datagram.target;
   port = datagram.target_port;
   session = session_read (reading datagram.payload);
 }
 
 -- Two addresses are equal.
-abbrev pub same_address : TargetAddress → TargetAddress → Bool
+abbrev pub same_address : IpAddress → IpAddress → Bool
 same_address (V4 one) (V4 other) = bytes_eq one other
 same_address (V6 one) (V6 other) = bytes_eq one other
 same_address (V4 one) (V6 other) = false

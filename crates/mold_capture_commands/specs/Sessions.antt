@@ -3,13 +3,14 @@ use Rattle.std.specs.Prelude.{ℕ, List, [], ◌∷◌, ◌++◌, map, codes, de
 use Rattle.std.specs.List.{flat_map}
 use Rattle.hex.specs.Hex.{encode_lower}
 use Rattle.mold_frame.specs.Carried.{Datagram}
+use Rattle.mold_frame.specs.IpAddress.{address_bytes}
 use Rattle.mold_text.specs.Line.{line_of}
 use Rattle.mold_wire.specs.declared.session.Session.{Session}
 use Rattle.mold_capture_commands.specs.Address.{endpoint_text}
 use Rattle.mold_capture_commands.specs.Captures.{faults_text, founds_of, has_fault}
 use Rattle.mold_capture_commands.specs.Checking.{CaptureFile}
 use Rattle.mold_capture_commands.specs.Filter.{Found, Passed, Skipped, Partial, Unread}
-use Rattle.mold_capture_commands.specs.Pairs.{distinct, pair_of, readings_of, tally_of, target_bytes}
+use Rattle.mold_capture_commands.specs.Pairs.{distinct, pair_of, readings_of, tally_of}
 use Rattle.mold_capture_commands.specs.declared.filter.CaptureFilter.{CaptureFilter}
 use Rattle.mold_capture_commands.specs.declared.pair.Pair.{Pair}
 use Rattle.mold_capture_commands.specs.declared.tally.Tally.{Tally}
@@ -51,7 +52,7 @@ session_words (Some session) tally = encode_lower session.0 ∷ tally_words tall
 -- The line of a pair.
 abbrev pub pair_text : Pair → Tally → List ℕ
 pair_text pair tally = line_of (
-    codes "to" ∷ endpoint_text (target_bytes pair.target) pair.port
+    codes "to" ∷ endpoint_text (address_bytes pair.target) pair.port
     ∷ codes "session" ∷ session_words pair.session tally)
 
 -- The lines of the pairs of a list of datagrams.

@@ -19,7 +19,6 @@ mod session_text;
 mod sessions;
 mod shown;
 mod tally;
-mod target_address;
 mod targets;
 mod watch;
 

@@ -6,14 +6,13 @@ ghost use Rattle.mold_frame.specs.Addresses.{IsAddress};
 ghost use Rattle.mold_frame.specs.Lent.{lent_datagram};
 ghost use Rattle.mold_wire.specs.Reading.{reading};
 
-use crate::target_address::TargetAddress;
-use mold_frame::Datagram;
+use mold_frame::{Datagram, IpAddress};
 use mold_wire::{DecodeError, Packet, Session};
 
 /// A destination and a session. The session is `None` for datagrams that do not encode a packet.
 #[derive(Clone, Copy, Debug, PartialEq, Eq, Hash)]
 pub(crate) struct Pair {
-    pub(crate) target: TargetAddress,
+    pub(crate) target: IpAddress,
     pub(crate) port: u16,
     pub(crate) session: Option<Session>,
 }
@@ -26,7 +25,7 @@ impl Pair {
         ensures { result ≡ pair_of (lent_datagram datagram.now) }
     {
         Pair {
-            target: TargetAddress::from_bytes(datagram.target),
+            target: IpAddress::from_bytes(datagram.target),
             port: datagram.target_port,
             session: session_of(read),
         }
