@@ -1,5 +1,5 @@
 -- The text of a capture, frame by frame.
-use Rattle.std.proofs.Common.{◌≡◌, ◌∙◌, ℕ, Bool, true, false, ◌||◌, List, [], ◌∷◌, ◌++◌, Option, None, Some, refl, sym, ap, subst, append_assoc, append-nil, take, length}
+use Rattle.std.proofs.Common.{◌≡◌, ◌∙◌, ℕ, Bool, true, false, ◌||◌, List, [], ◌∷◌, ◌++◌, Option, None, Some, refl, sym, ap, subst, append_assoc, append-nil}
 use Rattle.std.specs.Prelude.{IfSome, is_some, if◌then◌else◌}
 use Rattle.std.specs.Io.KnownBytes.{Appends, prepend_known}
 use Rattle.std.proofs.KnownBytes.{Appends-nil, Appends-trans}
@@ -17,12 +17,17 @@ use Rattle.mold_capture_commands.specs.Faults.{fault_text}
 use Rattle.mold_capture_commands.specs.CaptureShow.{ending_of, frame_refused, frame_text, frames_refused, frames_text}
 use Rattle.mold_capture_commands.specs.declared.filter.CaptureFilter.{CaptureFilter}
 use Rattle.mold_capture_commands.specs.declared.frame_show.Ending.{Ending}
+use Rattle.mold_capture_commands.specs.declared.frame_show.Unsent.{Unsent}
 
 -- A moment of a run: what the sink holds, the text that is not written yet, whether a datagram was refused.
 pub record Moment : Type 0 where
   pub held : Option (List ℕ)
   pub text : List ℕ
   pub refused : Bool
+
+-- The moment with this text and flag.
+abbrev pub moment : Option (List ℕ) → Unsent → Moment
+moment held unsent = record { held = held; text = unsent.text.items; refused = unsent.refused }
 
 -- The text of the whole capture is what was written, the unwritten text, and that of the remaining frames.
 pub record PrintedOf (filter : CaptureFilter) (held : Option (List ℕ)) (now : Moment) (whole rest : Capture) : Type 0 where
@@ -184,11 +189,6 @@ pub printed_all : (filter : CaptureFilter) (held new : Option (List ℕ)) (now :
     × (◌≡◌ {A = Ending} (record { refused = now.refused; fault = fault }) (ending_of filter (capture_of input))))
 printed_all filter held new now known left format fault so gives sent =
     all_for filter held new now known left format fault so.printed gives sent
-
--- The text before a frame is restored when the text that was added is cut off.
-pub restored : (found added cut : List ℕ) (len : ℕ) → cut ≡ take len added → len ≡ length found →
-    take (length found) added ≡ found → cut ≡ found
-restored found added cut len is long kept = is ∙ ap (λ (n : ℕ). take n added) long ∙ kept
 
 -- ---- the law: a list of files
 

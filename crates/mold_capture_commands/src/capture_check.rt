@@ -17,7 +17,8 @@ use std::marker::Model;
 
 /// The command `check --capture`: a check of the datagrams of captures, which are read one after the other.
 ///
-/// It keeps the messages that the checker stores and the lines of the files at fault.
+/// It keeps the messages that the checker stores, the lines of the files at fault and the destination of the first
+/// accepted datagram.
 #[derive(Drop)]
 pub struct CaptureCheck {
     frames: FrameCheck,

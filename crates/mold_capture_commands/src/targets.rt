@@ -12,24 +12,24 @@ use std::marker::Model;
 
 // Where a datagram goes.
 #[derive(Drop)]
-struct Target {
+struct Endpoint {
     address: Vec<u8>,
     port: u16,
 }
 
-impl Model for Target {
+impl Model for Endpoint {
     ghost use Rattle.mold_capture_commands.specs.Targets.{Destination};
 
     ghost Value = { Destination };
 
-    ghost view = { λ t. record { address = t.address.items; port = t.port } };
+    ghost view = { λ e. record { address = e.address.items; port = e.port } };
 }
 
-impl Target {
-    fn new(alloc: Global, datagram: &Datagram<'_>) -> Result<Target, AllocError>
-        ensures { IfOk result (λ target. target ≡ destination_of (lent_datagram datagram.now)) }
+impl Endpoint {
+    fn new(alloc: Global, datagram: &Datagram<'_>) -> Result<Endpoint, AllocError>
+        ensures { IfOk result (λ endpoint. endpoint ≡ destination_of (lent_datagram datagram.now)) }
     {
-        Ok(Target {
+        Ok(Endpoint {
             address: datagram.target.to_vec(alloc)?,
             port: datagram.target_port,
         })
@@ -45,7 +45,7 @@ impl Target {
 /// The destination of the first accepted datagram, and whether the first refused one has another.
 #[derive(Drop)]
 pub(crate) struct Targets {
-    first: Option<Target>,
+    first: Option<Endpoint>,
     other: bool,
     alloc: Global,
 }
@@ -82,7 +82,7 @@ impl Targets {
         ensures { OnOk result (self.new ≡ accepted self.old (destination_of (lent_datagram datagram.now))) }
     {
         if self.first.is_none() {
-            self.first = Some(Target::new(self.alloc, datagram)?);
+            self.first = Some(Endpoint::new(self.alloc, datagram)?);
         }
         Ok(())
     }

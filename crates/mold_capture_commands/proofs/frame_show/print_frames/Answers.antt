@@ -2,7 +2,7 @@ use Rattle.std.proofs.Common.{◌∙◌, ℕ, ap, refl, subst, sym, take}
 use Rattle.std.specs.Io.KnownBytes.{prepend_known}
 use Rattle.mold_devices.specs.Devices.{AppendsPrefix}
 use Rattle.mold_devices.proofs.WritingLemmas.{ends_front}
-use Rattle.mold_capture_commands.proofs.ShowLemmas.{PrintedSoFar, printed_all, printed_front, printed_more, printed_moved}
+use Rattle.mold_capture_commands.proofs.ShowLemmas.{PrintedSoFar, moment, printed_all, printed_front, printed_more, printed_moved}
 use Rattle.mold_capture_commands.specs.declared.frame_show.Unsent.{Unsent}
 use Rattle.mold_capture_commands.proofs.frame_show.print_frames.Goals as goal
 
@@ -12,30 +12,14 @@ frames-preserved g c =
     record {
       printed =
           printed_moved c.args.filter.now (g.K.Sink.held c.args.sink.now)
-          (record {
-            held = g.K.Sink.held c.frames.sink;
-            text = c.print_next.new.unsent.text.items;
-            refused = c.print_next.new.unsent.refused;
-          })
-          (record {
-            held = g.K.Sink.held c.send_large.new.sink;
-            text = c.send_large.new.text.items;
-            refused = c.print_next.new.unsent.refused;
-          })
+          (moment (g.K.Sink.held c.frames.sink) c.print_next.new.unsent)
+          (moment (g.K.Sink.held c.send_large.new.sink) (record c.print_next.new.unsent { text = c.send_large.new.text }))
           (g.S.Source.left c.args.source.now)
           (prepend_known c.print_next.new.reader.rest (g.S.Source.left c.print_next.new.source))
           c.print_next.new.reader.format
           (printed_more c.args.filter.now (g.K.Sink.held c.args.sink.now)
-          (record {
-            held = g.K.Sink.held c.frames.sink;
-            text = c.frames.unsent.text.items;
-            refused = c.frames.unsent.refused;
-          })
-          (record {
-            held = g.K.Sink.held c.frames.sink;
-            text = c.print_next.new.unsent.text.items;
-            refused = c.print_next.new.unsent.refused;
-          })
+          (moment (g.K.Sink.held c.frames.sink) c.frames.unsent)
+          (moment (g.K.Sink.held c.frames.sink) c.print_next.new.unsent)
           (g.S.Source.left c.args.source.now)
           (prepend_known c.frames.reader.rest (g.S.Source.left c.frames.source))
           (prepend_known c.print_next.new.reader.rest (g.S.Source.left c.print_next.new.source))
@@ -50,25 +34,13 @@ pub returns-in_err-send_large-in-Ok-Printed-clause-front : goal.returns-in_err-s
 returns-in_err-send_large-in-Ok-Printed-clause-front g c =
     let next = rw c.in-Ok-Printed.field-0-is at c.in-Ok-Printed.ensures.next in
     printed_front c.args.filter.now (g.K.Sink.held c.args.sink.now) (g.K.Sink.held c.send_large.new.sink)
-    (record {
-      held = g.K.Sink.held c.frames.sink;
-      text = c.print_next.new.unsent.text.items;
-      refused = c.print_next.new.unsent.refused;
-    })
+    (moment (g.K.Sink.held c.frames.sink) c.print_next.new.unsent)
     (g.S.Source.left c.args.source.now)
     (prepend_known c.print_next.new.reader.rest (g.S.Source.left c.print_next.new.source))
     c.print_next.new.reader.format
     (printed_more c.args.filter.now (g.K.Sink.held c.args.sink.now)
-    (record {
-      held = g.K.Sink.held c.frames.sink;
-      text = c.frames.unsent.text.items;
-      refused = c.frames.unsent.refused;
-    })
-    (record {
-      held = g.K.Sink.held c.frames.sink;
-      text = c.print_next.new.unsent.text.items;
-      refused = c.print_next.new.unsent.refused;
-    })
+    (moment (g.K.Sink.held c.frames.sink) c.frames.unsent)
+    (moment (g.K.Sink.held c.frames.sink) c.print_next.new.unsent)
     (g.S.Source.left c.args.source.now)
     (prepend_known c.frames.reader.rest (g.S.Source.left c.frames.source))
     (prepend_known c.print_next.new.reader.rest (g.S.Source.left c.print_next.new.source))
@@ -80,11 +52,7 @@ pub returns-in_err-send-in-Ok-Ended-clause-front : goal.returns-in_err-send-in-O
 returns-in_err-send-in-Ok-Ended-clause-front g c =
     let next = rw c.in-Ok-Ended.field-0-is at c.in-Ok-Ended.ensures.next in
     printed_front c.args.filter.now (g.K.Sink.held c.args.sink.now) (g.K.Sink.held c.send.new.sink)
-    (record {
-      held = g.K.Sink.held c.frames.sink;
-      text = c.frames.unsent.text.items;
-      refused = c.frames.unsent.refused;
-    })
+    (moment (g.K.Sink.held c.frames.sink) c.frames.unsent)
     (g.S.Source.left c.args.source.now)
     (prepend_known c.frames.reader.rest (g.S.Source.left c.frames.source))
     c.frames.reader.format c.frames.invariant.printed
@@ -95,11 +63,7 @@ pub returns-in-Ok-Ended-clause-front : goal.returns-in-Ok-Ended-clause-front
 returns-in-Ok-Ended-clause-front g c =
     let next = rw c.in-Ok-Ended.field-0-is at c.in-Ok-Ended.ensures.next in
     printed_front c.args.filter.now (g.K.Sink.held c.args.sink.now) (g.K.Sink.held c.send.new.sink)
-    (record {
-      held = g.K.Sink.held c.frames.sink;
-      text = c.frames.unsent.text.items;
-      refused = c.frames.unsent.refused;
-    })
+    (moment (g.K.Sink.held c.frames.sink) c.frames.unsent)
     (g.S.Source.left c.args.source.now)
     (prepend_known c.frames.reader.rest (g.S.Source.left c.frames.source))
     c.frames.reader.format c.frames.invariant.printed
@@ -110,16 +74,12 @@ pub returns-in-Ok-Ended-clause-whole : goal.returns-in-Ok-Ended-clause-whole
 returns-in-Ok-Ended-clause-whole g c =
     let next = rw c.in-Ok-Ended.field-0-is at c.in-Ok-Ended.ensures.next in
     printed_all c.args.filter.now (g.K.Sink.held c.args.sink.now) (g.K.Sink.held c.send.new.sink)
-    (record {
-      held = g.K.Sink.held c.frames.sink;
-      text = c.print_next.new.unsent.text.items;
-      refused = c.print_next.new.unsent.refused;
-    })
+    (moment (g.K.Sink.held c.frames.sink) c.print_next.new.unsent)
     (g.S.Source.left c.args.source.now)
     (prepend_known c.frames.reader.rest (g.S.Source.left c.frames.source))
     c.frames.reader.format c.in-Ok-Ended.fault
     (subst (λ (u : Unsent). PrintedSoFar c.args.filter.now (g.K.Sink.held c.args.sink.now)
-    (record { held = g.K.Sink.held c.frames.sink; text = u.text.items; refused = u.refused })
+    (moment (g.K.Sink.held c.frames.sink) u)
     (g.S.Source.left c.args.source.now) c.frames.reader.format
     (prepend_known c.frames.reader.rest (g.S.Source.left c.frames.source)))
     (sym next.1) c.frames.invariant.printed)
@@ -128,11 +88,7 @@ returns-in-Ok-Ended-clause-whole g c =
 pub returns-in-Err-clause-front : goal.returns-in-Err-clause-front
 returns-in-Err-clause-front g c =
     printed_front c.args.filter.now (g.K.Sink.held c.args.sink.now) (g.K.Sink.held c.end_with.new.sink)
-    (record {
-      held = g.K.Sink.held c.frames.sink;
-      text = c.frames.unsent.text.items;
-      refused = c.frames.unsent.refused;
-    })
+    (moment (g.K.Sink.held c.frames.sink) c.frames.unsent)
     (g.S.Source.left c.args.source.now)
     (prepend_known c.frames.reader.rest (g.S.Source.left c.frames.source))
     c.frames.reader.format c.frames.invariant.printed
