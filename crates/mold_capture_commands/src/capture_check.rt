@@ -82,9 +82,9 @@ impl CaptureCheck {
         Ok(())
     }
 
-    /// Returns whether the first refused datagram has another destination, another address or another port, than the
-    /// first accepted one. It is false if no datagram is refused, or none was accepted before. Then the datagrams may
-    /// be those of several sessions, which `mold sessions` lists.
+    /// Returns whether the first refused datagram has another destination than the first accepted one: another address
+    /// or another port. If so, the files may have several sessions, which `mold sessions` lists. It is false if no
+    /// datagram is refused, and if the first datagram is refused.
     pub fn sees_other_target(&self) -> bool
         ensures { result ≡ self.now.targets.other }
     {
