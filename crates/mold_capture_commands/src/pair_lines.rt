@@ -7,12 +7,16 @@ ghost use Rattle.mold_capture_commands.specs.Filter.{lent_found};
 ghost use Rattle.mold_capture_commands.specs.Pairs.{same_pair};
 ghost use Rattle.mold_capture_commands.specs.SessionState.{HasTarget, lines_more, lines_text, lines_with};
 ghost use Rattle.mold_capture_commands.specs.SessionState.{tally_more};
+ghost use Rattle.mold_devices.specs.Devices.{AppendsPrefix};
+ghost use Rattle.mold_devices.specs.Faults.{CountsSink};
+ghost use Rattle.mold_devices.specs.Writing.{Moves};
 
 use crate::found::Found;
 use crate::pair::Pair;
-use crate::session_text::push_pair;
+use crate::session_text::print_pair;
 use crate::tally::Tally;
 use indexmap::IndexMap;
+use mold_devices::{CommandFault, Sink};
 use mold_wire::{DecodeError, Packet, decode};
 use std::alloc::{AllocError, Global};
 use std::marker::Model;
@@ -122,12 +126,20 @@ impl PairLines {
         self.add(Pair::new(&datagram, &read), &read)
     }
 
-    /// Appends the lines of the pairs.
-    pub(crate) fn push_text(&self, text: &mut Vec<u8>) -> Result<(), AllocError>
-        ensures { OnOk result (text.new.items ≡ text.old.items ++ lines_text self.now) }
+    /// Appends the lines of the pairs, and writes the text in pieces of 65,536 bytes or more. The rest of the text
+    /// remains. After a fault, a prefix of the text and the lines was written.
+    pub(crate) fn print<K: Sink>(
+        &self,
+        sink: &mut K,
+        text: &mut Vec<u8>,
+    ) -> Result<(), CommandFault>
+        ensures moved { OnOk result (Moves (K.held sink.old) (K.held sink.new)
+            (text.old.items ++ lines_text self.now) text.new.items) }
+        ensures front { AppendsPrefix (K.held sink.old) (K.held sink.new) (text.old.items ++ lines_text self.now) }
+        ensures failures { CountsSink (K.failed sink.old) (K.failed sink.new) result }
     {
         for (pair, tally) in self.map.iter() {
-            push_pair(text, pair, tally)?;
+            print_pair(sink, text, pair, tally)?;
         }
         Ok(())
     }

@@ -3,11 +3,15 @@
 ghost use Rattle.std.specs.Prelude.{◌≡◌, ◌++◌, ◌∷◌, None, OnOk, codes};
 ghost use Rattle.hex.specs.Hex.{encode_lower};
 ghost use Rattle.mold_capture_commands.specs.Sessions.{number_or_none, pair_text, session_words, tally_words};
+ghost use Rattle.mold_devices.specs.Devices.{AppendsPrefix};
+ghost use Rattle.mold_devices.specs.Faults.{CountsSink};
+ghost use Rattle.mold_devices.specs.Writing.{Moves};
 ghost use Rattle.mold_text.specs.Line.{line_of, word_text};
 
 use crate::address::push_endpoint;
 use crate::pair::Pair;
 use crate::tally::Tally;
+use mold_devices::{CommandFault, Sink, send_large};
 use mold_text::{Word, push_line};
 use mold_wire::Session;
 use std::alloc::AllocError;
@@ -84,12 +88,30 @@ fn push_session(
     }
 }
 
-/// Appends the line of a pair.
-pub(crate) fn push_pair(text: &mut Vec<u8>, pair: &Pair, tally: &Tally) -> Result<(), AllocError>
+// Appends the line of a pair.
+fn push_pair(text: &mut Vec<u8>, pair: &Pair, tally: &Tally) -> Result<(), AllocError>
     ensures { OnOk result (text.new.items ≡ text.old.items ++ pair_text pair.now tally.now) }
 {
     text.extend_from_slice(b"to ")?;
     push_endpoint(text, pair.target.as_bytes(), pair.port)?;
     text.push(b' ')?;
     push_session(text, &pair.session, tally)
+}
+
+/// Appends the line of a pair, and then writes the text if it has at least 65,536 bytes.
+pub(crate) fn print_pair<K: Sink>(
+    sink: &mut K,
+    text: &mut Vec<u8>,
+    pair: &Pair,
+    tally: &Tally,
+) -> Result<(), CommandFault>
+    ensures moved { OnOk result (Moves (K.held sink.old) (K.held sink.new)
+        (text.old.items ++ pair_text pair.now tally.now) text.new.items) }
+    ensures front { AppendsPrefix (K.held sink.old) (K.held sink.new)
+        (text.old.items ++ pair_text pair.now tally.now) }
+    ensures failures { CountsSink (K.failed sink.old) (K.failed sink.new) result }
+{
+    push_pair(text, pair, tally)?;
+    send_large(sink, text)?;
+    Ok(())
 }

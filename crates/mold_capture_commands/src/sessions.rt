@@ -50,8 +50,11 @@ impl Sessions {
     }
 
     /// Reads a capture and counts its datagrams that pass, after those of the captures before it. If the file is at
-    /// fault, the datagrams before its fault are counted, and `print` reports the fault under the name. The cost of a
-    /// datagram does not grow with the number of pairs, unless their hashes collide. `watch` is called after each frame.
+    /// fault, the datagrams before its fault are counted, and `print` reports the fault under the name. `watch` is called
+    /// after each frame.
+    ///
+    /// The pairs are in a hash table, so the cost of a datagram does not grow with their number. The hash has a fixed
+    /// seed: a capture can be made for which the hashes of all pairs are equal.
     ///
     /// `Read` is returned only if the source failed, `Memory` only if an allocation failed.
     pub fn read<S: Source, W: Watch>(
@@ -72,8 +75,9 @@ impl Sessions {
         Ok(())
     }
 
-    /// Writes a line for each pair of destination and session and the lines of the files at fault, and returns the exit
-    /// status: 2 if a file is at fault, otherwise 0. After a fault, a prefix of the text was written.
+    /// Writes a line for each pair of destination and session and the lines of the files at fault, in pieces of 65,536
+    /// bytes or more. Returns the exit status: 2 if a file is at fault, otherwise 0. After a fault, a prefix of the text
+    /// was written.
     ///
     /// `Write` is returned only if the sink failed, `Memory` only if an allocation failed, and `Read` never.
     pub fn print<K: Sink>(&self, sink: &mut K) -> Result<u8, CommandFault>
@@ -83,7 +87,7 @@ impl Sessions {
         ensures failures { CountsSink (K.failed sink.old) (K.failed sink.new) result }
     {
         let mut text = Vec::new(self.alloc);
-        self.lines.push_text(&mut text)?;
+        self.lines.print(sink, &mut text)?;
         text.extend_from_slice(self.faults.as_slice())?;
         send(sink, &mut text)?;
         Ok(if self.at_fault { 2 } else { 0 })
