@@ -63,6 +63,7 @@ impl PairLines {
     fn find(&self, pair: &Pair) -> Option<usize>
         ensures { result ≡ position (same_pair pair.now) (keys_of self.now) }
     {
+        // For the prover: `as_slice` states that no pair is in the map twice.
         if let Some((known, _)) = self.map.as_slice().get_index(self.last) {
             if pair == known {
                 return Some(self.last);

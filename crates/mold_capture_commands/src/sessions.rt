@@ -54,7 +54,7 @@ impl Sessions {
     /// after each frame.
     ///
     /// The pairs are in a hash table, so the cost of a datagram does not grow with their number. The hash has a fixed
-    /// seed: a capture can be made for which the hashes of all pairs are equal.
+    /// seed, so a capture can be made whose hashes collide.
     ///
     /// `Read` is returned only if the source failed, `Memory` only if an allocation failed.
     pub fn read<S: Source, W: Watch>(
