@@ -17,9 +17,9 @@ fn ipv6_of(text: &str) -> Option<[u8; 16]>
     }
 }
 
-/// Parses an address of IPv4, as `host_of` does, or of IPv6: one to four hexadecimal digits of each case for a group of
-/// two bytes, colons between the groups, `::` for one or more groups that are 0, and the last two groups also as an IPv4
-/// address.
+/// Parses an IPv4 address, as `host_of` does, or an IPv6 address: eight groups of one to four hexadecimal digits of either
+/// case, with colons between them. `::` replaces one or more groups that are 0, and an IPv4 address may replace the last
+/// two groups.
 #[tactic(auto, unfolding(crate::specs::IpAddresses::ip_of))]
 pub(crate) fn ip_of(text: &str) -> Option<IpAddress>
     ensures { result ≡ ip_of text.now }

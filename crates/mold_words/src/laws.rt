@@ -146,8 +146,8 @@ pub fn sessions_taken_law()
         ≡ UnknownArgument ∷ [] }
 {}
 
-/// A text gives an IPv6 address exactly if it writes this address: by eight groups, or by fewer and `::`, of which the
-/// last two may be an IPv4 address. `--group` accepts these texts.
+/// A text gives the bytes of an IPv6 address exactly when it writes this address: with eight groups, or with fewer and
+/// `::`. An IPv4 address may replace the last two groups. `--group` accepts these texts.
 pub fn ipv6_text_law()
     ensures { (text bytes : List ℕ) → (ipv6_of text ≡ Some bytes)
         ↔ ((segments : List ℕ) × IsColonHex text segments × (bytes ≡ octets_of segments)) }

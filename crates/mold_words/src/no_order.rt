@@ -135,25 +135,11 @@ impl NoOrder {
                     "error: invalid value for '--{name} <{value}>': not a number from {least} to {most}\n"
                 )
             }
-            NoOrder::Address { name } => {
-                invalid_value(alloc, name, "not an address such as 127.0.0.1:9000")
-            }
-            NoOrder::LinePort { name } => {
-                invalid_value(
-                    alloc,
-                    name,
-                    "not an address such as 127.0.0.1:9000, and not fd:3 to fd:1023",
-                )
-            }
-            NoOrder::Group { name } => {
-                invalid_value(alloc, name, "a multicast group, which mold-join joins")
-            }
-            NoOrder::Host { name } => {
-                invalid_value(alloc, name, "not an IPv4 address such as 127.0.0.1")
-            }
-            NoOrder::Ip { name } => {
-                invalid_value(alloc, name, "not an address such as 239.192.1.1 or ff02::1")
-            }
+            NoOrder::Address { name }
+            | NoOrder::LinePort { name }
+            | NoOrder::Group { name }
+            | NoOrder::Host { name }
+            | NoOrder::Ip { name } => invalid_value(alloc, name, self.address_reason()),
             NoOrder::FilterWithoutCapture { name } => {
                 format!(in alloc; "error: '--{name}' requires '--capture'\n")
             }
@@ -176,6 +162,20 @@ impl NoOrder {
             | NoOrder::NoFolder
             | NoOrder::FolderWithCapture
             | NoOrder::InputTwice => String::from_str(alloc, self.fixed_text()),
+        }
+    }
+
+    // Returns why a value is not the address that its option takes. It is empty for other reasons.
+    fn address_reason(self) -> &'static str {
+        match self {
+            NoOrder::Address { name: _ } => "not an address such as 127.0.0.1:9000",
+            NoOrder::LinePort { name: _ } => {
+                "not an address such as 127.0.0.1:9000, and not fd:3 to fd:1023"
+            }
+            NoOrder::Group { name: _ } => "a multicast group, which mold-join joins",
+            NoOrder::Host { name: _ } => "not an IPv4 address such as 127.0.0.1",
+            NoOrder::Ip { name: _ } => "not an address such as 239.192.1.1 or ff02::1",
+            _ => "",
         }
     }
 
