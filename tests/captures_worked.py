@@ -345,6 +345,9 @@ def add_filters():
     check("two ports and two groups", file, counts(3, 2) + "refused datagram 3 WrongSession\n", 2,
           " --port 26400 --group 239.1.1.1 --port 1 --group 239.1.1.2")
     CASES[-1].errors = "see mold sessions\n"
+    for group in ("ff02::1", "FF02:0:0:0:0:0:0:1", "ff02:0000:0000:0000:0000:0000:0000:0001", "ff02::0.0.0.1"):
+        check(f"the group {group}", captures.classic([frames[4], to_group(END)]),
+              counts(1, 1) + "incomplete end 9\nmissing 1 8\n", 1, f" --group {group}")
     check("two ports", captures.classic([to_group(ONE, port=1), to_group(END, port=65535), to_group(OTHER_END)]),
           counts(2, 1) + "whole 1\n", 0, " --port 65535 --port 1")
     check("a port of 20 digits", file, whole, 0, f" --port {PORT:020} --group 239.1.1.1")
@@ -541,6 +544,7 @@ show --port 1
 show --session A
 show --group 10.0.0.1
 show f --capture f
+show --request --capture f
 sessions
 sessions f
 sessions --port 1
@@ -548,8 +552,8 @@ sessions --capture f --session A
 sessions --capture - --capture -
 sessions --capture f --port 0""".splitlines()
 # Values of --group that are not addresses.
-NO_ADDRESSES = """10.0.0 10.0.0.256 10.0.0.01 10.0.0.1:26400 group ::1 ff02::1:2
-ff02:0000:0000:0000:0000:0000:0000:000g ff02:0000:0000:0000:0000:0000:0000 ff02:0:0:0:0:0:0:1
+NO_ADDRESSES = """10.0.0 10.0.0.256 10.0.0.01 10.0.0.1:26400 group ff02::1::2 ff02::00001 :::
+ff02:0000:0000:0000:0000:0000:0000:000g ff02:0000:0000:0000:0000:0000:0000
 [ff02:0000:0000:0000:0000:0000:0000:0001] ff02:0000:0000:0000:0000:0000:0000:0001:0001 ''""".split()
 
 
