@@ -35,6 +35,7 @@ impl CaptureCounts {
     }
 
     /// Counts a frame.
+    #[inline(always)]
     pub fn add(&mut self, found: &Found<'_>)
         ensures { self.new ≡ counted self.old (lent_found found.now) }
     {

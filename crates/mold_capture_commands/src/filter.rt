@@ -66,6 +66,7 @@ fn may_pass_port(ports: &[u16], port: Option<u16>) -> bool
 }
 
 // Returns whether a datagram with this destination passes by its address, and by its port if it is known.
+#[inline(always)]
 #[tactic(auto, unfolding(crate::specs::Filter::passes_target))]
 fn passes_target(filter: &CaptureFilter, port: Option<u16>, address: &[u8]) -> bool
     ensures { result ≡ passes_target filter.now port address.now }
@@ -85,6 +86,7 @@ fn found_part<'a>(filter: &CaptureFilter, target: &Target<'_>) -> Found<'a>
 
 impl CaptureFilter {
     /// Returns whether the datagram passes: by its destination port, its destination address and its session.
+    #[inline(always)]
     #[tactic(auto, unfolding(crate::specs::Filter::passes))]
     pub fn passes(&self, datagram: &Datagram<'_>) -> bool
         ensures { result ≡ passes self.now (lent_datagram datagram.now) }
@@ -95,6 +97,7 @@ impl CaptureFilter {
 
     /// Returns what a frame counts as that carries this. The session of a fragment or of a datagram that was cut is not
     /// judged.
+    #[inline(always)]
     pub fn find<'a>(&self, carried: Carried<'a>) -> Found<'a>
         ensures { lent_found result ≡ found self.now (lent_carried carried.entry) }
     {

@@ -54,6 +54,7 @@ impl FrameCheck {
     }
 
     // Takes the next frame. It returns an error if an allocation fails.
+    #[inline(always)]
     fn take(&mut self, found: Found<'_>) -> Result<(), AllocError>
         ensures { OnOk result (self.new ≡ taken self.old (lent_found found.entry)) }
     {

@@ -1,10 +1,165 @@
-//! Runs the orders over captures.
+//! Runs the orders over captures: opens the files, and reads standard input for `-`.
 
-use mold_devices::CommandFault;
-use mold_wiring::ProgramFault;
-use mold_words::Order;
+use crate::progress::Progress;
+use mold_capture_commands::{CaptureCheck, CaptureFilter, CaptureShow, Sessions};
+use mold_devices::{CommandFault, FromRead, IntoWrite, Source};
+use mold_wire::Session;
+use mold_wiring::flushed;
+use mold_words::CaptureOrder;
+use std::alloc::{AllocError, Global};
+use std::fs::File;
+use std::io::{Stdout, Write};
 
-/// Runs an order over captures. It is not implemented yet, and returns the fault of a file that can't be read.
-pub(crate) fn run_captures(_rt: &HostRuntime, _order: &Order) -> Result<u8, ProgramFault> {
-    Err(ProgramFault::Command(CommandFault::Read))
+const SEE_SESSIONS: &str = "see mold sessions\n";
+
+/// A command that reads captures one after the other.
+trait CaptureCommand {
+    /// Reads the capture of this name.
+    fn read_next<S: Source>(
+        &mut self,
+        name: &str,
+        filter: &CaptureFilter,
+        source: &mut S,
+        progress: &mut Progress<'_>,
+    ) -> Result<(), CommandFault>;
+}
+
+impl CaptureCommand for CaptureCheck {
+    fn read_next<S: Source>(
+        &mut self,
+        name: &str,
+        filter: &CaptureFilter,
+        source: &mut S,
+        progress: &mut Progress<'_>,
+    ) -> Result<(), CommandFault> {
+        Ok(self.read(name.as_bytes(), filter, source, progress)?)
+    }
+}
+
+impl CaptureCommand for Sessions {
+    fn read_next<S: Source>(
+        &mut self,
+        name: &str,
+        filter: &CaptureFilter,
+        source: &mut S,
+        progress: &mut Progress<'_>,
+    ) -> Result<(), CommandFault> {
+        Ok(self.read(name.as_bytes(), filter, source, progress)?)
+    }
+}
+
+/// The command `show --capture`, which prints while it reads.
+#[derive(Drop)]
+struct Shown {
+    show: CaptureShow,
+    sink: IntoWrite<Stdout>,
+}
+
+impl CaptureCommand for Shown {
+    // The output is its progress.
+    fn read_next<S: Source>(
+        &mut self,
+        name: &str,
+        filter: &CaptureFilter,
+        source: &mut S,
+        _progress: &mut Progress<'_>,
+    ) -> Result<(), CommandFault> {
+        self.show
+            .read(name.as_bytes(), filter, source, &mut self.sink)
+    }
+}
+
+// Returns the filter of an order.
+fn filter_of(alloc: Global, order: &CaptureOrder) -> Result<CaptureFilter, AllocError> {
+    let mut filter = CaptureFilter {
+        ports: Vec::new(alloc),
+        groups: Vec::new(alloc),
+        session: order.session.map(|name| Session(name)),
+    };
+    filter.ports.extend_from_slice(order.ports.as_slice())?;
+    filter.groups.extend_from_slice(order.groups.as_slice())?;
+    Ok(filter)
+}
+
+// Reads one capture. A name other than `-` is that of a file.
+fn read_capture<C: CaptureCommand>(
+    rt: &HostRuntime,
+    name: &str,
+    filter: &CaptureFilter,
+    command: &mut C,
+    progress: &mut Progress<'_>,
+) -> Result<(), CommandFault> {
+    progress.begin();
+    if name == "-" {
+        return command.read_next(name, filter, &mut FromRead::new(rt.stdin()), progress);
+    }
+    match File::open(rt, name) {
+        Ok(file) => command.read_next(name, filter, &mut FromRead::new(file), progress),
+        Err(_) => Err(CommandFault::Read),
+    }
+}
+
+// Reads the captures of the order one after the other.
+fn read_captures<C: CaptureCommand>(
+    rt: &HostRuntime,
+    order: &CaptureOrder,
+    command: &mut C,
+    progress: &mut Progress<'_>,
+) -> Result<(), CommandFault> {
+    let filter = filter_of(rt.alloc(), order)?;
+    for name in &order.captures {
+        read_capture(rt, name.as_str(), &filter, command, progress)?;
+    }
+    Ok(())
+}
+
+// Reads the captures of the order. Meanwhile, a line on a terminal states how far they are read.
+fn read_watched<C: CaptureCommand>(
+    rt: &HostRuntime,
+    order: &CaptureOrder,
+    command: &mut C,
+) -> Result<(), CommandFault> {
+    let mut progress = Progress::of_captures(rt, order.captures.as_slice());
+    let outcome = read_captures(rt, order, command, &mut progress);
+    progress.end();
+    outcome
+}
+
+/// Checks the datagrams of the captures, and flushes standard output once. If a request to a server may have been taken
+/// for a packet, it refers to `mold sessions` on standard error.
+pub(crate) fn check_captures(rt: &HostRuntime, order: &CaptureOrder) -> Result<u8, CommandFault> {
+    let mut check = CaptureCheck::new(rt.alloc());
+    read_watched(rt, order, &mut check)?;
+    let mut sink = IntoWrite::new(rt.stdout());
+    let outcome = check.print(&mut sink);
+    let status = flushed(outcome, sink.into_inner().flush())?;
+    if check.sees_other_target() {
+        let _ = rt.eprint(SEE_SESSIONS);
+    }
+    Ok(status)
+}
+
+/// Lists the sessions of the captures, and flushes standard output once.
+pub(crate) fn list_sessions(rt: &HostRuntime, order: &CaptureOrder) -> Result<u8, CommandFault> {
+    let mut sessions = Sessions::new(rt.alloc());
+    read_watched(rt, order, &mut sessions)?;
+    let mut sink = IntoWrite::new(rt.stdout());
+    let outcome = sessions.print(&mut sink);
+    flushed(outcome, sink.into_inner().flush())
+}
+
+/// Prints the datagrams of the captures as they are read, and flushes standard output once.
+pub(crate) fn show_captures(rt: &HostRuntime, order: &CaptureOrder) -> Result<u8, CommandFault> {
+    let mut shown = Shown {
+        show: CaptureShow::new(rt.alloc()),
+        sink: IntoWrite::new(rt.stdout()),
+    };
+    let outcome = read_watched(rt, order, &mut shown);
+    let Shown { show, sink } = shown;
+    let mut sink = sink;
+    let outcome = match outcome {
+        Ok(()) => show.end(&mut sink),
+        Err(fault) => Err(fault),
+    };
+    flushed(outcome, sink.into_inner().flush())
 }

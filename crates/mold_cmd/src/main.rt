@@ -4,8 +4,10 @@
 ghost use Rattle.mold_commands.specs.Command.{IsStreamed};
 
 mod captures;
+mod progress;
+mod watched_lines;
 
-use captures::run_captures;
+use captures::{check_captures, list_sessions, show_captures};
 use mold_commands::{
     DumpOptions, check_folder, dump_file, run_command, run_pack_journal, run_upgrade,
 };
@@ -18,11 +20,13 @@ use mold_sockets::{
 };
 use mold_wiring::{ProgramFault, exit_code, flushed, print_fault};
 use mold_words::{DumpOrder, Order, PackJournalOrder, UpgradeOrder, UsageFault, read_words};
+use progress::Progress;
 use std::fs::File;
 use std::io::{ErrorKind, Write};
 use std::process::ExitCode;
 use std::rt::Env;
 use std::{env, io};
+use watched_lines::WatchedLines;
 
 const NOT_UTF8: &str = "error: a word is not UTF-8\n";
 
@@ -90,10 +94,23 @@ fn pack_file(rt: &HostRuntime, order: &PackJournalOrder) -> Result<u8, ProgramFa
     unless_locked(flushed(outcome, sink.into_inner().flush()), journal)
 }
 
+// Checks the lines on standard input, and flushes standard output once.
+fn run_check_lines(rt: &HostRuntime, order: &Order) -> Result<u8, CommandFault>
+    requires { IsStreamed order.now }
+{
+    let mut source = WatchedLines::new(FromRead::new(rt.stdin()), Progress::of_unknown(rt));
+    let mut sink = IntoWrite::new(rt.stdout());
+    let outcome = run_command(rt.alloc(), order, &mut source, &mut sink);
+    source.end();
+    flushed(outcome, sink.into_inner().flush())
+}
+
 // Checks the folder, and flushes standard output once.
 fn run_check(rt: &HostRuntime, folder: &str) -> Result<u8, CommandFault> {
+    let mut progress = Progress::of_unknown(rt);
     let mut sink = IntoWrite::new(rt.stdout());
-    let outcome = check_folder(rt, folder, &mut sink);
+    let outcome = check_folder(rt, folder, &mut progress, &mut sink);
+    progress.end();
     flushed(outcome, sink.into_inner().flush())
 }
 
@@ -145,10 +162,10 @@ fn run(rt: &HostRuntime, order: &Order) -> Result<u8, ProgramFault> {
         Order::PackJournal(order) => pack_file(rt, order),
         Order::Sim(_) => Ok(run_streamed(rt, order)?),
         Order::Check { folder } => Ok(run_check(rt, folder.as_str())?),
-        Order::CheckLines => Ok(run_streamed(rt, order)?),
-        Order::CheckCaptures(_) | Order::ShowCaptures(_) | Order::Sessions(_) => {
-            run_captures(rt, order)
-        }
+        Order::CheckLines => Ok(run_check_lines(rt, order)?),
+        Order::CheckCaptures(order) => Ok(check_captures(rt, order)?),
+        Order::ShowCaptures(order) => Ok(show_captures(rt, order)?),
+        Order::Sessions(order) => Ok(list_sessions(rt, order)?),
         Order::Publish(order) => run_publish(rt, order),
         Order::Feed(order) => run_feed(rt, order),
         Order::Serve(order) => run_serve(rt, order),

@@ -7,6 +7,7 @@ ghost use Rattle.mold_check.specs.Entries.{names_datagram};
 ghost use Rattle.mold_check.specs.declared.entry.Entry.{Entry};
 ghost use Rattle.mold_commands.specs.Folder.{CountsFolder, IsReadAs, PrintsEntries, PrintsReport, read_fault};
 
+use mold_capture_commands::Watch;
 use mold_check::{Entry, check_entries, names_datagram};
 use mold_devices::{CommandFault, Sink};
 use std::alloc::Global;
@@ -46,16 +47,31 @@ fn add_entry<R: Files + AllocGlobal>(
     Ok(())
 }
 
+// Returns the number of bytes of the last entry.
+fn last_length(entries: &[Entry]) -> u64 {
+    match entries.last() {
+        Some(entry) => entry.bytes.len() as u64,
+        None => 0,
+    }
+}
+
 // Reads the entries of the folder, in the order in which the system lists them. It fails if a name is not UTF-8 or a
 // datagram can't be read. A folder with the name of a datagram can't be read. No contract states which entries the
 // system lists.
-fn read_entries<R: Files + AllocGlobal + Clone + Drop>(
+fn read_entries<R: Files + AllocGlobal + Clone + Drop, W: Watch>(
     rt: &R,
     folder: &str,
+    watch: &mut W,
 ) -> io::Result<Vec<Entry>> {
     let mut entries = Vec::new(rt.alloc());
+    let mut bytes: u64 = 0;
+    let mut datagrams: u64 = 0;
     for found in fs::read_dir(rt, folder)? {
-        add_entry(rt, &found?, &mut entries)?;
+        let found = found?;
+        add_entry(rt, &found, &mut entries)?;
+        bytes = bytes.saturating_add(last_length(entries.as_slice()));
+        datagrams = datagrams.saturating_add(u64::from(names_datagram(found.file_name())));
+        watch.watch(bytes, datagrams);
     }
     Ok(entries)
 }
@@ -91,15 +107,17 @@ fn check_read<K: Sink>(
 /// Reads the folder, writes the report of `check_entries` to the sink, and returns the status of that function.
 ///
 /// `Read` is returned if the folder or a datagram in it can't be read, or if the name of any entry is not UTF-8.
-/// Nothing is written then. The contract does not specify which entries the folder has: the system lists them.
-pub fn check_folder<R: Files + AllocGlobal + Clone + Drop, K: Sink>(
+/// Nothing is written then. The contract does not specify which entries the folder has: the system lists them. `watch` is
+/// called after each entry.
+pub fn check_folder<R: Files + AllocGlobal + Clone + Drop, K: Sink, W: Watch>(
     rt: &R,
     folder: &str,
+    watch: &mut W,
     sink: &mut K,
 ) -> Result<u8, CommandFault>
     ensures told { IfOk result (PrintsEntries (K.held sink.old) (K.held sink.new)) }
     ensures unread { IfErr result (λ fault. fault ≡ CommandFault.Read → sink.new ≡ sink.old) }
     ensures failures { CountsFolder (K.failed sink.old) (K.failed sink.new) result }
 {
-    check_read(rt.alloc(), read_entries(rt, folder), sink)
+    check_read(rt.alloc(), read_entries(rt, folder, watch), sink)
 }
