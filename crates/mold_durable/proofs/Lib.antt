@@ -15,3 +15,4 @@ mod ReadingLemmas
 mod RecordLemmas
 mod ScriptedLemmas
 mod StepwiseLemmas
+mod TakenLemmas

@@ -4,10 +4,11 @@ use Rattle.std.proofs.Common.{take, drop, refl, sym, ap, ◌∙◌, arith, lengt
 use Rattle.std.proofs.lemmas.List.{take_at, take-take}
 use Rattle.mold_wire.specs.declared.block.TheConstants.{MAX_MESSAGE}
 use Rattle.mold_session.specs.FileFault.{RecordsFault}
-use Rattle.mold_session.specs.Journal.{AreMessages}
+use Rattle.mold_session.specs.Journal.{AreMessages, JournalState}
 use Rattle.mold_session.specs.Records.{magic_3, head_3, records, SpellsJournal3}
 use Rattle.mold_durable.specs.DurableJournal.{DurableState}
 use Rattle.mold_durable.specs.Group.{closing}
+use Rattle.mold_durable.specs.Opened.{IsOpenedWith, committed_journal}
 use Rattle.mold_durable.specs.Reading.{HasReadAll, HeadFault, IsOfDevice, IsOpened, IsRecordsError, OpenFault, file_error}
 use Rattle.mold_durable.specs.declared.error.OpenError.{OpenError}
 use Rattle.mold_durable.specs.declared.error.OpenError.TheVariants.{Short, BadMagic, Full, TooLong, Damaged, Read, Write}
@@ -108,10 +109,11 @@ records_refused most session before after error named same head (inl device) byt
 records_refused most session before after error named same head (inr fault) bytes now =
     fault_here most session bytes named (head bytes now) error (fault bytes (same bytes now))
 
-module _ {S : Type 0} (shows may_leave : S → List ℕ → Type 0) (before : List ℕ → Type 0) (journal : DurableState S)
+module _ {S : Type 0} (shows may_leave : S → List ℕ → Type 0) (before : List ℕ → Type 0)
+    (Taken : List (List ℕ) → Type 0) (journal : DurableState S)
     (named : length journal.session.0 ≡ 10) (head : (bytes : List ℕ) → before bytes → take 18 bytes ≡ head_3 journal.session.0)
     (small : journal.max_message < 2 ^ 16)
-    (all : HasReadAll before journal.max_message journal.committed journal.end journal.closed) where
+    (all : HasReadAll before Taken journal.max_message journal.committed journal.end journal.closed) where
   listed : AreMessages MAX_MESSAGE all.messages
   listed = record {
     few = all.listed.few;
@@ -154,3 +156,12 @@ module _ {S : Type 0} (shows may_leave : S → List ℕ → Type 0) (before : Li
       listed = listed;
     };
   }
+
+  -- And the taker holds the journal of its messages.
+  pub opened_with : {T : Type 0} (holds : T → JournalState → Type 0) (taker : T) →
+      (Taken all.messages → holds taker (committed_journal journal all.messages)) →
+      ((bytes : List ℕ) → shows journal.storage bytes → before bytes) →
+      ((bytes : List ℕ) → may_leave journal.storage bytes → before bytes) →
+      IsOpenedWith shows may_leave holds (record { journal = journal; taker = taker })
+  unfolding opened
+  opened_with holds taker held shown durable = record { is = opened shown durable; held = held all.taken }

@@ -3,13 +3,14 @@ use Rattle.std.proofs.Common.{◌≡◌, ◌⊎◌, inl, inr, ℕ, ◌+◌, ◌-
 use Rattle.std.proofs.Common.{take, drop, refl, sym, ap, subst, ◌∙◌, append_assoc, append-nil, arith, length-append}
 use Rattle.std.proofs.Common.{length-drop, length-take, take-append-drop, Result, Ok, Err}
 use Rattle.std.proofs.Math.Nat.{eq-or-lt_of_le}
-use Rattle.std.proofs.lemmas.List.{length-take-le, drop-drop, drop-append-le, nil_from_length}
+use Rattle.std.proofs.lemmas.List.{length-take-le, drop-drop, drop-append-le, nil_from_length, take_at}
 use Rattle.std.specs.Prelude.{slice_index}
 use Rattle.byteorder.specs.Endian.{big_number}
 use Rattle.mold_wire.specs.Block.{be16}
 use Rattle.mold_session.specs.Checking.{HasBlock, HasRecord}
 use Rattle.mold_session.specs.FileFault.{IsDamaged, no_gate, no_kind, bad_kind, cut_closing, cut_message}
 use Rattle.mold_session.specs.FileFault.{IsLongRecord, RecordFault, RecordsFault}
+use Rattle.mold_session.specs.Journal.{AreMessages}
 use Rattle.mold_session.specs.Records.{record_of, records, EndsRecords, IsClosing}
 use Rattle.mold_durable.specs.DurableJournal.{CountsOpenError}
 use Rattle.mold_durable.specs.Group.{closing}
@@ -107,9 +108,11 @@ record_next most len rest body starts block = record {
 }
 
 -- No record was read yet.
-pub skipped_none : (most start : ℕ) (bytes : List ℕ) → start < 18446744073709551615 → AreSkipped most start start 0 bytes
-skipped_none most start bytes few = record {
+pub skipped_none : (Taken : List (List ℕ) → Type 0) (most start : ℕ) (bytes : List ℕ) → Taken [] →
+    start < 18446744073709551615 → AreSkipped Taken most start start 0 bytes
+skipped_none Taken most start bytes none few = record {
   messages = [];
+  taken = none;
   each = tt;
   few = few;
   counted = omega arith;
@@ -123,16 +126,34 @@ records_one messages message =
     ap (λ (t : List ℕ). records messages ++ t) (sym (append-nil (record_of message)))
     ∙ sym (records-append messages (message ∷ []))
 
+-- The message of a record follows its first four bytes.
+record_message : (message behind rest : List ℕ) (len : ℕ) → rest ≡ record_of message ++ behind → behind ≡ drop len rest →
+    len ≤ length rest → take (len - 4) (drop 4 rest) ≡ message
+record_message message behind rest len parts is fits =
+    let long : length message ≡ len - 4 =
+    omega (
+      arith,
+      fits,
+      ap (λ (t : List ℕ). length t) parts,
+      length-append (record_of message) behind,
+      ap (λ (t : List ℕ). length t) is,
+      length-drop len rest,
+    )
+    in
+    ap (λ (t : List ℕ). take (len - 4) (drop 4 t)) parts ∙ take_at message behind (len - 4) long
+
 -- One more record was read.
-pub skipped_more : (most start count at len : ℕ) (bytes : List ℕ) → AreSkipped most start count at bytes →
-    count < 18446744073709551614 → len ≤ length (drop at bytes) → HasRecord most (drop at bytes) (drop len (drop at bytes)) →
-    AreSkipped most start (count + 1) (at + len) bytes
-skipped_more most start count at len bytes so_far few fits one =
+pub skipped_more : (Earlier Taken : List (List ℕ) → Type 0) (most start count at len : ℕ) (bytes : List ℕ)
+    (so_far : AreSkipped Earlier most start count at bytes) → count < 18446744073709551614 →
+    len ≤ length (drop at bytes) → (one : HasRecord most (drop at bytes) (drop len (drop at bytes))) →
+    Taken (so_far.messages ++ one.message ∷ []) → AreSkipped Taken most start (count + 1) (at + len) bytes
+skipped_more Earlier Taken most start count at len bytes so_far few fits one taken =
     let old = so_far.messages in
     let new = old ++ one.message ∷ [] in
     let behind = drop (at + len) bytes in
     record {
       messages = new;
+      taken = taken;
       each = each-append most old (one.message ∷ []) so_far.each (one.within, tt);
       few = omega (arith, few);
       counted = omega (arith, so_far.counted, length-append old (one.message ∷ []));
@@ -146,26 +167,33 @@ skipped_more most start count at len bytes so_far few fits one =
           ∙ ap (λ (t : List ℕ). t ++ behind) (records_one old one.message);
     }
 
-pub skipped_next : (most start count at len : ℕ) (bytes rest : List ℕ) → rest ≡ drop at bytes →
-    AreSkipped most start count at bytes → IsNextRecord most count rest (Message len) →
-    AreSkipped most start (count + 1) (at + len) bytes
-skipped_next most start count at len bytes rest is so_far next =
+pub skipped_next : (Earlier Taken : List (List ℕ) → Type 0) (most start count at len : ℕ) (bytes rest : List ℕ) →
+    rest ≡ drop at bytes → AreSkipped Earlier most start count at bytes → IsNextRecord most count rest (Message len) →
+    ((messages : List (List ℕ)) → Earlier messages → Taken (messages ++ take (len - 4) (drop 4 rest) ∷ [])) →
+    AreSkipped Taken most start (count + 1) (at + len) bytes
+skipped_next Earlier Taken most start count at len bytes rest is so_far next step =
     let here = subst (λ (t : List ℕ). IsNextRecord most count t (Message len)) is next in
-    skipped_more most start count at len bytes so_far here.0 here.2 here.3
+    let one = here.3 in
+    let same : take (len - 4) (drop 4 rest) ≡ one.message =
+    ap (λ (t : List ℕ). take (len - 4) (drop 4 t)) is
+    ∙ record_message one.message (drop len (drop at bytes)) (drop at bytes) len one.parts refl here.2
+    in
+    skipped_more Earlier Taken most start count at len bytes so_far here.0 here.2 one
+    (subst (λ (m : List ℕ). Taken (so_far.messages ++ m ∷ [])) same (step so_far.messages so_far.taken))
 
 -- No record follows.
-pub skips : (most start count at : ℕ) (bytes rest : List ℕ) (stop : Result Bool OpenError) → rest ≡ drop at bytes →
-    AreSkipped most start count at bytes → IsStop most count rest stop →
-    SkipsRecords most start bytes (record { count = count; len = at; stop = stop })
-skips most start count at bytes rest stop is so_far ends = record {
+pub skips : (Taken : List (List ℕ) → Type 0) (most start count at : ℕ) (bytes rest : List ℕ)
+    (stop : Result Bool OpenError) → rest ≡ drop at bytes → AreSkipped Taken most start count at bytes →
+    IsStop most count rest stop → SkipsRecords Taken most start bytes (record { count = count; len = at; stop = stop })
+skips Taken most start count at bytes rest stop is so_far ends = record {
   records = so_far;
   stop = subst (λ (t : List ℕ). IsStop most count t stop) is ends;
 }
 
 -- The records have `len` bytes.
-skipped_length : (most start count len : ℕ) (bytes : List ℕ) (skipped : AreSkipped most start count len bytes) →
-    length (records skipped.messages) ≡ len
-skipped_length most start count len bytes skipped =
+skipped_length : (Taken : List (List ℕ) → Type 0) (most start count len : ℕ) (bytes : List ℕ)
+    (skipped : AreSkipped Taken most start count len bytes) → length (records skipped.messages) ≡ len
+skipped_length Taken most start count len bytes skipped =
     omega (
       arith,
       skipped.within,
@@ -266,11 +294,12 @@ piece_of at size count bytes buffer sized counted part =
           (omega (arith, short, sized, counted, length-drop count behind, length-drop at bytes, length-take count buffer));
     }
 
-pub piece_read : (shows : List ℕ → Type 0) (most start at count : ℕ) (buffer : List ℕ) (skipped : Skipped) →
-    count ≤ length buffer → (0 < count → at + count < 2 ^ 63) → SkipsRecords most start (take count buffer) skipped →
+pub piece_read : (shows : List ℕ → Type 0) (Taken : List (List ℕ) → Type 0) (most start at count : ℕ)
+    (buffer : List ℕ) (skipped : Skipped) → count ≤ length buffer → (0 < count → at + count < 2 ^ 63) →
+    SkipsRecords Taken most start (take count buffer) skipped →
     ((bytes : List ℕ) → shows bytes → IsPartAt at bytes count buffer) →
-    ReadsPiece shows most start at (length buffer) skipped
-piece_read shows most start at count buffer skipped fits within found part =
+    ReadsPiece shows Taken most start at (length buffer) skipped
+piece_read shows Taken most start at count buffer skipped fits within found part =
     let size : length (take count buffer) ≡ count = length-take-le count buffer fits in
     record {
       piece = take count buffer;
@@ -281,10 +310,10 @@ piece_read shows most start at count buffer skipped fits within found part =
     }
 
 -- What is shown after some reads was shown before them.
-pub piece_since : (before after : List ℕ → Type 0) (most start at size : ℕ) (skipped : Skipped) →
-    ((bytes : List ℕ) → before bytes → after bytes) → ReadsPiece after most start at size skipped →
-    ReadsPiece before most start at size skipped
-piece_since before after most start at size skipped same next = record {
+pub piece_since : (before after : List ℕ → Type 0) (Taken : List (List ℕ) → Type 0) (most start at size : ℕ)
+    (skipped : Skipped) → ((bytes : List ℕ) → before bytes → after bytes) →
+    ReadsPiece after Taken most start at size skipped → ReadsPiece before Taken most start at size skipped
+piece_since before after Taken most start at size skipped same next = record {
   piece = next.piece;
   few = next.few;
   near = next.near;
@@ -292,11 +321,13 @@ piece_since before after most start at size skipped same next = record {
   part = λ bytes now. next.part bytes (same bytes now);
 }
 
-pub all_since : (before after : List ℕ → Type 0) (most count end : ℕ) (closed : Bool) →
-    ((bytes : List ℕ) → before bytes → after bytes) → HasReadAll after most count end closed →
-    HasReadAll before most count end closed
-all_since before after most count end closed same all = record {
+pub all_since : (before after : List ℕ → Type 0) (Earlier Taken : List (List ℕ) → Type 0) (most count end : ℕ)
+    (closed : Bool) → ((bytes : List ℕ) → before bytes → after bytes) →
+    ((messages : List (List ℕ)) → AreMessages most messages → Earlier messages → Taken messages) →
+    HasReadAll after Earlier most count end closed → HasReadAll before Taken most count end closed
+all_since before after Earlier Taken most count end closed same step all = record {
   messages = all.messages;
+  taken = step all.messages all.listed all.taken;
   listed = all.listed;
   counted = all.counted;
   ends = all.ends;
@@ -304,9 +335,11 @@ all_since before after most count end closed same all = record {
 }
 
 -- Nothing but the head was read.
-pub read_none : (shows : List ℕ → Type 0) (most : ℕ) → HasRead shows most 0 18
-read_none shows most = record {
+pub read_none : (shows : List ℕ → Type 0) (Taken : List (List ℕ) → Type 0) (most : ℕ) → Taken [] →
+    HasRead shows Taken most 0 18
+read_none shows Taken most none = record {
   messages = [];
+  taken = none;
   listed = record { few = omega arith; each = tt };
   counted = refl;
   ends = refl;
@@ -319,8 +352,8 @@ rest_here : (at size : ℕ) (bytes piece : List ℕ) (len : ℕ) (part : IsPiece
 rest_here at size bytes piece len part within =
     sym (drop-drop len at bytes) ∙ ap (drop len) part.parts ∙ drop-append-le len piece part.more within
 
-module _ (shows : List ℕ → Type 0) (most count at size : ℕ) (skipped : Skipped)
-    (so_far : HasRead shows most count at) (next : ReadsPiece shows most count at size skipped) where
+module _ (shows : List ℕ → Type 0) (Earlier Piece : List (List ℕ) → Type 0) (most count at size : ℕ) (skipped : Skipped)
+    (so_far : HasRead shows Earlier most count at) (next : ReadsPiece shows Piece most count at size skipped) where
   abbrev old : List (List ℕ)
   old = so_far.messages
 
@@ -343,39 +376,53 @@ module _ (shows : List ℕ → Type 0) (most count at size : ℕ) (skipped : Ski
       ∙ sym (append_assoc (records old) (records more) (drop (at + skipped.len) bytes))
       ∙ ap (λ (t : List ℕ). t ++ drop (at + skipped.len) bytes) (sym (records-append old more))
 
-  -- The records of one more piece were read.
-  pub read_more : HasRead shows most skipped.count (at + skipped.len)
-  read_more =
+  listed_more : AreMessages most new
+  listed_more =
       let more = next.found.records in
       record {
-        messages = new;
-        listed = record {
-          few = omega (arith, more.few, more.counted, so_far.counted, length-append old more.messages);
-          each = each-append most old more.messages so_far.listed.each more.each;
-        };
-        counted = omega (arith, more.counted, so_far.counted, length-append old more.messages);
-        ends = omega (
-          arith,
-          so_far.ends,
-          skipped_length most count skipped.count skipped.len next.piece more,
-          ap (λ (t : List ℕ). length t) (records-append old more.messages),
-          length-append (records old) (records more.messages),
-        );
-        parts = parts_more;
+        few = omega (arith, more.few, more.counted, so_far.counted, length-append old more.messages);
+        each = each-append most old more.messages so_far.listed.each more.each;
       }
 
+  counted_more : skipped.count ≡ length new
+  counted_more =
+      let more = next.found.records in
+      omega (arith, more.counted, so_far.counted, length-append old more.messages)
+
+  end_more : at + skipped.len ≡ 18 + length (records new)
+  end_more =
+      let more = next.found.records in
+      omega (
+        arith,
+        so_far.ends,
+        skipped_length Piece most count skipped.count skipped.len next.piece more,
+        ap (λ (t : List ℕ). length t) (records-append old more.messages),
+        length-append (records old) (records more.messages),
+      )
+
+  -- The records of one more piece were read.
+  pub read_more : (Taken : List (List ℕ) → Type 0) → Taken new → HasRead shows Taken most skipped.count (at + skipped.len)
+  read_more Taken taken = record {
+    messages = new;
+    taken = taken;
+    listed = listed_more;
+    counted = counted_more;
+    ends = end_more;
+    parts = parts_more;
+  }
+
   -- And then what ends them.
-  pub read_all : (closed : Bool) (end : ℕ) → skipped.stop ≡ Ok closed → end ≡ at + skipped.len + length (closing closed) →
-      HasReadAll shows most skipped.count end closed
-  unfolding read_more
-  read_all closed end is ends =
+  pub read_all : (Taken : List (List ℕ) → Type 0) → Taken new → (closed : Bool) (end : ℕ) → skipped.stop ≡ Ok closed →
+      end ≡ at + skipped.len + length (closing closed) → HasReadAll shows Taken most skipped.count end closed
+  read_all Taken taken closed end is ends =
       let more = next.found.records in
       let stop : EndsRecords closed (drop skipped.len next.piece) = rw is at next.found.stop in
       record {
         messages = new;
-        listed = read_more.listed;
-        counted = read_more.counted;
-        ends = omega (arith, ends, read_more.ends, length-append (records new) (closing closed));
+        taken = taken;
+        listed = listed_more;
+        counted = counted_more;
+        ends = omega (arith, ends, end_more, length-append (records new) (closing closed));
         parts = λ bytes now. record {
           rest = drop (at + skipped.len) bytes;
           parts = parts_more bytes now;
@@ -400,7 +447,6 @@ module _ (shows : List ℕ → Type 0) (most count at size : ℕ) (skipped : Ski
   -- A fault at the start of a piece is a fault of the file.
   pub read_fault : (error : OpenError) → most ≤ 65535 → 65539 ≤ size → skipped.len ≡ 0 → skipped.stop ≡ Err error →
       (bytes : List ℕ) → shows bytes → RecordsFault most (drop 18 bytes) (file_error error)
-  unfolding read_more
   read_fault error bound large none is bytes now =
       let more = next.found.records in
       let part = next.part bytes now in
@@ -417,9 +463,9 @@ module _ (shows : List ℕ → Type 0) (most count at size : ℕ) (skipped : Ski
         messages = new;
         before = record {
           rest = drop (at + skipped.len) bytes;
-          front = record { listed = read_more.listed; parts = parts_more bytes now };
+          front = record { listed = listed_more; parts = parts_more bytes now };
           fault = subst (λ (n : ℕ). RecordFault most n (drop (at + skipped.len) bytes) (file_error error))
-              read_more.counted
+              counted_more
               (subst (λ (t : List ℕ). RecordFault most skipped.count t (file_error error))
               (sym (rest_here at size bytes next.piece skipped.len part more.within))
               (fault_more most skipped.count here part.more error bound enough fault));

@@ -8,6 +8,8 @@ pub mod GrowingFile
 pub mod Head
 pub mod Life
 pub mod Memory
+pub mod MessageTaker
+pub mod Opened
 pub mod Reading
 pub mod ScriptedFile
 pub mod Stepwise

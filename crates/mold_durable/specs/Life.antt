@@ -1,6 +1,7 @@
 -- What may happen to a durable journal, and which of its messages outlive a crash.
 use Rattle.std.specs.Prelude.{◌≡◌, ◌⊎◌, ℕ, ◌+◌, ◌<◌, Bool, true, false, List, [], ◌∷◌, ◌++◌, length}
 use Rattle.mold_wire.specs.declared.session.Session.{Session}
+use Rattle.mold_session.specs.Journal.{JournalState}
 use Rattle.mold_session.specs.Records.{SpellsJournal3}
 use Rattle.mold_session.specs.declared.journal.TheConstants.{MAX_MESSAGES}
 use Rattle.mold_durable.specs.DurableJournal.{DurableState, IsSettled}
@@ -43,6 +44,15 @@ MayHappen life (Append message) =
 MayHappen life Commit = Unit {0}
 MayHappen life Close = Unit {0}
 MayHappen life Crash = Unit {0}
+
+-- The journal in memory that has the committed messages. Each of them has at most `max_message` bytes.
+abbrev pub journal_of : ℕ → Life → JournalState
+journal_of max_message life = record {
+  session = life.session;
+  max_message = max_message;
+  messages = life.committed;
+  closed = life.closed;
+}
 
 -- The bytes are a file of the committed messages.
 abbrev pub IsFileOf : Life → List ℕ → Type 0

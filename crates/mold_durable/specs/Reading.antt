@@ -74,9 +74,11 @@ IsNextRecord most count rest (Message len) =
     (count < MAX_MESSAGES) × (0 < len) × (len ≤ length rest) × HasRecord most rest (drop len rest)
 IsNextRecord most count rest (End closed) = EndsRecords closed rest
 
--- The first `len` bytes are the records of some messages, after which there are `count` instead of `start`.
-pub record AreSkipped (most start count len : ℕ) (bytes : List ℕ) : Type 0 where
+-- The first `len` bytes are the records of some messages, after which there are `count` instead of `start`. `Taken`
+-- holds of the messages.
+pub record AreSkipped (Taken : List (List ℕ) → Type 0) (most start count len : ℕ) (bytes : List ℕ) : Type 0 where
   pub messages : List (List ℕ)
+  pub taken : Taken messages
   pub each : AllByRecursion (IsWithin most) messages
   pub few : count < MAX_NUMBER
   pub counted : count ≡ start + length messages
@@ -89,8 +91,9 @@ IsStop most count rest (Ok closed) = EndsRecords closed rest
 IsStop most count rest (Err error) = RecordFault most count rest (file_error error)
 
 -- The bytes begin with whole records, and this is what follows them.
-pub record SkipsRecords (most start : ℕ) (bytes : List ℕ) (skipped : Skipped) : Type 0 where
-  pub records : AreSkipped most start skipped.count skipped.len bytes
+pub record SkipsRecords (Taken : List (List ℕ) → Type 0) (most start : ℕ) (bytes : List ℕ) (skipped : Skipped) :
+    Type 0 where
+  pub records : AreSkipped Taken most start skipped.count skipped.len bytes
   pub stop : IsStop most skipped.count (drop skipped.len bytes) skipped.stop
 
 -- The piece is the bytes from offset `at` on, up to `size` of them.
@@ -100,25 +103,29 @@ pub record IsPieceOf (at size : ℕ) (bytes piece : List ℕ) : Type 0 where
   pub last : length piece < size → more ≡ []
 
 -- A piece was read from offset `at` on.
-pub record ReadsPiece (shows : List ℕ → Type 0) (most start at size : ℕ) (skipped : Skipped) : Type 0 where
+pub record ReadsPiece (shows : List ℕ → Type 0) (Taken : List (List ℕ) → Type 0) (most start at size : ℕ)
+    (skipped : Skipped) : Type 0 where
   pub piece : List ℕ
   pub few : length piece ≤ size
   pub near : 0 < length piece → at + length piece < 2 ^ 63
-  pub found : SkipsRecords most start piece skipped
+  pub found : SkipsRecords Taken most start piece skipped
   pub part : (bytes : List ℕ) → shows bytes → IsPieceOf at size bytes piece
 
--- The records of `count` messages were read, and they end at offset `at`.
-pub record HasRead (shows : List ℕ → Type 0) (most count at : ℕ) : Type 0 where
+-- The records of `count` messages were read, and they end at offset `at`. `Taken` holds of the messages.
+pub record HasRead (shows : List ℕ → Type 0) (Taken : List (List ℕ) → Type 0) (most count at : ℕ) : Type 0 where
   pub messages : List (List ℕ)
+  pub taken : Taken messages
   pub listed : AreMessages most messages
   pub counted : count ≡ length messages
   pub ends : at ≡ 18 + length (records messages)
   pub parts : (bytes : List ℕ) → shows bytes → drop 18 bytes ≡ records messages ++ drop at bytes
 
 -- The records of `count` messages were read, and then what ends them. `end` is the offset of the shut gate, or of the
--- last byte of the closing record.
-pub record HasReadAll (shows : List ℕ → Type 0) (most count end : ℕ) (closed : Bool) : Type 0 where
+-- last byte of the closing record. `Taken` holds of the messages.
+pub record HasReadAll (shows : List ℕ → Type 0) (Taken : List (List ℕ) → Type 0) (most count end : ℕ)
+    (closed : Bool) : Type 0 where
   pub messages : List (List ℕ)
+  pub taken : Taken messages
   pub listed : AreMessages most messages
   pub counted : count ≡ length messages
   pub ends : end ≡ 18 + length (records messages ++ closing closed)

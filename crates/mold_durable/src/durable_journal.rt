@@ -9,8 +9,9 @@ ghost use Rattle.mold_session.specs.declared.error.AppendError.{AppendError};
 ghost use Rattle.mold_durable.specs.DurableJournal.{CountsCommit, CountsOpened, IsBeforeOrAfter, IsEmpty};
 ghost use Rattle.mold_durable.specs.DurableJournal.{IsSettled, storage_of, waiting_refusal};
 ghost use Rattle.mold_durable.specs.Head.{IsNoneOrEmpty};
-ghost use Rattle.mold_durable.specs.Life.{IsFileAround, IsFileOf, Life, Lives, MayHappen, after, born};
+ghost use Rattle.mold_durable.specs.Life.{IsFileAround, IsFileOf, Life, Lives, MayHappen, after, born, journal_of};
 ghost use Rattle.mold_durable.specs.Life.Moment.{Append, Close, Commit, Crash};
+ghost use Rattle.mold_durable.specs.Opened.{IsOpenedWith, without_taker};
 ghost use Rattle.mold_durable.specs.Reading.{IsOfDevice, IsOpened, OpenFault};
 ghost use Rattle.mold_durable.specs.Storage.{AreSame, LeavesOnly};
 ghost use Rattle.mold_durable.specs.declared.error.CommitError.{CommitError};
@@ -22,7 +23,9 @@ use crate::gate::put_after_gate;
 use crate::group::Group;
 use crate::head::{HEAD_LENGTH, write_head};
 use crate::laws::one_session_law;
-use crate::recovery::recover;
+use crate::message_taker::{MessageTaker, SkipMessages};
+use crate::opened::Opened;
+use crate::recovery::{Recovered, recover};
 use crate::storage::Storage;
 use mold_session::{AppendError, MAX_MESSAGES};
 use mold_wire::Session;
@@ -128,7 +131,6 @@ impl<S: Storage> DurableJournal<S> {
     /// The journal has exactly the messages of the file. A crash at any moment of the call leaves only what a crash
     /// before it could leave. Once the journal is open, every crash leaves the messages that were found. `Memory` is
     /// returned only if an allocation failed.
-    // The sync is necessary: if the process that wrote the records died before its sync, a crash could still lose them.
     pub fn open(
         alloc: Global,
         max_message: u16,
@@ -155,6 +157,49 @@ impl<S: Storage> DurableJournal<S> {
             OpenFault max_message bytes fault.error) }
         ensures cause { CountsOpened S.failed storage result }
     {
+        match DurableJournal::open_with::<SkipMessages>(alloc, max_message, storage) {
+            Ok(opened) => {
+                let Opened { journal, taker: _ } = opened;
+                Ok(journal)
+            }
+            Err(fault) => Err(fault),
+        }
+    }
+
+    /// Opens the journal that a storage has, as `open` does, and passes each message to a taker `T` while it reads the
+    /// records. So the storage is read once. The taker then holds exactly the messages of the journal.
+    ///
+    /// `Memory` is also returned if the taker fails. After an error the taker is dropped.
+    // The sync is necessary: if the process that wrote the records died before its sync, a crash could still lose them.
+    pub fn open_with<T: MessageTaker>(
+        alloc: Global,
+        max_message: u16,
+        storage: S,
+    ) -> Result<Opened<S, T>, NotOpened<S>>
+        ensures settled { IfOk result (IsOpenedWith S.shows S.may_leave T.holds) }
+        ensures any_moment { LeavesOnly S.moment S.left_since storage (storage_of (without_taker result))
+            (S.may_leave storage) }
+        ensures shown { AreSame (S.shows storage) (S.shows (storage_of (without_taker result))) }
+        ensures fresh { IfOk result (λ opened. opened.journal ≡ record {
+          storage = opened.journal.storage;
+          session = opened.journal.session;
+          max_message = max_message;
+          committed = opened.journal.committed;
+          end = opened.journal.end;
+          closed = opened.journal.closed;
+          waiting = [];
+          broken = false;
+        }) }
+        ensures found { (life : Life) (bytes : List ℕ) → S.shows storage bytes → IsFileOf life bytes →
+            IfOk result (λ opened. Lives S.shows S.may_leave opened.journal (after life Crash)) }
+        ensures taken { (life : Life) (bytes : List ℕ) → S.shows storage bytes → IsFileOf life bytes →
+            IfOk result (λ opened. T.holds opened.taker (journal_of max_message life)) }
+        ensures accepted { (life : Life) (bytes : List ℕ) → S.shows storage bytes → IsFileOf life bytes →
+            AllByRecursion (IsWithin max_message) life.committed → IfErr result (λ fault. IsOfDevice fault.error) }
+        ensures refused { IfErr result (λ fault. (bytes : List ℕ) → S.shows storage bytes →
+            OpenFault max_message bytes fault.error) }
+        ensures cause { CountsOpened S.failed storage (without_taker result) }
+    {
         one_session_law();
         let mut storage = storage;
         let Ok(group) = Group::new(alloc) else {
@@ -163,17 +208,25 @@ impl<S: Storage> DurableJournal<S> {
                 storage,
             });
         };
-        match recover(alloc, &mut storage, max_message) {
-            Ok(found) => Ok(DurableJournal {
-                storage,
-                session: found.session,
-                max_message,
-                committed: found.records.count,
-                end: found.records.end,
-                closed: found.records.closed,
-                group,
-                broken: false,
-            }),
+        match recover::<S, T>(alloc, &mut storage, max_message) {
+            Ok(found) => {
+                let Recovered {
+                    session,
+                    records,
+                    taker,
+                } = found;
+                let journal = DurableJournal {
+                    storage,
+                    session,
+                    max_message,
+                    committed: records.count,
+                    end: records.end,
+                    closed: records.closed,
+                    group,
+                    broken: false,
+                };
+                Ok(Opened { journal, taker })
+            }
             Err(error) => Err(NotOpened { error, storage }),
         }
     }

@@ -1,18 +1,21 @@
 //! Reads the records of bytes in memory.
 
-ghost use Rattle.std.specs.Prelude.{◌<◌, ◌≤◌, ◌∷◌, length, drop, IfOk, IfErr, OnOk};
+ghost use Rattle.std.specs.Prelude.{◌<◌, ◌≤◌, ◌∷◌, false, length, drop, IfOk, IfErr, OnOk};
 ghost use Rattle.mold_wire.specs.declared.limits.TheConstants.{MAX_NUMBER};
 ghost use Rattle.mold_session.specs.Checking.{HasBlock};
 ghost use Rattle.mold_session.specs.FileFault.{RecordFault};
 ghost use Rattle.mold_session.specs.declared.journal.TheConstants.{MAX_MESSAGES};
+ghost use Rattle.mold_durable.specs.MessageTaker.{HasTaken};
 ghost use Rattle.mold_durable.specs.Reading.{IsNextRecord, SkipsRecords, file_error};
 
 use crate::error::OpenError;
 use crate::gate::OPEN_GATE;
-use crate::group::{CLOSING, MESSAGE};
+use crate::group::{CLOSING, MESSAGE, RECORD_HEAD};
+use crate::message_taker::MessageTaker;
 use byteorder::{BigEndian, ByteOrder};
 use mold_session::MAX_MESSAGES;
 use mold_wire::LENGTH_BYTES;
+use std::alloc::AllocError;
 
 /// A message's record, or the end of the records.
 #[derive(Clone, Copy)]
@@ -92,30 +95,40 @@ pub fn next_record(most: u16, count: u64, rest: &[u8]) -> Result<NextRecord, Ope
     Ok(NextRecord::End { closed: true })
 }
 
-/// Reads the whole records at the start of the bytes, and what follows them. `start` messages precede them.
-pub fn skip_records(most: u16, start: u64, bytes: &[u8]) -> Skipped
+/// Reads the whole records at the start of the bytes, and what follows them. Passes their messages to the taker. `start`
+/// messages precede them. It fails only if the taker does.
+pub fn skip_records<T: MessageTaker>(
+    most: u16,
+    start: u64,
+    bytes: &[u8],
+    taker: &mut T,
+) -> Result<Skipped, AllocError>
     requires { start < MAX_NUMBER }
-    ensures { SkipsRecords most start bytes.now result }
+    ensures { IfOk result
+        (SkipsRecords (HasTaken T.holds false taker.old taker.new) most start bytes.now) }
 {
     let mut count = start;
     let mut at = 0;
     'records: loop {
         let (_, rest) = bytes.split_at(at);
         match next_record(most, count, rest) {
-            Ok(NextRecord::Message { len }) => at += len,
+            Ok(NextRecord::Message { len }) => {
+                taker.take(&rest[RECORD_HEAD..len])?;
+                at += len;
+            }
             Ok(NextRecord::End { closed }) => {
-                return Skipped {
+                return Ok(Skipped {
                     count,
                     len: at,
                     stop: Ok(closed),
-                };
+                });
             }
             Err(error) => {
-                return Skipped {
+                return Ok(Skipped {
                     count,
                     len: at,
                     stop: Err(error),
-                };
+                });
             }
         }
         count += 1;

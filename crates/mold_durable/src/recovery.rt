@@ -1,18 +1,19 @@
 //! Reads a journal's storage when the journal is opened. It writes nothing.
 
-ghost use Rattle.std.specs.Prelude.{◌≡◌, ◌⊎◌, ◌+◌, ◌<◌, ◌≤◌, ◌^◌, ℕ, List, length, take, IfOk, IfErr};
+ghost use Rattle.std.specs.Prelude.{◌≡◌, ◌⊎◌, ◌+◌, ◌<◌, ◌≤◌, ◌^◌, false, ℕ, List, length, take, IfOk, IfErr};
 ghost use Rattle.mold_wire.specs.declared.limits.TheConstants.{MAX_NUMBER};
-ghost use Rattle.mold_devices.specs.Devices.{Counts};
+ghost use Rattle.mold_session.specs.Journal.{fresh_journal};
 ghost use Rattle.mold_session.specs.Records.{head_3};
-ghost use Rattle.mold_durable.specs.Reading.{CountsOpen, HasReadAll, HeadFault, IsRecordsError, OpenFault};
+ghost use Rattle.mold_durable.specs.MessageTaker.{HasTaken, continued};
+ghost use Rattle.mold_durable.specs.Reading.{CountsOpen, HasReadAll, HeadFault, IsOfDevice, IsRecordsError, OpenFault};
 ghost use Rattle.mold_durable.specs.Reading.{ReadsPiece};
 ghost use Rattle.mold_durable.specs.Storage.{IsWithin, OnlyReads};
 
 use crate::error::OpenError;
 use crate::head::{HEAD_LENGTH, split_head};
+use crate::message_taker::MessageTaker;
 use crate::records::{Skipped, skip_records};
 use crate::storage::Storage;
-use mold_devices::DeviceFault;
 use mold_wire::Session;
 use std::alloc::Global;
 
@@ -20,12 +21,14 @@ use std::alloc::Global;
 const PIECE: usize = 1 << 17;
 
 /// What the storage of a journal has.
-#[derive(Clone, Copy)]
-pub struct Recovered {
+#[derive(Drop)]
+pub struct Recovered<T> {
     /// The session that the messages belong to.
     pub session: Session,
     /// Its records.
     pub records: Records,
+    /// The taker of the messages.
+    pub taker: T,
 }
 
 /// The records of a journal.
@@ -56,51 +59,63 @@ fn read_head<S: Storage>(storage: &mut S) -> Result<Session, OpenError>
     }
 }
 
-// Reads a piece from offset `at` on, and the whole records in it. `start` messages precede them.
-fn read_piece<S: Storage>(
+// Reads a piece after the records that were read, and passes the messages of the whole records in it to the taker.
+fn read_piece<S: Storage, T: MessageTaker>(
     storage: &mut S,
     buffer: &mut [u8],
     most: u16,
-    at: u64,
-    start: u64,
-) -> Result<Skipped, DeviceFault>
-    requires { start < MAX_NUMBER }
+    read: Records,
+    taker: &mut T,
+) -> Result<Skipped, OpenError>
+    requires { read.count < MAX_NUMBER }
     ensures read { OnlyReads S.shows S.may_leave S.moment S.left_since storage.old storage.new }
-    ensures found { IfOk result (ReadsPiece (S.shows storage.old) most start at (length buffer.new)) }
-    ensures failures { Counts (S.failed storage.old) (S.failed storage.new) result }
+    ensures found { IfOk result (ReadsPiece (S.shows storage.old) (HasTaken T.holds false taker.old taker.new) most
+        read.count read.end (length buffer.new)) }
+    ensures refused { IfErr result IsOfDevice }
+    ensures failures { CountsOpen (S.failed storage.old) (S.failed storage.new) result }
 {
-    match storage.read_at(at, buffer) {
-        Ok(count) => Ok(skip_records(most, start, &buffer[..count])),
-        Err(fault) => Err(fault),
+    match storage.read_at(read.end, buffer) {
+        Ok(count) => match skip_records(most, read.count, &buffer[..count], taker) {
+            Ok(skipped) => Ok(skipped),
+            Err(_) => Err(OpenError::Memory),
+        },
+        Err(_) => Err(OpenError::Read),
     }
 }
 
-// Reads all records. An invalid record is refused only at the start of a piece. There, it is not merely cut off by the
-// end of the piece.
-fn read_records<S: Storage>(
+// Reads all records, and passes the messages and the end of a closed session to the taker. An invalid record is refused
+// only at the start of a piece. There, it is not merely cut off by the end of the piece.
+fn read_records<S: Storage, T: MessageTaker>(
     storage: &mut S,
     buffer: &mut [u8],
     most: u16,
+    taker: &mut T,
 ) -> Result<Records, OpenError>
     requires { 65539 ≤ length buffer.old }
     ensures read { OnlyReads S.shows S.may_leave S.moment S.left_since storage.old storage.new }
     ensures near { IfOk result (λ found. found.end < 2 ^ 63) }
-    ensures found { IfOk result (λ found.
-        HasReadAll (S.shows storage.old) most found.count found.end found.closed) }
+    ensures found { IfOk result (λ found. HasReadAll (S.shows storage.old)
+        (HasTaken T.holds found.closed taker.old taker.new) most found.count found.end found.closed) }
     ensures refused { IfErr result (IsRecordsError most (S.shows storage.old)) }
     ensures failures { CountsOpen (S.failed storage.old) (S.failed storage.new) result }
 {
     let mut count = 0;
     let mut end = HEAD_LENGTH as u64;
     'pieces: loop {
-        let skipped = match read_piece(storage, buffer, most, end, count) {
+        let read = Records {
+            count,
+            end,
+            closed: false,
+        };
+        let skipped = match read_piece(storage, buffer, most, read, taker) {
             Ok(skipped) => skipped,
-            Err(_) => return Err(OpenError::Read),
+            Err(error) => return Err(error),
         };
         count = skipped.count;
         end += skipped.len as u64;
         match skipped.stop {
             Ok(true) => {
+                taker.close();
                 return Ok(Records {
                     count,
                     end: end + 2,
@@ -123,21 +138,24 @@ fn read_records<S: Storage>(
     }
 }
 
-/// Reads the storage of a journal whose messages have at most `most` bytes, and then syncs it. So a crash leaves all
-/// messages that were read, also if the process that wrote them died before its sync.
-pub fn recover<S: Storage>(
+/// Reads the storage of a journal whose messages have at most `most` bytes, passes the messages to a taker, and then
+/// syncs the storage. So a crash leaves all messages that were read, also if the process that wrote them died before its
+/// sync.
+pub fn recover<S: Storage, T: MessageTaker>(
     alloc: Global,
     storage: &mut S,
     most: u16,
-) -> Result<Recovered, OpenError>
+) -> Result<Recovered<T>, OpenError>
     ensures read { OnlyReads S.shows S.may_leave S.moment S.left_since storage.old storage.new }
     ensures durable { IfOk result (λ _. IsWithin (S.shows storage.old) (S.may_leave storage.new)) }
     ensures named { IfOk result (λ found. length found.session.0 ≡ 10) }
     ensures head { IfOk result (λ found. (bytes : List ℕ) → S.shows storage.old bytes →
         take 18 bytes ≡ head_3 found.session.0) }
     ensures near { IfOk result (λ found. found.records.end < 2 ^ 63) }
-    ensures found { IfOk result (λ found. HasReadAll (S.shows storage.old) most
-        found.records.count found.records.end found.records.closed) }
+    ensures found { IfOk result (λ found. HasReadAll (S.shows storage.old)
+        (λ messages. T.holds found.taker
+        (continued (fresh_journal found.session most) messages found.records.closed))
+        most found.records.count found.records.end found.records.closed) }
     ensures refused { IfErr result (λ error. (bytes : List ℕ) → S.shows storage.old bytes →
         OpenFault most bytes error) }
     ensures failures { CountsOpen (S.failed storage.old) (S.failed storage.new) result }
@@ -146,15 +164,22 @@ pub fn recover<S: Storage>(
         Ok(session) => session,
         Err(error) => return Err(error),
     };
+    let Ok(mut taker) = T::begin(alloc, session, most) else {
+        return Err(OpenError::Memory);
+    };
     let Ok(mut buffer) = vec![in alloc; 0; PIECE] else {
         return Err(OpenError::Memory);
     };
-    let records = match read_records(storage, &mut buffer, most) {
+    let records = match read_records(storage, &mut buffer, most, &mut taker) {
         Ok(records) => records,
         Err(error) => return Err(error),
     };
     match storage.sync() {
-        Ok(()) => Ok(Recovered { session, records }),
+        Ok(()) => Ok(Recovered {
+            session,
+            records,
+            taker,
+        }),
         Err(_) => Err(OpenError::Write),
     }
 }

@@ -1,3 +1,6 @@
+use Rattle.std.proofs.Common.{refl}
+use Rattle.mold_session.specs.Journal.{fresh_journal}
+use Rattle.mold_durable.specs.MessageTaker.{HasTaken, continued}
 use Rattle.mold_durable.proofs.MomentLemmas.{reads_joined, reads_more}
 use Rattle.mold_durable.proofs.OpenLemmas.{records_refused}
 use Rattle.mold_durable.proofs.ReadingLemmas.{all_since}
@@ -29,12 +32,18 @@ returns-in-Ok-sync-clause-durable g c = λ bytes left.
 
 pub returns-in-Ok-sync-clause-found : goal.returns-in-Ok-sync-clause-found
 returns-in-Ok-sync-clause-found g c =
-    all_since (g.S.Storage.shows c.args.storage.now) (g.S.Storage.shows c.read_head.new.storage) c.args.most
-    c.in-Ok-read_records.records.count c.in-Ok-read_records.records.end c.in-Ok-read_records.records.closed
-    c.read_head.ensures.read.shown.1 c.in-Ok-read_records.ensures.found
+    let holds = g.T.MessageTaker.holds in
+    let taker = c.read_records.new.taker in
+    let records = c.in-Ok-read_records.records in
+    let fresh = fresh_journal c.in-Ok.session c.args.most in
+    all_since (g.S.Storage.shows c.args.storage.now) (g.S.Storage.shows c.read_head.new.storage)
+    (HasTaken holds records.closed c.in-Ok-begin.taker taker)
+    (λ messages. holds taker (continued fresh messages records.closed)) c.args.most records.count records.end
+    records.closed c.read_head.ensures.read.shown.1
+    (λ messages listed taken. taken fresh c.in-Ok-begin.ensures refl listed) c.in-Ok-read_records.ensures.found
 
-pub returns-clause-read : goal.returns-clause-read
-returns-clause-read g c =
+pub returns-in-Err-sync-clause-read : goal.returns-in-Err-sync-clause-read
+returns-in-Err-sync-clause-read g c =
     let so_far = reads_joined g.S.Storage.shows g.S.Storage.may_leave g.S.Storage.moment g.S.Storage.left_since
     c.args.storage.now c.read_head.new.storage c.read_records.new.storage c.read_head.ensures.read
     c.read_records.ensures.read in

@@ -1,4 +1,4 @@
-use Rattle.std.proofs.Common.{◌≡◌, ◌++◌, ◌∷◌, [], ◌∙◌, ℕ, List, ap, length, refl, subst, sym}
+use Rattle.std.proofs.Common.{◌≡◌, ◌++◌, ◌∷◌, [], ◌∙◌, ℕ, List, ap, length, refl, subst}
 use Rattle.mold_durable.specs.Memory.{LeftSince, MayLeave, MemoryState, torn_over}
 use Rattle.mold_durable.specs.Storage.{Elapses, Follows, MayTear}
 use Rattle.mold_durable.specs.declared.memory_call.MemoryCall.{MemoryCall}
