@@ -1,7 +1,6 @@
 mod AppendLemmas
 mod IndexLemmas
 mod LendingLemmas
-mod OpenLemmas
 mod PublishingLemmas
 pub mod ServingLemmas
 mod ToldLemmas

@@ -5,8 +5,6 @@ use Rattle.mold_wire.specs.declared.packet.Packet.{Packet}
 use Rattle.mold_session.specs.Journal.{IsJournal, JournalState, append_refusal}
 use Rattle.mold_session.specs.Publisher.{after_datagram, next_datagram}
 use Rattle.mold_session.specs.declared.error.AppendError.TheVariants.{Memory}
-use Rattle.mold_session.specs.declared.error.FileError.{FileError}
-use Rattle.mold_session.specs.declared.error.FileError.TheVariants as file
 use Rattle.mold_durable.specs.DurableJournal.{DurableState, waiting_refusal}
 use Rattle.mold_durable.specs.Life.{Life, Lives}
 use Rattle.mold_durable.specs.Reading.{IsOfDevice as IsOfStorage}
@@ -128,15 +126,8 @@ pub record WasServed {S : Type 0} (shows may_leave : S → List ℕ → Type 0) 
   pub reads : OnlyReads shows may_leave moment left_since old.durable.storage new.durable.storage
   pub lives : (life : Life) → Publishes shows may_leave old life → Publishes shows may_leave new life
 
--- The error of `StoredJournal::load` is a failed read or a failed allocation, so it does not depend on the bytes.
-abbrev pub IsOfSource : FileError → Type 0
-IsOfSource file.Read = ⊤
-IsOfSource file.Memory = ⊤
-IsOfSource error = ⊥
-
--- The error is a failed call of the storage or the source, or a failed allocation. So it does not depend on the bytes.
+-- The error is a failed call of the storage or a failed allocation. So it does not depend on the bytes.
 abbrev pub IsOfDevice : StartError → Type 0
 IsOfDevice (start.Open error) = IsOfStorage error
-IsOfDevice (start.Load error) = IsOfSource error
 IsOfDevice start.Memory = ⊤
 IsOfDevice error = ⊥

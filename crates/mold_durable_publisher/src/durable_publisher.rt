@@ -1,7 +1,7 @@
 //! The durable publisher: a publisher and the durable journal of its session.
 
 ghost use Rattle.std.specs.Prelude.{◌≡◌, ◌≢◌, ◌↔◌, ◌⊎◌, ◌+◌, ◌-◌, ◌≤◌, ◌++◌, ◌∷◌, [], true, false, ℕ, List, length};
-ghost use Rattle.std.specs.Prelude.{Err, None, Some, IfOk, IfErr, IfSome, IfNone, IsOk, IsTrue, OnOk, OnErr};
+ghost use Rattle.std.specs.Prelude.{Err, None, IfOk, IfErr, IfSome, IfNone, IsOk, IsTrue, OnOk, OnErr};
 ghost use Rattle.std.specs.List.{AllByRecursion};
 ghost use Rattle.std.specs.Option.{option_copied};
 ghost use Rattle.mold_wire.specs.Packer.{IsLimit};
@@ -19,7 +19,6 @@ ghost use Rattle.mold_durable.specs.Life.Moment.{Append, Close, Commit, Crash};
 ghost use Rattle.mold_durable.specs.Storage.{IsWithin, LeavesOnly};
 ghost use Rattle.mold_durable.specs.declared.error.CommitError.{CommitError};
 ghost use Rattle.mold_index.specs.Index.{Indexes};
-ghost use Rattle.mold_index.specs.declared.index.TheConstants.{MAX_END};
 ghost use Rattle.mold_indexed_file.specs.Stored.{IsOfJournal};
 ghost use Rattle.mold_durable_publisher.specs.DurablePublisher.{Agrees, HasSameMessages, IsAppendFault, IsOfDevice};
 ghost use Rattle.mold_durable_publisher.specs.DurablePublisher.{IsStoreFault, Publishes, ShowsJournal, WasServed};
@@ -31,10 +30,9 @@ ghost use Rattle.mold_durable_publisher.specs.declared.error.ResumeError.{Resume
 ghost use Rattle.mold_durable_publisher.specs.declared.error.StartError.{StartError};
 
 use crate::error::{CloseError, ResumeError, StartError};
-use mold_durable::{CommitError, DurableJournal, Storage, WaitingError};
+use mold_durable::{CommitError, DurableJournal, Opened, Storage, WaitingError};
 use mold_indexed_file::StorageIndex;
-use mold_session::laws::one_file_law;
-use mold_session::{AppendError, FileError, Plan, PublisherError, ServedJournal, Source, Unsent};
+use mold_session::{AppendError, FileError, Plan, PublisherError, ServedJournal, Unsent};
 use mold_stored_journal::StoredJournal;
 use mold_unsent::{CountedJournal, UnsentPublisher};
 use mold_wire::laws::true_stays_law;
@@ -73,8 +71,8 @@ impl<S: Storage + Drop> DurablePublisher<S> {
     ghost use Rattle.mold_durable_publisher.specs.contracts.durable_publisher.DurablePublisher.{the_row};
 
     /// Makes a publisher of a durable journal. `stored` has the number of its messages and their index: it is new if
-    /// the durable journal was created, otherwise what `StoredJournal::load` returns for the same file. All messages
-    /// count as sent. It allocates the buffer of `limit` bytes once.
+    /// the durable journal was created, otherwise the taker that was returned with the journal. All messages count as
+    /// sent. It allocates the buffer of `limit` bytes once.
     ///
     /// It compares the numbers of messages, but not the messages.
     pub fn resume(
@@ -112,42 +110,32 @@ impl<S: Storage + Drop> DurablePublisher<S> {
     }
 
     /// Opens the journal that a storage has, and makes a publisher of it, whose datagrams have at most `limit` bytes. It
-    /// reads the file twice: `source`, for the index, and `storage`, which it syncs. All messages of the file count as
+    /// reads the storage once, for the journal and for the index, and syncs it. All messages of the storage count as
     /// sent.
     ///
-    /// After an error the storage is dropped. `Load` has the errors of `StoredJournal::load`: `Full` for a file that is
-    /// longer than 9,223,372,036,854,775,807 bytes.
-    pub fn open<K: Source>(
-        alloc: Global,
-        limit: usize,
-        source: &mut K,
-        storage: S,
-    ) -> Result<DurablePublisher<S>, StartError>
-        ensures resumed { (life : Life) (bytes : List ℕ) → K.left source.old ≡ Some bytes →
-            S.shows storage bytes → IsFileOf life bytes → IfOk result (λ publisher.
-            Publishes S.shows S.may_leave publisher (after_moment life Crash)) }
-        ensures accepted { (life : Life) (bytes : List ℕ) → K.left source.old ≡ Some bytes →
-            S.shows storage bytes → IsFileOf life bytes → IsLimit limit → length bytes ≤ MAX_END →
-            AllByRecursion (IsWithinLength (limit - MESSAGE_OVERHEAD)) life.committed → IfErr result IsOfDevice }
+    /// After an error the storage is dropped.
+    pub fn open(alloc: Global, limit: usize, storage: S) -> Result<DurablePublisher<S>, StartError>
+        ensures resumed { (life : Life) (bytes : List ℕ) → S.shows storage bytes → IsFileOf life bytes →
+            IfOk result (λ publisher. Publishes S.shows S.may_leave publisher (after_moment life Crash)) }
+        ensures accepted { (life : Life) (bytes : List ℕ) → S.shows storage bytes → IsFileOf life bytes →
+            IsLimit limit → AllByRecursion (IsWithinLength (limit - MESSAGE_OVERHEAD)) life.committed →
+            IfErr result IsOfDevice }
         ensures limit { (¬ IsLimit limit) → result ≡ Err StartError.Limit }
         ensures within { result ≡ Err StartError.Limit → ¬ IsLimit limit }
     {
-        one_file_law();
         if limit < MIN_LIMIT || MAX_LIMIT < limit {
             return Err(StartError::Limit);
         }
         let max_message = (limit - MESSAGE_OVERHEAD) as u16;
-        let durable = match DurableJournal::open(alloc, max_message, storage) {
-            Ok(durable) => durable,
+        let opened = match DurableJournal::open_with::<StoredJournal>(alloc, max_message, storage) {
+            Ok(opened) => opened,
             Err(fault) => return Err(StartError::Open(fault.error)),
         };
-        let stored = match StoredJournal::load(alloc, max_message, source) {
-            Ok(stored) => stored,
-            Err(error) => return Err(StartError::Load(error)),
-        };
-        match DurablePublisher::resume(alloc, stored, durable, limit) {
+        let Opened { journal, taker } = opened;
+        match DurablePublisher::resume(alloc, taker, journal, limit) {
             Ok(publisher) => Ok(publisher),
-            Err(ResumeError::Differs) => Err(StartError::Differs),
+            // The taker has the messages of the journal.
+            Err(ResumeError::Differs) => unreachable!(),
             Err(ResumeError::Limit) => Err(StartError::Limit),
             Err(ResumeError::Memory) => Err(StartError::Memory),
         }

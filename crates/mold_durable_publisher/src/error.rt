@@ -1,7 +1,7 @@
 //! The errors of this crate.
 
 use mold_durable::{CommitError, OpenError};
-use mold_session::{FileError, Unsent};
+use mold_session::Unsent;
 use thiserror::Error;
 
 /// Why a session is not closed. If both reasons apply, `Unsent` is returned.
@@ -38,15 +38,9 @@ pub enum StartError {
     /// The limit is outside the range `MIN_LIMIT` to `MAX_LIMIT`.
     #[error("a datagram's limit is 64 to 65,507 bytes")]
     Limit,
-    /// The storage has no valid journal of version 3, or it failed.
+    /// The storage has no valid journal of version 3, or it failed, or an allocation for the index failed.
     #[error("{0}")]
     Open(OpenError),
-    /// The source has no valid journal, or it failed.
-    #[error("{0}")]
-    Load(FileError),
-    /// The storage and the source have different journals.
-    #[error("the journals differ")]
-    Differs,
     /// The allocation of the datagram's buffer failed.
     #[error("out of memory")]
     Memory,

@@ -9,7 +9,7 @@ use crate::refusing::{fault_of, refuse, refuse_start};
 use crate::request_port::RequestPort;
 use mold_devices::{CommandFault, FromRead, IntoWrite, Sink, Source};
 use mold_durable::{FileStorage, create_file, open_file, sync_folder};
-use mold_durable_publisher::{DurablePublisher, StartError};
+use mold_durable_publisher::DurablePublisher;
 use mold_feeder::{Feed, Feeder, JournalMessages, PieceInput, PieceReader, Requests, feed_loop};
 use mold_input::{HexLines, MessageBlocks};
 use mold_session::{FileError, Server};
@@ -139,18 +139,6 @@ fn feed(
     }
 }
 
-// Opens the session of the file in this storage. The file is opened a second time, for the index.
-fn open_publisher(
-    rt: &HostRuntime,
-    order: &FeedOrder,
-    storage: FileStorage,
-) -> Result<DurablePublisher<FileStorage>, StartError> {
-    let Ok(file) = File::open(rt, order.journal.as_str()) else {
-        return Err(StartError::Load(FileError::Read));
-    };
-    DurablePublisher::open(rt.alloc(), order.limit, &mut FromRead::new(file), storage)
-}
-
 // Prints why the session of a file is not continued, if the order does not allow it, and returns the status.
 fn refuse_other<K: Sink>(
     alloc: Global,
@@ -170,7 +158,7 @@ fn refuse_other<K: Sink>(
 // Continues the session of the file in this storage, if it is the order's.
 fn resume(rt: &HostRuntime, order: &FeedOrder, storage: FileStorage) -> Result<u8, ProgramFault> {
     let mut sink = IntoWrite::new(rt.stdout());
-    let publisher = match open_publisher(rt, order, storage) {
+    let publisher = match DurablePublisher::open(rt.alloc(), order.limit, storage) {
         Ok(publisher) => publisher,
         Err(error) => return Ok(refuse_start(rt.alloc(), error, &mut sink)?),
     };

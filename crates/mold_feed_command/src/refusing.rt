@@ -37,9 +37,6 @@ pub(crate) fn refuse_start<K: Sink>(
 ) -> Result<u8, CommandFault> {
     match error {
         StartError::Open(error) => refuse_file(alloc, load_error(error), sink),
-        StartError::Load(error) => refuse_file(alloc, error, sink),
-        // The file was replaced between the two reads of it.
-        StartError::Differs => Err(CommandFault::Read),
         // The limit of an order is in range.
         StartError::Limit | StartError::Memory => Err(CommandFault::Memory),
     }

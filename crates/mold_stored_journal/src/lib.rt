@@ -1,4 +1,4 @@
-//! Reads the journal of a storage: the number of its messages, and its index. No message stays in memory.
+//! The journal of a storage: the number of its messages, and its index. No message stays in memory.
 #![tactic(auto)]
 
 mod stored_journal;

@@ -40,7 +40,7 @@ fn compare_lines(
     lines: &[u8],
 ) -> Result<Stopped, Fail> {
     let storage = MemoryStorage::with_bytes(alloc, &EXAMPLE)?;
-    let publisher = DurablePublisher::open(alloc, 64, &mut MemorySource::new(&EXAMPLE), storage)?;
+    let publisher = DurablePublisher::open(alloc, 64, storage)?;
     compare_after(alloc, &publisher, journal, number, lines)
 }
 

@@ -1,9 +1,9 @@
 //! A server's responses from a storage that a durable journal writes.
 
 use crate::assertions::holds_at;
-use mold_durable::{DurableJournal, MemoryStorage};
+use mold_durable::{DurableJournal, MemoryStorage, Opened};
 use mold_indexed_file::StorageIndex;
-use mold_session::{FileError, Plan, SliceSource};
+use mold_session::{FileError, Plan};
 use mold_stored_journal::StoredJournal;
 use mold_wire::{Packer, Session};
 use std::alloc::Global;
@@ -78,15 +78,14 @@ const FILE: &[u8] = b"MOLDJNL3SESSION001\
     \x01\0\0\x14\x01\x01\x01\x01\x01\x01\x01\x01\x01\x01\x01\x01\x01\x01\x01\x01\x01\x01\x01\x01\
     \x01\0\0\x14\x02\x02\x02\x02\x02\x02\x02\x02\x02\x02\x02\x02\x02\x02\x02\x02\x02\x02\x02\x02\0";
 
-/// A file is opened again, and responses have its messages.
+/// A file is opened, and responses have its messages.
 #[test]
 fn responses_from_a_loaded_storage(rt: HostRuntime) -> Result<(), Fail> {
     let storage = MemoryStorage::with_bytes(rt.alloc(), FILE)?;
-    let Ok(mut journal) = DurableJournal::open(rt.alloc(), 42, storage) else {
-        return Ok(());
-    };
-    let mut source = SliceSource::new(FILE);
-    let mut stored = StoredJournal::load(rt.alloc(), 42, &mut source)?;
+    let opened = DurableJournal::open_with::<StoredJournal>(rt.alloc(), 42, storage)?;
+    let Opened { journal, taker } = opened;
+    let mut journal = journal;
+    let mut stored = taker;
     holds_at(
         &rt,
         stored.journal.count() == 2 && !stored.journal.is_closed(),
@@ -95,12 +94,13 @@ fn responses_from_a_loaded_storage(rt: HostRuntime) -> Result<(), Fail> {
     expect_response(&rt, rt.alloc(), &mut journal, &mut stored.index, Ok(SECOND))
 }
 
-/// A file of version 1 is refused, and a new journal has no message.
+/// A closed session without messages, and a new journal.
 #[test]
 fn stored_journals_without_messages(rt: HostRuntime) -> Result<(), Fail> {
-    let mut source = SliceSource::new(b"MOLDJNL1SESSION001");
-    let found = StoredJournal::load(rt.alloc(), 42, &mut source);
-    holds_at(&rt, found.err() == Some(FileError::BadMagic), 5);
+    let storage = MemoryStorage::with_bytes(rt.alloc(), b"MOLDJNL3SESSION001\x01\x01\0")?;
+    let opened = DurableJournal::open_with::<StoredJournal>(rt.alloc(), 42, storage)?;
+    let closed = &opened.taker.journal;
+    holds_at(&rt, closed.count() == 0 && closed.is_closed(), 5);
     let stored = StoredJournal::new(rt.alloc(), SESSION, 42)?;
     holds_at(
         &rt,
