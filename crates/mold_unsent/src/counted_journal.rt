@@ -1,23 +1,15 @@
 //! The journal of a session of which no message is in memory.
 
-ghost use Rattle.std.specs.Prelude.{◌≡◌, ◌⊎◌, ◌+◌, ◌<◌, ◌++◌, false, true, None, Some, length, IfErr, IfOk, IfSome};
+ghost use Rattle.std.specs.Prelude.{◌≡◌, ◌+◌, ◌<◌, ◌++◌, true, None, Some, length, IfErr, IfOk};
 ghost use Rattle.std.specs.Prelude.{OnErr, OnOk};
-ghost use Rattle.std.specs.Io.KnownBytes.{IsAtEnd};
 ghost use Rattle.std.specs.List.{AllByRecursion};
 ghost use Rattle.mold_wire.specs.declared.limits.TheConstants.{MAX_NUMBER};
-ghost use Rattle.mold_session.specs.File.{SpellsJournal, SpellsJournal2};
-ghost use Rattle.mold_session.specs.FileFault.{JournalFault};
 ghost use Rattle.mold_session.specs.Journal.{IsJournal, IsWithin, append_refusal, appended, fresh_journal};
-ghost use Rattle.mold_session.specs.Loading.{CountsLoad, Refuses};
-ghost use Rattle.mold_session.specs.Records.{SpellsJournal3};
-ghost use Rattle.mold_session.specs.declared.error.FileError.{FileError};
 
 use crate::forgotten_messages::{ForgottenMessages, Message};
-use crate::loading::{CountedFile, count_messages};
 use mold_messages::MessageList;
-use mold_session::{AppendError, FileError, MAX_MESSAGES, Source};
+use mold_session::{AppendError, MAX_MESSAGES};
 use mold_wire::Session;
-use std::alloc::Global;
 use std::marker::Model;
 
 /// The journal of a session of which no message is in memory, only their number. Clauses see it as a `Journal`. Its
@@ -60,41 +52,6 @@ impl CountedJournal {
             closed: false,
             forgotten: ForgottenMessages::new(),
         }
-    }
-
-    /// Loads a journal from its file, of version 1, 2 or 3, whose messages have at most `max_message` bytes. A journal
-    /// from a file of version 1 is open.
-    ///
-    /// It goes through the file once, in reads of at most 4,096 bytes, and holds only the bytes of one read and the
-    /// longest message so far. On success it has read the source to its end. The errors are those of `Journal::load`.
-    pub fn load<S: Source>(
-        alloc: Global,
-        max_message: u16,
-        source: &mut S,
-    ) -> Result<CountedJournal, FileError>
-        ensures bound { IfOk result (λ journal. journal.max_message ≡ max_message) }
-        ensures listed { IfOk result (λ journal. IsJournal journal) }
-        ensures whole { IfOk result (λ journal. IfSome (S.left source.old) (λ bytes.
-            ((journal.closed ≡ false) × SpellsJournal journal.session journal.messages bytes)
-            ⊎ (SpellsJournal2 journal.session journal.messages journal.closed bytes
-            ⊎ SpellsJournal3 journal.session journal.messages journal.closed bytes))) }
-        ensures spent { IfOk result (λ _. IsAtEnd (S.left source.new)) }
-        ensures refused { IfErr result (λ error. Refuses (JournalFault max_message) (S.left source.old) error) }
-        ensures failures { CountsLoad (S.failed source.old) (S.failed source.new) result }
-    {
-        let counted = count_messages(alloc, max_message, source)?;
-        let CountedFile {
-            head,
-            count,
-            forgotten,
-        } = counted;
-        Ok(CountedJournal {
-            session: head.session,
-            max_message,
-            count,
-            closed: head.closed,
-            forgotten,
-        })
     }
 
     /// Returns the session that the messages belong to.

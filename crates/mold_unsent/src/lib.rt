@@ -3,7 +3,6 @@
 
 mod counted_journal;
 mod forgotten_messages;
-mod loading;
 mod packing;
 mod unsent_publisher;
 

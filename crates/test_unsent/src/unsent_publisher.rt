@@ -1,16 +1,11 @@
 //! A publisher that forgets the messages that it sent: its numbers go on. Also the journal from which it is resumed.
 
 use crate::assertions::holds_at;
-use mold_session::{AppendError, SliceSource, Unsent};
+use mold_session::{AppendError, Unsent};
 use mold_unsent::{CountedJournal, UnsentPublisher};
 use mold_wire::Session;
 use std::process::Abort;
 use std::test::Fail;
-
-/// The file of a session with two messages of twenty bytes.
-const FILE: &[u8] = b"MOLDJNL3SESSION001\
-    \x01\0\0\x14\x01\x01\x01\x01\x01\x01\x01\x01\x01\x01\x01\x01\x01\x01\x01\x01\x01\x01\x01\x01\
-    \x01\0\0\x14\x02\x02\x02\x02\x02\x02\x02\x02\x02\x02\x02\x02\x02\x02\x02\x02\x02\x02\x02\x02\0";
 
 const FIRST_AND_SECOND: &[u8] = b"SESSION001\0\0\0\0\0\0\0\x01\0\x02\
     \0\x14\x01\x01\x01\x01\x01\x01\x01\x01\x01\x01\x01\x01\x01\x01\x01\x01\x01\x01\x01\x01\
@@ -119,8 +114,9 @@ fn examples_of_an_unsent_publisher(rt: HostRuntime) -> Result<(), Fail> {
 
 #[test]
 fn resumed_unsent_publisher(rt: HostRuntime) -> Result<(), Fail> {
-    let mut source = SliceSource::new(FILE);
-    let journal = CountedJournal::load(rt.alloc(), 42, &mut source)?;
+    let mut journal = CountedJournal::new(Session(*b"SESSION001"), 42);
+    journal.append(&[1; 20])?;
+    journal.append(&[2; 20])?;
     holds_at(&rt, journal.count() == 2 && !journal.is_closed(), 0);
     let mut publisher = UnsentPublisher::resume(rt.alloc(), journal, 64)?;
     expect_steps(&rt, &mut publisher, RESUMED);
