@@ -107,6 +107,32 @@ record_next most len rest body starts block = record {
       );
 }
 
+-- The first four bytes of the whole record of a message, as a number.
+pub whole_parts : (most len : ℕ) (rest : List ℕ) → ((i : ℕ) → slice_index rest i < 256) → 4 ≤ length rest →
+    16777216 ≤ big_number 4 (take 4 rest) → len ≡ big_number 4 (take 4 rest) - 16777216 → len ≤ most → most ≤ 65535 →
+    len ≤ length (drop 4 rest) → HasRecord most rest (drop (4 + len) rest)
+whole_parts most len [] small long high is low bound fits = absurd (omega (arith, long))
+whole_parts most len (a ∷ []) small long high is low bound fits = absurd (omega (arith, long))
+whole_parts most len (a ∷ b ∷ []) small long high is low bound fits = absurd (omega (arith, long))
+whole_parts most len (a ∷ b ∷ c ∷ []) small long high is low bound fits = absurd (omega (arith, long))
+whole_parts most len (a ∷ b ∷ c ∷ d ∷ more) small long high is low bound fits =
+    let first : a ≡ 1 = omega (arith, small 0, small 1, small 2, small 3, high, is, low, bound) in
+    let second : b ≡ 0 = omega (arith, small 0, small 1, small 2, small 3, high, is, low, bound) in
+    let stated : len ≡ c * 256 + d = omega (arith, first, second, is, high) in
+    let message = take len more in
+    let size : length message ≡ len = length-take-le len more fits in
+    let number : be16 (length message) ≡ c ∷ d ∷ [] = ap be16 size ∙ be16_of c d len (small 2) (small 3) stated in
+    record {
+      message = message;
+      within = omega (arith, size, low);
+      parts =
+          ap (λ (n : ℕ). n ∷ b ∷ c ∷ d ∷ more) first
+          ∙ ap (λ (n : ℕ). 1 ∷ n ∷ c ∷ d ∷ more) second
+          ∙ ap (λ (t : List ℕ). 1 ∷ 0 ∷ (t ++ more)) (sym number)
+          ∙ ap (λ (t : List ℕ). 1 ∷ 0 ∷ (be16 (length message) ++ t)) (sym (take-append-drop len more))
+          ∙ ap (λ (t : List ℕ). record_of message ++ t) (drop-drop len 4 (a ∷ b ∷ c ∷ d ∷ more));
+    }
+
 -- No record was read yet.
 pub skipped_none : (Taken : List (List ℕ) → Type 0) (most start : ℕ) (bytes : List ℕ) → Taken [] →
     start < 18446744073709551615 → AreSkipped Taken most start start 0 bytes

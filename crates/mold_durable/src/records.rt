@@ -1,8 +1,8 @@
 //! Reads the records of bytes in memory.
 
-ghost use Rattle.std.specs.Prelude.{◌<◌, ◌≤◌, ◌∷◌, false, length, drop, IfOk, IfErr, OnOk};
+ghost use Rattle.std.specs.Prelude.{◌<◌, ◌≤◌, ◌∷◌, false, length, drop, IfOk, IfErr, IfSome, OnOk};
 ghost use Rattle.mold_wire.specs.declared.limits.TheConstants.{MAX_NUMBER};
-ghost use Rattle.mold_session.specs.Checking.{HasBlock};
+ghost use Rattle.mold_session.specs.Checking.{HasBlock, HasRecord};
 ghost use Rattle.mold_session.specs.FileFault.{RecordFault};
 ghost use Rattle.mold_session.specs.declared.journal.TheConstants.{MAX_MESSAGES};
 ghost use Rattle.mold_durable.specs.MessageTaker.{HasTaken};
@@ -16,6 +16,10 @@ use byteorder::{BigEndian, ByteOrder};
 use mold_session::MAX_MESSAGES;
 use mold_wire::LENGTH_BYTES;
 use std::alloc::AllocError;
+
+/// The first four bytes of the record of an empty message, as a number. In the record of another message, its length is
+/// added.
+const EMPTY_RECORD: u32 = 0x0100_0000;
 
 /// A message's record, or the end of the records.
 #[derive(Clone, Copy)]
@@ -64,8 +68,28 @@ fn block_length(most: u16, count: u64, body: &[u8]) -> Result<usize, OpenError>
     Ok(LENGTH_BYTES + len)
 }
 
-/// Reads the record at the start of the bytes. `count` messages precede it.
-pub fn next_record(most: u16, count: u64, rest: &[u8]) -> Result<NextRecord, OpenError>
+// Returns the length of the record at the start of the bytes if it is the whole record of a message.
+fn whole_record(most: u16, rest: &[u8]) -> Option<usize>
+    ensures some { IfSome result (λ len. (0 < len) × (len ≤ length rest.now)) }
+    ensures record { IfSome result (λ len. HasRecord most rest.now (drop len rest.now)) }
+{
+    if rest.len() < RECORD_HEAD {
+        return None;
+    }
+    let (head, body) = rest.split_at(RECORD_HEAD);
+    let number = BigEndian::read_u32(head);
+    if number < EMPTY_RECORD {
+        return None;
+    }
+    let len = number - EMPTY_RECORD;
+    if len > u32::from(most) || body.len() < len as usize {
+        return None;
+    }
+    Some(RECORD_HEAD + len as usize)
+}
+
+// Reads the record at the start of the bytes, part by part. `count` messages precede it.
+fn checked_record(most: u16, count: u64, rest: &[u8]) -> Result<NextRecord, OpenError>
     requires { count < MAX_NUMBER }
     ensures next { IfOk result (IsNextRecord most count rest.now) }
     ensures refused { IfErr result (λ error. RecordFault most count rest.now (file_error error)) }
@@ -93,6 +117,21 @@ pub fn next_record(most: u16, count: u64, rest: &[u8]) -> Result<NextRecord, Ope
         return Err(damaged);
     }
     Ok(NextRecord::End { closed: true })
+}
+
+/// Reads the record at the start of the bytes. `count` messages precede it.
+// For the optimizer: most records are whole records of messages, which need fewer checks.
+pub fn next_record(most: u16, count: u64, rest: &[u8]) -> Result<NextRecord, OpenError>
+    requires { count < MAX_NUMBER }
+    ensures next { IfOk result (IsNextRecord most count rest.now) }
+    ensures refused { IfErr result (λ error. RecordFault most count rest.now (file_error error)) }
+{
+    if count < MAX_MESSAGES {
+        if let Some(len) = whole_record(most, rest) {
+            return Ok(NextRecord::Message { len });
+        }
+    }
+    checked_record(most, count, rest)
 }
 
 /// Reads the whole records at the start of the bytes, and what follows them. Passes their messages to the taker. `start`

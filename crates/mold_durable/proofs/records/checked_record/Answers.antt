@@ -3,7 +3,7 @@ use Rattle.std.proofs.lemmas.Bool.{eqb-false}
 use Rattle.mold_session.specs.FileFault.{RecordFault, bad_kind}
 use Rattle.mold_durable.specs.Reading.{file_error}
 use Rattle.mold_durable.proofs.ReadingLemmas.{closing_of, two_bytes}
-use Rattle.mold_durable.proofs.records.next_record.Goals as goal
+use Rattle.mold_durable.proofs.records.checked_record.Goals as goal
 
 pub returns-in-Err-clause-refused : goal.returns-in-Err-clause-refused
 returns-in-Err-clause-refused c =
