@@ -11,7 +11,6 @@
 #[cfg(test)]
 #[cfg(test)]
 #[cfg(test)]
-
 mod captures;
 mod cases;
 mod check;
@@ -20,4 +19,3 @@ mod ipv6;
 mod links;
 mod sessions;
 mod show;
-
