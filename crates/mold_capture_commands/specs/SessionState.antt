@@ -12,8 +12,8 @@ use Rattle.mold_capture_commands.specs.Checking.{CaptureFile, founds}
 use Rattle.mold_capture_commands.specs.Counts.{more_if}
 use Rattle.mold_capture_commands.specs.Faults.{fault_text}
 use Rattle.mold_capture_commands.specs.Filter.{Found, Passed, Skipped, Partial, Unread}
-use Rattle.mold_capture_commands.specs.Pairs.{carried_numbers, end_numbers, greatest, is_heartbeat, joint, last, later, least}
-use Rattle.mold_capture_commands.specs.Pairs.{pair_of, same_pair}
+use Rattle.mold_capture_commands.specs.Pairs.{carried_numbers, end_numbers, greatest, is_heartbeat, joint, last}
+use Rattle.mold_capture_commands.specs.Pairs.{later, least, pair_of, same_pair}
 use Rattle.mold_capture_commands.specs.Sessions.{pair_text}
 use Rattle.mold_capture_commands.specs.declared.filter.CaptureFilter.{CaptureFilter}
 use Rattle.mold_capture_commands.specs.declared.pair.Pair.{Pair}

@@ -50,8 +50,8 @@ impl Sessions {
     }
 
     /// Reads a capture and counts its datagrams that pass, after those of the captures before it. If the file is at
-    /// fault, the datagrams before its fault are counted, and `print` reports the fault under the name. `watch` is called
-    /// after each frame.
+    /// fault, the datagrams before its fault are counted, and `print` reports the fault under the name. `watch` is
+    /// called after each frame.
     ///
     /// The pairs are in a hash table, so the cost of a datagram does not grow with their number. The hash has a fixed
     /// seed, so a capture can be made whose hashes collide.
@@ -76,8 +76,8 @@ impl Sessions {
     }
 
     /// Writes a line for each pair of destination and session and the lines of the files at fault, in pieces of 65,536
-    /// bytes or more. Returns the exit status: 2 if a file is at fault, otherwise 0. After a fault, a prefix of the text
-    /// was written.
+    /// bytes or more. Returns the exit status: 2 if a file is at fault, otherwise 0. After a fault, a prefix of the
+    /// text was written.
     ///
     /// `Write` is returned only if the sink failed, `Memory` only if an allocation failed, and `Read` never.
     pub fn print<K: Sink>(&self, sink: &mut K) -> Result<u8, CommandFault>
