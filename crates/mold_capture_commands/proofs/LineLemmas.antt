@@ -15,7 +15,7 @@ use Rattle.mold_capture_commands.specs.Pairs.{distinct, pair_of, readings_of, sa
 use Rattle.mold_capture_commands.specs.SessionState.{all_lines, lines_more, lines_text, lines_with, no_tally, tally_more}
 use Rattle.mold_capture_commands.specs.Sessions.{datagrams, pair_text, pairs_text}
 use Rattle.mold_capture_commands.specs.declared.pair.Pair.{Pair}
-use Rattle.mold_capture_commands.specs.declared.tally.Tally.{Tally}
+use Rattle.mold_capture_commands.specs.declared.pair_tally.PairTally.{PairTally}
 use Rattle.mold_capture_commands.proofs.PairLemmas.{pair_apart, pair_law, pair_equal, pair_same, tallied, tally_is}
 
 -- ---- filters
@@ -116,7 +116,7 @@ distinct_filter pair (first ∷ pairs) = at (differs pair first) refl (distinct_
 -- ---- the lines of datagrams
 
 -- The lines after the datagrams.
-abbrev all_noted : List (Pair × Tally) → List Datagram → List (Pair × Tally)
+abbrev all_noted : List (Pair × PairTally) → List Datagram → List (Pair × PairTally)
 all_noted lines [] = lines
 all_noted lines (d ∷ list) = all_noted (lines_more lines (pair_of d) (reading d.payload)) list
 
@@ -125,14 +125,14 @@ abbrev others : Pair → List Datagram → List Datagram
 others pair list = filter (λ d. differs pair (pair_of d)) list
 
 -- The line of a pair.
-abbrev line_in : List Datagram → Pair → Pair × Tally
+abbrev line_in : List Datagram → Pair → Pair × PairTally
 line_in list pair = (pair, tallied no_tally (readings_of pair list))
 
 -- The lines of a list of datagrams.
-abbrev lines_in : List Datagram → List (Pair × Tally)
+abbrev lines_in : List Datagram → List (Pair × PairTally)
 lines_in list = map (line_in list) (distinct (map pair_of list))
 
-lines_are : (lines : List (Pair × Tally)) (list : List Found) → all_lines lines list ≡ all_noted lines (datagrams list)
+lines_are : (lines : List (Pair × PairTally)) (list : List Found) → all_lines lines list ≡ all_noted lines (datagrams list)
 unfolding all_lines datagrams
 lines_are lines [] = refl
 lines_are lines (Passed d ∷ list) = lines_are (lines_with lines (Passed d)) list
@@ -141,12 +141,12 @@ lines_are lines (Partial ∷ list) = lines_are lines list
 lines_are lines (Unread ∷ list) = lines_are lines list
 
 -- The first line counts its datagrams, and the others count the rest.
-abbrev IsFirstLine : Pair → Tally → List (Pair × Tally) → List Datagram → Type 0
+abbrev IsFirstLine : Pair → PairTally → List (Pair × PairTally) → List Datagram → Type 0
 IsFirstLine pair tally lines list =
     all_noted ((pair, tally) ∷ lines) list
     ≡ (pair, tallied tally (readings_of pair list)) ∷ all_noted lines (others pair list)
 
-first_line : (line : Pair × Tally) (lines : List (Pair × Tally)) (list : List Datagram) →
+first_line : (line : Pair × PairTally) (lines : List (Pair × PairTally)) (list : List Datagram) →
     IsFirstLine line.0 line.1 lines list
 unfolding lines_more readings_of
 first_line line lines [] = refl
@@ -233,11 +233,11 @@ pairs_are list =
 -- ---- one more datagram in the table
 
 -- The tally of a pair, or that of no datagram.
-abbrev known : Option Tally → Tally
+abbrev known : Option PairTally → PairTally
 known None = no_tally
 known (Some tally) = tally
 
-more_is_insert : (lines : List (Pair × Tally)) (pair : Pair) (read : Result Packet DecodeError) →
+more_is_insert : (lines : List (Pair × PairTally)) (pair : Pair) (read : Result Packet DecodeError) →
     lines_more lines pair read
     ≡ insert_entry same_pair lines pair (tally_more (known (lookup (same_pair pair) lines)) read)
 unfolding lines_more
@@ -251,26 +251,26 @@ more_is_insert (line ∷ lines) pair read = at (same_pair pair line.0) (more_is_
         else line ∷ insert_entry same_pair lines pair
         (tally_more (known (cond b (Some line.1) (lookup (same_pair pair) lines))) read))
     at true rest = refl
-    at false rest = ap (λ (l : List (Pair × Tally)). line ∷ l) rest
+    at false rest = ap (λ (l : List (Pair × PairTally)). line ∷ l) rest
 
 -- A pair that is not there.
-pub more_new : (lines : List (Pair × Tally)) (pair : Pair) (read : Result Packet DecodeError) →
+pub more_new : (lines : List (Pair × PairTally)) (pair : Pair) (read : Result Packet DecodeError) →
     position (same_pair pair) (keys_of lines) ≡ None →
     lines_more lines pair read ≡ insert_entry same_pair lines pair (tally_more no_tally read)
 more_new lines pair read absent =
     more_is_insert lines pair read
-    ∙ ap (λ (v : Option Tally). insert_entry same_pair lines pair (tally_more (known v) read))
+    ∙ ap (λ (v : Option PairTally). insert_entry same_pair lines pair (tally_more (known v) read))
     (Missing-position (same_pair pair) lines absent).value
 
 -- A pair that is there.
-pub more_at : (lines new : List (Pair × Tally)) (pair : Pair) (read : Result Packet DecodeError) (index : ℕ) →
+pub more_at : (lines new : List (Pair × PairTally)) (pair : Pair) (read : Result Packet DecodeError) (index : ℕ) →
     position (same_pair pair) (keys_of lines) ≡ Some index →
     IfSome (slice_get (values_of lines) index) (λ tally. new ≡ set_value_at lines index (tally_more tally read)) →
     new ≡ lines_more lines pair read
 more_at lines new pair read index there is =
     by (Found-position (same_pair pair) lines index there) (slice_get (values_of lines) index) refl is
   where
-    by : (found : FoundAt (same_pair pair) lines index) (value : Option Tally) → slice_get (values_of lines) index ≡ value →
+    by : (found : FoundAt (same_pair pair) lines index) (value : Option PairTally) → slice_get (values_of lines) index ≡ value →
         IfSome value (λ tally. new ≡ set_value_at lines index (tally_more tally read)) →
         new ≡ lines_more lines pair read
     by found None at is =
@@ -278,11 +278,11 @@ more_at lines new pair read index there is =
     by found (Some tally) at is =
         is
         ∙ sym (insert_entry-first same_pair pair (tally_more tally read) lines index found.first)
-        ∙ ap (λ (v : Option Tally). insert_entry same_pair lines pair (tally_more (known v) read)) (sym (found.value ∙ at))
+        ∙ ap (λ (v : Option PairTally). insert_entry same_pair lines pair (tally_more (known v) read)) (sym (found.value ∙ at))
         ∙ sym (more_is_insert lines pair read)
 
 -- The key at an index is that of a pair.
-pub place_of : (lines : List (Pair × Tally)) (index : ℕ) (pair key : Pair) (tally : Tally) →
+pub place_of : (lines : List (Pair × PairTally)) (index : ℕ) (pair key : Pair) (tally : PairTally) →
     IsDistinct same_pair (keys_of lines) → slice_get lines index ≡ Some (key, tally) → same_pair pair key ≡ true →
     position (same_pair pair) (keys_of lines) ≡ Some index
 place_of lines index pair key tally unique at same =

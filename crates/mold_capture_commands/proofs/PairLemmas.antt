@@ -19,7 +19,7 @@ use Rattle.mold_capture_commands.specs.Pairs.{is_heartbeat_body, joint, last, la
 use Rattle.mold_capture_commands.specs.Pairs.{same_address, same_pair, same_session, tally_of}
 use Rattle.mold_capture_commands.specs.SessionState.{no_tally, tally_more}
 use Rattle.mold_capture_commands.specs.declared.pair.Pair.{Pair}
-use Rattle.mold_capture_commands.specs.declared.tally.Tally.{Tally}
+use Rattle.mold_capture_commands.specs.declared.pair_tally.PairTally.{PairTally}
 use Rattle.mold_frame.specs.declared.ip_address.IpAddress.{IpAddress}
 use Rattle.mold_frame.specs.declared.ip_address.IpAddress.TheVariants.{V4, V6}
 
@@ -180,11 +180,11 @@ filter_any [] = refl
 filter_any (read ∷ list) = ap (λ (l : List (Result Packet DecodeError)). read ∷ l) (filter_any list)
 
 -- The tally with the datagrams of a list.
-abbrev pub tallied : Tally → List (Result Packet DecodeError) → Tally
+abbrev pub tallied : PairTally → List (Result Packet DecodeError) → PairTally
 tallied tally [] = tally
 tallied tally (read ∷ list) = tallied (tally_more tally read) list
 
-tally_folded : (tally : Tally) (list : List (Result Packet DecodeError)) → tallied tally list ≡ record {
+tally_folded : (tally : PairTally) (list : List (Result Packet DecodeError)) → tallied tally list ≡ record {
   datagrams = folded_count any_read tally.datagrams list;
   first = folded_joint min carried_numbers tally.first list;
   last = folded_joint max carried_numbers tally.last list;
@@ -247,7 +247,7 @@ last_is number last (message ∷ messages) some is =
 -- ---- one more packet
 
 -- The tally with a packet of this sequence number and body.
-abbrev packet_more : Tally → ℕ → Body → Tally
+abbrev packet_more : PairTally → ℕ → Body → PairTally
 packet_more tally sequence body = record {
   datagrams = one_more tally.datagrams;
   first = joint min tally.first (least (numbers_from sequence (messages_of body)));
@@ -256,7 +256,7 @@ packet_more tally sequence body = record {
   end = joint later tally.end (last (end_in sequence body));
 }
 
-abbrev pub data_tally : Tally → ℕ → List (List ℕ) → Tally
+abbrev pub data_tally : PairTally → ℕ → List (List ℕ) → PairTally
 data_tally tally sequence messages = record {
   datagrams = one_more tally.datagrams;
   first = joint min tally.first (least (numbers_from sequence messages));
@@ -265,7 +265,7 @@ data_tally tally sequence messages = record {
   end = tally.end;
 }
 
-pub data_more : (tally : Tally) (packet : Packet) (messages : List (List ℕ)) → packet.body ≡ Data messages →
+pub data_more : (tally : PairTally) (packet : Packet) (messages : List (List ℕ)) → packet.body ≡ Data messages →
     data_tally tally packet.sequence messages ≡ tally_more tally (Ok packet)
 unfolding combined
 data_more tally packet messages is =
@@ -279,7 +279,7 @@ data_more tally packet messages is =
     })
     ∙ ap (packet_more tally packet.sequence) (sym is)
 
-pub heartbeat_more : (tally : Tally) (packet : Packet) → packet.body ≡ Heartbeat →
+pub heartbeat_more : (tally : PairTally) (packet : Packet) → packet.body ≡ Heartbeat →
     record {
       datagrams = one_more tally.datagrams;
       first = tally.first;
@@ -305,7 +305,7 @@ end_after : (known : Option ℕ) (sequence : ℕ) → Some sequence ≡ joint la
 end_after None sequence = refl
 end_after (Some end) sequence = refl
 
-pub end_more : (tally : Tally) (packet : Packet) → packet.body ≡ End →
+pub end_more : (tally : PairTally) (packet : Packet) → packet.body ≡ End →
     record {
       datagrams = one_more tally.datagrams;
       first = tally.first;
@@ -327,7 +327,7 @@ end_more tally packet is =
     })
     ∙ ap (packet_more tally packet.sequence) (sym is)
 
-pub fault_more : (tally : Tally) (fault : DecodeError) →
+pub fault_more : (tally : PairTally) (fault : DecodeError) →
     record tally { datagrams = one_more tally.datagrams } ≡ tally_more tally (Err fault)
 unfolding combined
 fault_more tally fault =

@@ -19,13 +19,13 @@ use Rattle.mold_capture_commands.specs.SessionState.{no_sessions, sessions_taken
 use Rattle.mold_capture_commands.specs.Sessions.{sessions_status, sessions_text}
 use Rattle.mold_capture_commands.specs.declared.filter.CaptureFilter.{CaptureFilter}
 use Rattle.mold_capture_commands.specs.declared.pair.Pair.{Pair}
-use Rattle.mold_capture_commands.specs.declared.tally.Tally.{Tally}
+use Rattle.mold_capture_commands.specs.declared.pair_tally.PairTally.{PairTally}
 use Rattle.mold_capture_commands.proofs.LineLemmas.{pairs_are}
 
 -- ---- frames that were counted
 
 -- Of the known capture, some frames were counted. The remaining ones lead to the same lines as all frames do.
-abbrev pub CountedSoFar : CaptureFilter → List (Pair × Tally) → List (Pair × Tally) → Option (List ℕ) → FormatState → Option (List ℕ) → Type 0
+abbrev pub CountedSoFar : CaptureFilter → List (Pair × PairTally) → List (Pair × PairTally) → Option (List ℕ) → FormatState → Option (List ℕ) → Type 0
 CountedSoFar filter start now None format left = Unit {0}
 CountedSoFar filter start now (Some input) format None = ⊥
 CountedSoFar filter start now (Some input) format (Some left) =
@@ -33,7 +33,7 @@ CountedSoFar filter start now (Some input) format (Some left) =
     × ((capture_of input).fault ≡ (captured format left).fault)
 
 -- No frame was counted.
-pub counted_none : (filter : CaptureFilter) (start : List (Pair × Tally)) (known : Option (List ℕ)) (format : FormatState)
+pub counted_none : (filter : CaptureFilter) (start : List (Pair × PairTally)) (known : Option (List ℕ)) (format : FormatState)
     (rest : List ℕ) → format ≡ at_start → rest ≡ [] → CountedSoFar filter start start known format (prepend_known rest known)
 counted_none filter start None format rest is none = tt
 counted_none filter start (Some input) format rest is none = (
@@ -44,7 +44,7 @@ counted_none filter start (Some input) format rest is none = (
 )
 
 -- One more frame was counted.
-pub counted_more : (filter : CaptureFilter) (start now next : List (Pair × Tally)) (known left behind : Option (List ℕ))
+pub counted_more : (filter : CaptureFilter) (start now next : List (Pair × PairTally)) (known left behind : Option (List ℕ))
     (format later : FormatState) (frame : Frame) → CountedSoFar filter start now known format left →
     GivesFrame format left frame later behind → next ≡ lines_with now (found filter (carried frame.link frame.bytes)) →
     CountedSoFar filter start next known later behind
@@ -54,12 +54,12 @@ counted_more filter start now next (Some input) None behind format later frame s
 counted_more filter start now next (Some input) (Some xs) None format later frame so gives is = absurd gives
 counted_more filter start now next (Some input) (Some xs) (Some ys) format later frame so gives is = (
   so.0 ∙ ap (λ c. all_lines now (founds filter c.frames)) gives
-      ∙ ap (λ (l : List (Pair × Tally)). all_lines l (founds filter (captured later ys).frames)) (sym is),
+      ∙ ap (λ (l : List (Pair × PairTally)). all_lines l (founds filter (captured later ys).frames)) (sym is),
   so.1 ∙ ap (λ c. c.fault) gives,
 )
 
 -- All frames were counted.
-pub counted_all : (filter : CaptureFilter) (start now : List (Pair × Tally)) (known left : Option (List ℕ)) (format : FormatState)
+pub counted_all : (filter : CaptureFilter) (start now : List (Pair × PairTally)) (known left : Option (List ℕ)) (format : FormatState)
     (fault : Option CaptureFault) → CountedSoFar filter start now known format left → GivesEnd format left fault →
     IfSome known (λ input. (now ≡ all_lines start (founds filter (capture_of input).frames)) × (fault ≡ (capture_of input).fault))
 unfolding all_lines
@@ -95,7 +95,7 @@ found_target filter UnreadLink has = tt
 
 -- ---- the law: a list of files
 
-lines_append : (lines : List (Pair × Tally)) (list more : List Found) →
+lines_append : (lines : List (Pair × PairTally)) (list more : List Found) →
     all_lines lines (list ++ more) ≡ all_lines (all_lines lines list) more
 unfolding all_lines
 lines_append lines [] more = refl

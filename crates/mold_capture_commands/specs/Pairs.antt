@@ -14,7 +14,7 @@ use Rattle.mold_wire.specs.declared.packet.Body.{Body}
 use Rattle.mold_wire.specs.declared.packet.Body.TheVariants.{Data, Heartbeat, End}
 use Rattle.mold_wire.specs.declared.session.Session.{Session}
 use Rattle.mold_capture_commands.specs.declared.pair.Pair.{Pair}
-use Rattle.mold_capture_commands.specs.declared.tally.Tally.{Tally}
+use Rattle.mold_capture_commands.specs.declared.pair_tally.PairTally.{PairTally}
 use Rattle.mold_frame.specs.declared.ip_address.IpAddress.{IpAddress}
 use Rattle.mold_frame.specs.declared.ip_address.IpAddress.TheVariants.{V4, V6}
 
@@ -119,7 +119,7 @@ abbrev pub last : List ℕ → Option ℕ
 last numbers = combined later numbers
 
 -- What is counted for the datagrams of a pair. The counts stop at `MAX_NUMBER`.
-abbrev pub tally_of : List (Result Packet DecodeError) → Tally
+abbrev pub tally_of : List (Result Packet DecodeError) → PairTally
 tally_of list = record {
   datagrams = min (length list) MAX_NUMBER;
   first = least (flat_map carried_numbers list);

@@ -17,14 +17,14 @@ use Rattle.mold_capture_commands.specs.Pairs.{later, least, pair_of, same_pair}
 use Rattle.mold_capture_commands.specs.Sessions.{pair_text}
 use Rattle.mold_capture_commands.specs.declared.filter.CaptureFilter.{CaptureFilter}
 use Rattle.mold_capture_commands.specs.declared.pair.Pair.{Pair}
-use Rattle.mold_capture_commands.specs.declared.tally.Tally.{Tally}
+use Rattle.mold_capture_commands.specs.declared.pair_tally.PairTally.{PairTally}
 
 -- What is counted of no datagram.
-abbrev pub no_tally : Tally
+abbrev pub no_tally : PairTally
 no_tally = record { datagrams = 0; first = None; last = None; heartbeats = 0; end = None }
 
 -- What is counted with one more datagram.
-abbrev pub tally_more : Tally → Result Packet DecodeError → Tally
+abbrev pub tally_more : PairTally → Result Packet DecodeError → PairTally
 tally_more tally read = record {
   datagrams = one_more tally.datagrams;
   first = joint min tally.first (least (carried_numbers read));
@@ -34,7 +34,7 @@ tally_more tally read = record {
 }
 
 -- The pairs with one more datagram. A new pair is the last one.
-unfoldable pub lines_more : List (Pair × Tally) → Pair → Result Packet DecodeError → List (Pair × Tally)
+unfoldable pub lines_more : List (Pair × PairTally) → Pair → Result Packet DecodeError → List (Pair × PairTally)
 lines_more [] pair read = (pair, tally_more no_tally read) ∷ []
 lines_more (line ∷ lines) pair read =
     if same_pair pair line.0
@@ -42,7 +42,7 @@ lines_more (line ∷ lines) pair read =
     else line ∷ lines_more lines pair read
 
 -- The pairs after one more frame.
-abbrev pub lines_with : List (Pair × Tally) → Found → List (Pair × Tally)
+abbrev pub lines_with : List (Pair × PairTally) → Found → List (Pair × PairTally)
 lines_with lines (Passed datagram) = lines_more lines (pair_of datagram) (reading datagram.payload)
 lines_with lines Skipped = lines
 lines_with lines Partial = lines
@@ -56,13 +56,13 @@ HasTarget Partial = ⊤
 HasTarget Unread = ⊤
 
 -- The pairs after the frames.
-unfoldable pub all_lines : List (Pair × Tally) → List Found → List (Pair × Tally)
+unfoldable pub all_lines : List (Pair × PairTally) → List Found → List (Pair × PairTally)
 all_lines lines [] = lines
 all_lines lines (found ∷ list) = all_lines (lines_with lines found) list
 
 -- The state of a `Sessions`: the pairs, and the lines of the files at fault.
 pub record SessionState : Type 0 where
-  pub lines : List (Pair × Tally)
+  pub lines : List (Pair × PairTally)
   pub faults : List ℕ
   pub at_fault : Bool
 
@@ -71,7 +71,7 @@ abbrev pub no_sessions : SessionState
 no_sessions = record { lines = []; faults = []; at_fault = false }
 
 -- The state after one more file, which leads to these pairs.
-abbrev pub sessions_with : SessionState → List (Pair × Tally) → List ℕ → Capture → SessionState
+abbrev pub sessions_with : SessionState → List (Pair × PairTally) → List ℕ → Capture → SessionState
 sessions_with s lines name capture = record {
   lines = lines;
   faults = s.faults ++ fault_text name capture.fault;
@@ -90,7 +90,7 @@ all_sessions_taken filter s (file ∷ files) =
     all_sessions_taken filter (sessions_taken filter s file.name file.bytes) files
 
 -- The lines of the pairs.
-abbrev pub lines_text : List (Pair × Tally) → List ℕ
+abbrev pub lines_text : List (Pair × PairTally) → List ℕ
 lines_text lines = flat_map (λ line. pair_text line.0 line.1) lines
 
 -- What is printed after the last file.

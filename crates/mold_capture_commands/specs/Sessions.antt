@@ -13,7 +13,7 @@ use Rattle.mold_capture_commands.specs.Filter.{Found, Passed, Skipped, Partial, 
 use Rattle.mold_capture_commands.specs.Pairs.{distinct, pair_of, readings_of, tally_of}
 use Rattle.mold_capture_commands.specs.declared.filter.CaptureFilter.{CaptureFilter}
 use Rattle.mold_capture_commands.specs.declared.pair.Pair.{Pair}
-use Rattle.mold_capture_commands.specs.declared.tally.Tally.{Tally}
+use Rattle.mold_capture_commands.specs.declared.pair_tally.PairTally.{PairTally}
 
 -- A datagram that passes, followed by others.
 abbrev pub datagram_before : Found → List Datagram → List Datagram
@@ -37,7 +37,7 @@ number_or_none None = codes "none"
 number_or_none (Some number) = decimal number
 
 -- The end of the line of a pair with a session.
-abbrev pub tally_words : Tally → List (List ℕ)
+abbrev pub tally_words : PairTally → List (List ℕ)
 tally_words tally =
     codes "datagrams" ∷ decimal tally.datagrams
     ∷ codes "messages" ∷ number_or_none tally.first ∷ number_or_none tally.last
@@ -45,12 +45,12 @@ tally_words tally =
     ∷ codes "end" ∷ number_or_none tally.end ∷ []
 
 -- The line of a pair after its destination: of the datagrams of a session, or of those that do not encode a packet.
-abbrev pub session_words : Option Session → Tally → List (List ℕ)
+abbrev pub session_words : Option Session → PairTally → List (List ℕ)
 session_words None tally = codes "none" ∷ codes "refused" ∷ decimal tally.datagrams ∷ []
 session_words (Some session) tally = encode_lower session.0 ∷ tally_words tally
 
 -- The line of a pair.
-abbrev pub pair_text : Pair → Tally → List ℕ
+abbrev pub pair_text : Pair → PairTally → List ℕ
 pair_text pair tally = line_of (
     codes "to" ∷ endpoint_text (address_bytes pair.target) pair.port
     ∷ codes "session" ∷ session_words pair.session tally)

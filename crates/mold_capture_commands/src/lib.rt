@@ -1,4 +1,4 @@
-//! The commands over captures: which datagrams pass the filters, and the check and the text of those that pass.
+//! The commands over captures: which datagrams pass the filters, and the check, the text and the sessions of those that pass.
 #![tactic(auto)]
 
 mod address;
@@ -13,12 +13,12 @@ mod frame_show;
 pub mod laws;
 mod pair;
 mod pair_lines;
+mod pair_tally;
 mod session_frames;
 pub mod session_laws;
 mod session_text;
 mod sessions;
 mod shown;
-mod tally;
 mod targets;
 mod watch;
 

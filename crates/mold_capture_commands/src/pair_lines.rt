@@ -13,8 +13,8 @@ ghost use Rattle.mold_devices.specs.Writing.{Moves};
 
 use crate::found::Found;
 use crate::pair::Pair;
+use crate::pair_tally::PairTally;
 use crate::session_text::print_pair;
-use crate::tally::Tally;
 use indexmap::IndexMap;
 use mold_devices::{CommandFault, Sink};
 use mold_wire::{DecodeError, Packet, decode};
@@ -25,7 +25,7 @@ use std::marker::Model;
 /// pair of the last one costs a comparison, any other one a search of a hash table.
 #[derive(Drop)]
 pub(crate) struct PairLines {
-    map: IndexMap<Pair, Tally>,
+    map: IndexMap<Pair, PairTally>,
     // The index of the pair of the last datagram.
     last: usize,
     // The datagrams so far. It stays at `u64::MAX` once it is there.
@@ -35,9 +35,9 @@ pub(crate) struct PairLines {
 impl Model for PairLines {
     ghost use Rattle.std.specs.Prelude.{List};
     ghost use Rattle.mold_capture_commands.specs.declared.pair.Pair.{Pair};
-    ghost use Rattle.mold_capture_commands.specs.declared.tally.Tally.{Tally};
+    ghost use Rattle.mold_capture_commands.specs.declared.pair_tally.PairTally.{PairTally};
 
-    ghost Value = { List (Pair × Tally) };
+    ghost Value = { List (Pair × PairTally) };
 
     ghost view = { λ l. l.map.entries };
 }
@@ -91,7 +91,7 @@ impl PairLines {
         requires { position (same_pair pair) (keys_of self.old) ≡ None }
         ensures { OnOk result (self.new ≡ lines_more self.old pair read.now) }
     {
-        let mut tally = Tally::new();
+        let mut tally = PairTally::new();
         tally.add(read);
         self.map.insert(pair, tally)?;
         Ok(())

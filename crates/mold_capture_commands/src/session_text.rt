@@ -10,7 +10,7 @@ ghost use Rattle.mold_text.specs.Line.{line_of, word_text};
 
 use crate::address::push_endpoint;
 use crate::pair::Pair;
-use crate::tally::Tally;
+use crate::pair_tally::PairTally;
 use mold_devices::{CommandFault, Sink, send_large};
 use mold_text::{Word, push_line};
 use mold_wire::Session;
@@ -35,7 +35,7 @@ fn long_number_word(number: Option<u128>) -> Word<'static>
 }
 
 // Appends the words of a session's tally, and the end of the line.
-fn push_tally(text: &mut Vec<u8>, session: &Session, tally: &Tally) -> Result<(), AllocError>
+fn push_tally(text: &mut Vec<u8>, session: &Session, tally: &PairTally) -> Result<(), AllocError>
     ensures { OnOk result (text.new.items ≡
         text.old.items ++ line_of (codes "session" ∷ encode_lower session.now.0 ∷ tally_words tally.now)) }
 {
@@ -58,7 +58,7 @@ fn push_tally(text: &mut Vec<u8>, session: &Session, tally: &Tally) -> Result<()
 }
 
 // Appends the words of the datagrams that do not encode a packet, and the end of the line.
-fn push_refused(text: &mut Vec<u8>, tally: &Tally) -> Result<(), AllocError>
+fn push_refused(text: &mut Vec<u8>, tally: &PairTally) -> Result<(), AllocError>
     ensures { OnOk result (text.new.items ≡
         text.old.items ++ line_of (codes "session" ∷ session_words None tally.now)) }
 {
@@ -77,7 +77,7 @@ fn push_refused(text: &mut Vec<u8>, tally: &Tally) -> Result<(), AllocError>
 fn push_session(
     text: &mut Vec<u8>,
     session: &Option<Session>,
-    tally: &Tally,
+    tally: &PairTally,
 ) -> Result<(), AllocError>
     ensures { OnOk result (text.new.items ≡
         text.old.items ++ line_of (codes "session" ∷ session_words session.now tally.now)) }
@@ -89,7 +89,7 @@ fn push_session(
 }
 
 // Appends the line of a pair.
-fn push_pair(text: &mut Vec<u8>, pair: &Pair, tally: &Tally) -> Result<(), AllocError>
+fn push_pair(text: &mut Vec<u8>, pair: &Pair, tally: &PairTally) -> Result<(), AllocError>
     ensures { OnOk result (text.new.items ≡ text.old.items ++ pair_text pair.now tally.now) }
 {
     text.extend_from_slice(b"to ")?;
@@ -103,7 +103,7 @@ pub(crate) fn print_pair<K: Sink>(
     sink: &mut K,
     text: &mut Vec<u8>,
     pair: &Pair,
-    tally: &Tally,
+    tally: &PairTally,
 ) -> Result<(), CommandFault>
     ensures moved { OnOk result (Moves (K.held sink.old) (K.held sink.new)
         (text.old.items ++ pair_text pair.now tally.now) text.new.items) }

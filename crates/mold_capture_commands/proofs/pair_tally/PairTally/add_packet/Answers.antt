@@ -1,7 +1,7 @@
 use Rattle.std.proofs.Common.{◌∙◌, Some, max, min}
 use Rattle.mold_capture_commands.specs.Pairs.{greatest, joint, least, numbers_from}
 use Rattle.mold_capture_commands.proofs.PairLemmas.{data_more, end_more, heartbeat_more}
-use Rattle.mold_capture_commands.proofs.tally.Tally.add_packet.Goals as goal
+use Rattle.mold_capture_commands.proofs.pair_tally.PairTally.add_packet.Goals as goal
 
 pub returns-in-Data : goal.returns-in-Data
 returns-in-Data c =

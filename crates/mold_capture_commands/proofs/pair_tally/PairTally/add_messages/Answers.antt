@@ -1,6 +1,6 @@
 use Rattle.std.proofs.Common.{ap, sym, ◌∙◌, max, min}
 use Rattle.mold_capture_commands.specs.Pairs.{joint}
-use Rattle.mold_capture_commands.proofs.tally.Tally.add_messages.Goals as goal
+use Rattle.mold_capture_commands.proofs.pair_tally.PairTally.add_messages.Goals as goal
 
 pub returns : goal.returns
 returns c =

@@ -9,7 +9,7 @@ use mold_wire::{Blocks, Body, DecodeError, Packet};
 
 /// What is counted for the datagrams of a pair. The counts stay at `u64::MAX` once they are there.
 #[derive(Clone, Copy, Debug, PartialEq, Eq)]
-pub(crate) struct Tally {
+pub(crate) struct PairTally {
     pub(crate) datagrams: u64,
     // The least number of a message that a data packet carried.
     pub(crate) first: Option<u64>,
@@ -48,12 +48,12 @@ fn last_number(sequence: u64, blocks: &Blocks<'_>) -> u128
     u128::from(sequence) + u128::from(blocks.len()) - 1
 }
 
-impl Tally {
+impl PairTally {
     /// Returns the tally of no datagram.
-    pub(crate) fn new() -> Tally
+    pub(crate) fn new() -> PairTally
         ensures { result ≡ no_tally }
     {
-        Tally {
+        PairTally {
             datagrams: 0,
             first: None,
             last: None,

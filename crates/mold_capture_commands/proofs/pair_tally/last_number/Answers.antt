@@ -1,6 +1,6 @@
 use Rattle.std.proofs.Common.{arith}
 use Rattle.mold_capture_commands.proofs.PairLemmas.{first_is, last_is}
-use Rattle.mold_capture_commands.proofs.tally.last_number.Goals as goal
+use Rattle.mold_capture_commands.proofs.pair_tally.last_number.Goals as goal
 
 pub returns-clause-first : goal.returns-clause-first
 returns-clause-first c = first_is c.args.sequence c.args.blocks.now c.len.ensures.range.0

@@ -1,7 +1,7 @@
 use Rattle.std.proofs.Common.{ap, sym, ◌∙◌}
 use Rattle.mold_capture_commands.specs.SessionState.{tally_more}
 use Rattle.mold_capture_commands.proofs.PairLemmas.{fault_more}
-use Rattle.mold_capture_commands.proofs.tally.Tally.add.Goals as goal
+use Rattle.mold_capture_commands.proofs.pair_tally.PairTally.add.Goals as goal
 
 pub returns-in-Ok : goal.returns-in-Ok
 returns-in-Ok c = c.add_packet.ensures ∙ ap (tally_more c.args.self.now) (sym c.in-Ok.is)
