@@ -16,8 +16,10 @@ ghost use Rattle.mold_session.specs.declared.error.FileError.{FileError};
 ghost use Rattle.mold_durable.specs.DurableJournal.{CountsCommit};
 ghost use Rattle.mold_durable.specs.Life.{IsFileAround, IsFileOf, Life, Lives, MayHappen, after as after_moment};
 ghost use Rattle.mold_durable.specs.Life.Moment.{Append, Close, Commit, Crash};
+ghost use Rattle.mold_durable.specs.Reading.{OpenFault};
 ghost use Rattle.mold_durable.specs.Storage.{IsWithin, LeavesOnly};
 ghost use Rattle.mold_durable.specs.declared.error.CommitError.{CommitError};
+ghost use Rattle.mold_durable.specs.declared.error.OpenError.{OpenError};
 ghost use Rattle.mold_index.specs.Index.{Indexes};
 ghost use Rattle.mold_indexed_file.specs.Stored.{IsOfJournal};
 ghost use Rattle.mold_durable_publisher.specs.DurablePublisher.{Agrees, HasSameMessages, IsAppendFault, IsOfDevice};
@@ -120,6 +122,8 @@ impl<S: Storage + Drop> DurablePublisher<S> {
         ensures accepted { (life : Life) (bytes : List ℕ) → S.shows storage bytes → IsFileOf life bytes →
             IsLimit limit → AllByRecursion (IsWithinLength (limit - MESSAGE_OVERHEAD)) life.committed →
             IfErr result IsOfDevice }
+        ensures refused { (error : OpenError) (bytes : List ℕ) → result ≡ Err (StartError.Open error) →
+            S.shows storage bytes → OpenFault (limit - MESSAGE_OVERHEAD) bytes error }
         ensures limit { (¬ IsLimit limit) → result ≡ Err StartError.Limit }
         ensures within { result ≡ Err StartError.Limit → ¬ IsLimit limit }
     {
