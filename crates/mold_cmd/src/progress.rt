@@ -1,15 +1,15 @@
-//! How far captures are read, as a line on a terminal.
+//! How far the input is read, as a line on a terminal.
 
 use mold_capture_commands::Watch;
 use std::fs;
 use std::io::{IsTerminal, Write};
 use std::time::Instant;
 
-/// After how many frames the clock is read. Reading it takes about as long as reading a frame.
-const FRAMES: u32 = 64;
+/// After how many calls of `watch` the clock is read. Reading it takes about as long as reading a frame.
+const CALLS: u32 = 64;
 
-/// A line on standard error that states once a second how far captures are read: the bytes, of how many if that is known,
-/// and the datagrams. If standard error is not a terminal, nothing is written.
+/// A line on standard error that states once a second how far the input is read: the bytes, of how many if that is
+/// known, and the datagrams. If standard error is not a terminal, nothing is written.
 #[derive(Drop)]
 pub(crate) struct Progress<'a> {
     rt: &'a HostRuntime,
@@ -17,11 +17,11 @@ pub(crate) struct Progress<'a> {
     last: Option<Instant>,
     // Whether the terminal shows a line.
     shown: bool,
-    frames: u32,
+    calls: u32,
     // The bytes of the captures before the current one, and those of the current one.
     earlier: u64,
     current: u64,
-    // The bytes of all captures, if they are known.
+    // The bytes of the whole input, if they are known.
     size: Option<u64>,
 }
 
@@ -43,7 +43,7 @@ impl<'a> Progress<'a> {
         Progress::new(rt, size_of(rt, captures))
     }
 
-    /// Makes the line of standard input.
+    /// Makes the line of an input of unknown size.
     pub(crate) fn of_unknown(rt: &'a HostRuntime) -> Progress<'a> {
         Progress::new(rt, None)
     }
@@ -58,11 +58,16 @@ impl<'a> Progress<'a> {
             rt,
             last,
             shown: false,
-            frames: 0,
+            calls: 0,
             earlier: 0,
             current: 0,
             size,
         }
+    }
+
+    /// Returns whether a line is ever written.
+    pub(crate) fn is_on(&self) -> bool {
+        self.last.is_some()
     }
 
     /// Begins the next capture.
@@ -99,8 +104,8 @@ impl<'a> Progress<'a> {
 impl Watch for Progress<'_> {
     fn watch(&mut self, bytes: u64, datagrams: u64) {
         self.current = bytes;
-        self.frames = self.frames.wrapping_add(1) % FRAMES;
-        if self.frames != 0 {
+        self.calls = self.calls.wrapping_add(1) % CALLS;
+        if self.calls != 0 {
             return;
         }
         let Some(last) = self.last else {

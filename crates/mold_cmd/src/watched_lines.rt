@@ -30,10 +30,13 @@ impl<'a, S> WatchedLines<'a, S> {
         self.progress.end();
     }
 
-    // Counts the bytes that were read.
+    // Counts the bytes that were read, and the lines in them.
     fn count(&mut self, bytes: &[u8])
         ensures { self.new.source ≡ self.old.source }
     {
+        if !self.progress.is_on() {
+            return;
+        }
         self.bytes = self.bytes.saturating_add(bytes.len() as u64);
         let lines = bytes.iter().filter(|byte| **byte == b'\n').count();
         self.lines = self.lines.saturating_add(lines as u64);
