@@ -1,25 +1,20 @@
-//! Tests of `mold_frame` and `mold_capture_commands`: worked examples of frames and of captures. The expected values are
-//! derived by hand from the RFCs and from the formats.
-//! Tests of captures: worked examples of frames, and of a list of sessions. The expected values of frames are derived by
-//! hand from the RFCs.
 //! Tests of `mold_frame` and `mold_capture_commands`: worked examples of frames and of captures. The expected values
 //! are derived by hand from the RFCs and from the formats.
 #![tactic(auto)]
 
 #[cfg(test)]
-#[cfg(test)]
-#[cfg(test)]
-#[cfg(test)]
-#[cfg(test)]
-#[cfg(test)]
-#[cfg(test)]
-
 mod captures;
+#[cfg(test)]
 mod cases;
+#[cfg(test)]
 mod check;
+#[cfg(test)]
 mod ipv4;
+#[cfg(test)]
 mod ipv6;
+#[cfg(test)]
 mod links;
+#[cfg(test)]
 mod sessions;
+#[cfg(test)]
 mod show;
-
