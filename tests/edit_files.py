@@ -29,6 +29,19 @@ def pairs_of(text):
     return found
 
 
+def replaced(path, text, old, new):
+    """The text with the old text replaced, which is in it exactly once, or is all of exactly one line."""
+    found = text.count(old)
+    if found == 1:
+        return text.replace(old, new)
+    lines = text.split("\n")
+    whole = [k for k, line in enumerate(lines) if line.strip() == old.strip()]
+    if len(whole) != 1:
+        raise ValueError(f"its old text occurs {found} times in {path}, not once")
+    lines[whole[0]] = lines[whole[0]].replace(old.strip(), new.strip())
+    return "\n".join(lines)
+
+
 def changed_texts(folder, text):
     """The texts of the changed files before and after the edit, by path."""
     before, after = {}, {}
@@ -37,8 +50,5 @@ def changed_texts(folder, text):
             raise ValueError(f"{path} is not in src, specs or proofs")
         if path not in before:
             before[path] = after[path] = read(f"{folder}/{path}")
-        found = after[path].count(old)
-        if found != 1:
-            raise ValueError(f"its old text occurs {found} times in {path}, not once")
-        after[path] = after[path].replace(old, new)
+        after[path] = replaced(path, after[path], old, new)
     return before, after
