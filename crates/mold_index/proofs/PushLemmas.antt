@@ -1,5 +1,5 @@
 -- An index after a message was appended.
-use Rattle.std.proofs.Common.{◌≡◌, ◌⊎◌, ℕ, ◌+◌, ◌-◌, ◌<◌, ◌≤◌, Bool, true, false, true≢false, nat_le, List, [], ◌∷◌, ◌++◌, Option, None, Some}
+use Rattle.std.proofs.Common.{◌≡◌, ◌⊎◌, ℕ, ◌+◌, ◌-◌, ◌<◌, ◌≤◌, Bool, true, false, true≢false, nat_le, nat_lt, List, [], ◌∷◌, ◌++◌, Option, None, Some}
 use Rattle.std.proofs.Common.{length, length-append, get_or, slice_get, cond, refl, sym, ap, subst, ◌∙◌, inl, inr, append-nil, ◌||◌, arith}
 use Rattle.std.proofs.lemmas.Bool.{cases_lt}
 use Rattle.std.proofs.lemmas.Bool.Decides.{nat_tests}
@@ -8,10 +8,11 @@ use Rattle.std.proofs.lemmas.List.Elements.{All-push, All-weaker}
 use Rattle.std.proofs.lemmas.List.Quantifiers.{Any-push}
 use Rattle.std.proofs.lemmas.Option.{get_or_from_slice_get, slice_get-get_or, slice_get_within}
 use Rattle.std.specs.List.{AllAdjacentBelow, Any}
-use Rattle.mold_index.specs.Adding.{is_due, next_entry, with_entry}
+use Rattle.mold_index.specs.Adding.{IsRoom, has_room, is_due, next_entry, with_entry}
 use Rattle.mold_index.specs.Index.{AreApart, IndexState, Indexes, IsEntry, IsNear, fresh_index, offset_of}
 use Rattle.mold_index.specs.declared.entry.Entry.{Entry}
 use Rattle.mold_index.specs.declared.layout.Layout.{Layout}
+use Rattle.mold_index.specs.declared.room.Room.{Room}
 use Rattle.mold_index.proofs.OffsetLemmas.{end-push, offset-push}
 
 -- The index with these entries, after a message of `len` bytes.
@@ -239,3 +240,30 @@ pub indexes_as : (index : IndexState) (lengths : List ℕ) (len end : ℕ) (entr
     Indexes (record { layout = index.layout; count = index.count + 1; end = end; entries = entries })
     (lengths ++ len ∷ [])
 indexes_as index lengths len end entries is ends same = rw (ends, same) (indexes_pushed index lengths len is)
+
+-- ---- without a check
+
+-- The room has a message that follows `count` messages and begins at offset `end`.
+abbrev pub IsInRoom : Room → ℕ → ℕ → Type 0
+IsInRoom room count end = (count < room.count) × (end < room.end)
+
+pub room_has : (room : Room) (count end : ℕ) → has_room room count end ≡ true → IsInRoom room count end
+room_has room count end has = (
+  (elim (cases_lt count room.count) [
+    | inl below ↦ below
+    | inr past ↦ absurd (let test : nat_lt count room.count ≡ false = grind (arith, nat_tests, past) in
+        grind (arith, test, has))
+  ]),
+  (elim (cases_lt end room.end) [
+    | inl below ↦ below
+    | inr past ↦ absurd (let test : nat_lt end room.end ≡ false = grind (arith, nat_tests, past) in
+        grind (arith, test, has))
+  ]),
+)
+
+pub indexes_within : (index : IndexState) (room : Room) (lengths : List ℕ) (len end : ℕ) → Indexes index lengths →
+    end ≡ index.end + (index.layout.overhead + len) → IsRoom index.entries room → IsInRoom room index.count index.end →
+    Indexes (record { layout = index.layout; count = index.count + 1; end = end; entries = index.entries })
+    (lengths ++ len ∷ [])
+indexes_within index room lengths len end is ends free within =
+    rw ends (indexes_not_due index lengths len is (free.near index.count index.end within.0 within.1))

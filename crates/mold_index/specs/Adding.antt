@@ -1,5 +1,5 @@
 -- How a message is appended to an index.
-use Rattle.std.specs.Prelude.{ℕ, ◌+◌, ◌-◌, Bool, true, false, ◌==◌, ◌||◌, List, [], ◌∷◌, ◌++◌, length, nat_le, nat_lt, slice_get}
+use Rattle.std.specs.Prelude.{◌≡◌, ℕ, ◌+◌, ◌-◌, ◌<◌, ◌≤◌, Bool, true, false, ◌==◌, ◌||◌, ◌&&◌, List, [], ◌∷◌, ◌++◌, length, nat_le, nat_lt, slice_get}
 use Rattle.std.specs.Prelude.{take}
 use Rattle.std.specs.Prelude.{Option, None, Some, if◌then◌else◌}
 use Rattle.mold_session.specs.declared.journal.TheConstants.{MAX_MESSAGES}
@@ -9,6 +9,8 @@ use Rattle.mold_index.specs.declared.entry.Entry.{Entry}
 use Rattle.mold_index.specs.declared.error.IndexError.{IndexError}
 use Rattle.mold_index.specs.declared.error.IndexError.TheVariants.{Full}
 use Rattle.mold_index.specs.declared.index.TheConstants.{MAX_END}
+use Rattle.mold_index.specs.declared.room.Room.{Room}
+use Rattle.mold_index.specs.declared.room.TheConstants.{MOST_BYTES}
 
 -- Whether the index has no room for another message, of `len` bytes.
 abbrev pub is_full : IndexState → ℕ → Bool
@@ -51,3 +53,14 @@ without_above number entries =
 abbrev pub offset_or : Option Entry → ℕ → ℕ
 offset_or None end = end
 offset_or (Some entry) end = entry.offset
+
+-- Whether a message is taken without a check that follows `count` messages and begins at offset `end`.
+abbrev pub has_room : Room → ℕ → ℕ → Bool
+has_room room count end = nat_lt count room.count && nat_lt end room.end
+
+-- Each of these messages needs no entry after the entries, and the file is not full.
+pub record IsRoom (entries : List Entry) (room : Room) : Type 0 where
+  pub few : room.count ≤ MAX_MESSAGES
+  pub below : room.end + MOST_BYTES ≤ MAX_END
+  pub near : (count end : ℕ) → count < room.count → end < room.end →
+      is_due (slice_get entries (length entries - 1)) (record { number = count + 1; offset = end }) ≡ false

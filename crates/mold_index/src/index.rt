@@ -13,6 +13,7 @@ use crate::entry::Entry;
 use crate::error::IndexError;
 use crate::layout::Layout;
 use crate::piece::Piece;
+use crate::room::{Room, room_after};
 use mold_session::MAX_MESSAGES;
 use std::alloc::Global;
 use std::marker::Model;
@@ -31,9 +32,12 @@ pub struct Index {
     // The offset at which the last message ends.
     end: u64,
     entries: Vec<Entry>,
+    // Which messages `push` takes without a check.
+    room: Room,
 }
 
 impl Model for Index {
+    ghost use Rattle.mold_index.specs.Adding.{IsRoom};
     ghost use Rattle.mold_index.specs.Index.{IndexState, IsIndex};
 
     ghost Value = { IndexState };
@@ -41,7 +45,8 @@ impl Model for Index {
     ghost view = { λ i. record { layout = i.layout; count = i.count; end = i.end; entries = i.entries.items } };
 
     ghost invariant = { λ i.
-        IsIndex (record { layout = i.layout; count = i.count; end = i.end; entries = i.entries.items }) };
+        IsIndex (record { layout = i.layout; count = i.count; end = i.end; entries = i.entries.items })
+        × IsRoom i.entries.items i.room };
 }
 
 impl Index {
@@ -54,6 +59,7 @@ impl Index {
             count: 0,
             end: u64::from(layout.start),
             entries: Vec::new(alloc),
+            room: Room::none(),
         }
     }
 
@@ -81,11 +87,8 @@ impl Index {
         self.end
     }
 
-    /// Appends a message of `len` bytes: the next one of the file. After an error the index is unchanged.
-    ///
-    /// It allocates only if the message needs an entry and the memory of the entries is full. Otherwise it takes
-    /// constant time.
-    pub fn push(&mut self, len: u16) -> Result<(), IndexError>
+    // Appends a message, which may need an entry.
+    fn push_checked(&mut self, len: u16) -> Result<(), IndexError>
         ensures indexes { (lengths : List ℕ) → Indexes self.old lengths →
             OnOk result (Indexes self.new (lengths ++ len ∷ [])) }
         ensures layout { self.new.layout ≡ self.old.layout }
@@ -106,8 +109,32 @@ impl Index {
         if let Err(_) = add_if_due(&mut self.entries, next) {
             return Err(IndexError::Memory);
         }
+        self.room = room_after(&self.entries);
         self.count += 1;
         self.end += size;
+        Ok(())
+    }
+
+    /// Appends a message of `len` bytes: the next one of the file. After an error the index is unchanged.
+    ///
+    /// It allocates only if the message needs an entry and the memory of the entries is full. Otherwise it takes
+    /// constant time.
+    // For the optimizer: most messages need no entry, and then two comparisons replace all checks.
+    pub fn push(&mut self, len: u16) -> Result<(), IndexError>
+        ensures indexes { (lengths : List ℕ) → Indexes self.old lengths →
+            OnOk result (Indexes self.new (lengths ++ len ∷ [])) }
+        ensures layout { self.new.layout ≡ self.old.layout }
+        ensures ok { OnOk result (push_refusal self.old len ≡ None) }
+        ensures refused { IfErr result (λ error.
+            error ≡ unwrap_or (push_refusal self.old len) IndexError.Memory) }
+        ensures same { OnErr result (self.new ≡ self.old) }
+        ensures succeeds { push_refusal self.old len ≡ None → needs_entry self.old ≡ false → IsOk result }
+    {
+        if !self.room.has(self.count, self.end) {
+            return self.push_checked(len);
+        }
+        self.count += 1;
+        self.end += u64::from(self.layout.overhead) + u64::from(len);
         Ok(())
     }
 
@@ -120,6 +147,7 @@ impl Index {
     {
         self.count -= 1;
         self.end -= u64::from(self.layout.overhead) + u64::from(len);
+        self.room = Room::none();
         remove_above(&mut self.entries, self.count);
     }
 

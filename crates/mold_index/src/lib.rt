@@ -9,6 +9,7 @@ mod index;
 pub mod laws;
 mod layout;
 mod piece;
+mod room;
 mod scan;
 
 pub use entries::{STRIDE_BYTES, STRIDE_MESSAGES};

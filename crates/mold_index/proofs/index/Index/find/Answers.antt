@@ -16,7 +16,7 @@ state c = record {
 split : (c : After-count_up_to-above) → IsSplit c.self.inside.entries.items c.args.number c.count_up_to-above.result
 split c =
     split_of c.self.inside.entries.items c.deref.result.now c.args.number c.count_up_to-above.result c.deref.ensures.value
-    c.self.invariant.indexes.apart c.count_up_to-above.ensures.split
+    c.self.invariant.0.indexes.apart c.count_up_to-above.ensures.split
 
 -- The file has the message.
 there : (c : After-count_up_to-above) → HasNumber (state c) c.args.number
@@ -28,8 +28,8 @@ there c =
 pub overflow_sub-above : goal.overflow_sub-above
 overflow_sub-above c =
     let has = there c in
-    some_up_to (state c) c.self.invariant.lengths c.args.number c.count_up_to-above.result c.self.invariant.indexes has.0
-    (omega (arith, has.1, c.self.invariant.indexes.counted)) (split c)
+    some_up_to (state c) c.self.invariant.0.lengths c.args.number c.count_up_to-above.result c.self.invariant.0.indexes has.0
+    (omega (arith, has.1, c.self.invariant.0.indexes.counted)) (split c)
 
 pub returns-clause-found : goal.returns-clause-found
 returns-clause-found c = λ lengths is.

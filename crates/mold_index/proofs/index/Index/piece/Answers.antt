@@ -20,7 +20,7 @@ state c = record {
 split : (c : After-count_up_to-above) → IsSplit c.self.inside.entries.items c.args.from c.count_up_to-above.result
 split c =
     split_of c.self.inside.entries.items c.deref.result.now c.args.from c.count_up_to-above.result c.deref.ensures.value
-    c.self.invariant.indexes.apart c.count_up_to-above.ensures.split
+    c.self.invariant.0.indexes.apart c.count_up_to-above.ensures.split
 
 -- The file has message `from`.
 there : (c : After-count_up_to-above) → HasNumber (state c) c.args.from
@@ -32,8 +32,8 @@ there c =
 some : (c : After-count_up_to-above) → 0 < c.count_up_to-above.result
 some c =
     let has = there c in
-    some_up_to (state c) c.self.invariant.lengths c.args.from c.count_up_to-above.result c.self.invariant.indexes has.0
-    (omega (arith, has.1, c.self.invariant.indexes.counted)) (split c)
+    some_up_to (state c) c.self.invariant.0.lengths c.args.from c.count_up_to-above.result c.self.invariant.0.indexes has.0
+    (omega (arith, has.1, c.self.invariant.0.indexes.counted)) (split c)
 
 bound : (c : After-count_up_to-above) → c.count_up_to-above.result ≤ length c.self.inside.entries.items
 bound c = omega (arith, c.count_up_to-above.ensures.bound, ap (λ (t : List Entry). length t) c.deref.ensures.value)
@@ -60,7 +60,7 @@ state_at c = record {
 split_to : (c : After-min) → IsSplit c.self.inside.entries.items (c.args.to - 1) c.count_up_to.result
 split_to c =
     split_of c.self.inside.entries.items c.deref-4.result.now (c.args.to - 1) c.count_up_to.result c.deref-4.ensures.value
-    c.self.invariant.indexes.apart c.count_up_to.ensures.split
+    c.self.invariant.0.indexes.apart c.count_up_to.ensures.split
 
 -- The piece ends there.
 ends : (c : After-min) → c.min.result
@@ -68,7 +68,7 @@ ends : (c : After-min) → c.min.result
     (min (stop_at (state_at c) c.count_up_to-above.result) (c.index-entry.result.now.offset + 32767) + c.args.most)
     (stop_at (state_at c) c.count_up_to.result)
 ends c =
-    let inv = c.self.invariant in
+    let inv = c.self.invariant.0 in
     let one : c.offset_or.result ≡ stop_at (state_at c) c.count_up_to-above.result =
     c.offset_or.ensures
     ∙ ap (λ (t : List Entry). offset_or (slice_get t c.count_up_to-above.result) c.self.inside.end) c.deref-2.ensures.value
@@ -98,7 +98,7 @@ overflow_sub-result c =
     let e = goal.at.overflow_sub-result c in
     let m = e.After-min in
     let d = e.After-count_up_to-above in
-    let inv = c.self.invariant in
+    let inv = c.self.invariant.0 in
     let leads = leads_there d inv.lengths c.index-entry.result.now inv.indexes c.index-entry.ensures in
     let one =
     begins_before (state d) inv.lengths c.args.from (c.args.from + 1) c.count_up_to-above.result c.index-entry.result.now

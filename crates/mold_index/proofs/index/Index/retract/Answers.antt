@@ -11,14 +11,16 @@ invariant_of-self c =
     omega (arith, c.from.ensures, c.from-2.ensures) in
     let lengths = c.requires.last.lengths in
     let was : Indexes old (lengths ++ c.args.len ∷ []) =
-    subst (λ (s : IndexState). Indexes s (lengths ++ c.args.len ∷ [])) (sym c.self.view_is) c.requires.last.indexes in
-    record {
-      lengths = lengths;
-      indexes = shrunk_as old lengths c.args.len (f.end - (c.from.result + c.from-2.result))
-          c.remove_above.new.entries.items was (omega (arith, size)) c.remove_above.ensures;
-      few = omega (arith, c.self.invariant.few);
-      below = omega (arith, c.self.invariant.below);
-    }
+    subst (λ (s : IndexState). Indexes s (lengths ++ c.args.len ∷ [])) (sym c.self.view_is) c.requires.last.indexes in (
+      record {
+        lengths = lengths;
+        indexes = shrunk_as old lengths c.args.len (f.end - (c.from.result + c.from-2.result))
+            c.remove_above.new.entries.items was (omega (arith, size)) c.remove_above.ensures;
+        few = omega (arith, c.self.invariant.0.few);
+        below = omega (arith, c.self.invariant.0.below);
+      },
+      c.none-self-inside.ensures c.remove_above.new.entries.items,
+    )
 
 pub returns-clause-indexes : goal.returns-clause-indexes
 returns-clause-indexes c = λ lengths is.
