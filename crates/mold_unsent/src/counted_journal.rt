@@ -1,6 +1,6 @@
 //! The journal of a session of which no message is in memory.
 
-ghost use Rattle.std.specs.Prelude.{◌≡◌, ◌+◌, ◌<◌, ◌++◌, true, None, Some, length, IfErr, IfOk};
+ghost use Rattle.std.specs.Prelude.{◌≡◌, ◌+◌, ◌<◌, ◌++◌, true, false, None, Some, length, IfErr, IfOk};
 ghost use Rattle.std.specs.Prelude.{OnErr, OnOk};
 ghost use Rattle.std.specs.List.{AllByRecursion};
 ghost use Rattle.mold_wire.specs.declared.limits.TheConstants.{MAX_NUMBER};
@@ -104,6 +104,16 @@ impl CountedJournal {
         self.forgotten = self.forgotten.and(&Message { bytes: message });
         self.count += 1;
         Ok(self.count)
+    }
+
+    /// Appends a message that the journal can take, which may then be removed from memory. It only counts the message.
+    pub fn append_within(&mut self, message: &[u8])
+        requires is_open { self.old.closed ≡ false }
+        requires journal { IsJournal (appended self.old message.now) }
+        ensures { self.new ≡ appended self.old message.now }
+    {
+        self.forgotten = self.forgotten.and(&Message { bytes: message });
+        self.count += 1;
     }
 
     /// Appends the messages of a list, which may then be removed from memory.
