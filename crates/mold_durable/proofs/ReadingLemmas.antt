@@ -153,7 +153,7 @@ records_one messages message =
     ∙ sym (records-append messages (message ∷ []))
 
 -- The message of a record follows its first four bytes.
-record_message : (message behind rest : List ℕ) (len : ℕ) → rest ≡ record_of message ++ behind → behind ≡ drop len rest →
+pub record_message : (message behind rest : List ℕ) (len : ℕ) → rest ≡ record_of message ++ behind → behind ≡ drop len rest →
     len ≤ length rest → take (len - 4) (drop 4 rest) ≡ message
 record_message message behind rest len parts is fits =
     let long : length message ≡ len - 4 =

@@ -3,6 +3,7 @@
 ghost use Rattle.std.specs.Prelude.{◌≡◌, ◌≤◌, false, length, true, IfOk, OnOk};
 ghost use Rattle.mold_session.specs.Journal.{IsJournal, JournalState, appended, fresh_journal};
 ghost use Rattle.mold_wire.specs.declared.block.TheConstants.{MAX_MESSAGE};
+ghost use Rattle.mold_durable.specs.MessageTaker.{MayTake};
 
 use mold_wire::Session;
 use std::alloc::{AllocError, Global};
@@ -19,7 +20,8 @@ pub trait MessageTaker: Drop {
 
     /// Takes the next message. After an error, the journal is not opened.
     fn take(&mut self, message: &[u8]) -> Result<(), AllocError>
-        requires { length message.now ≤ MAX_MESSAGE }
+        requires length { length message.now ≤ MAX_MESSAGE }
+        requires is_open { MayTake holds self.old message.now }
         ensures { (journal : JournalState) → holds self.old journal → journal.closed ≡ false →
             IsJournal (appended journal message.now) →
             OnOk result (holds self.new (appended journal message.now)) };

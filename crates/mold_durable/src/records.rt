@@ -5,7 +5,7 @@ ghost use Rattle.mold_wire.specs.declared.limits.TheConstants.{MAX_NUMBER};
 ghost use Rattle.mold_session.specs.Checking.{HasBlock, HasRecord};
 ghost use Rattle.mold_session.specs.FileFault.{RecordFault};
 ghost use Rattle.mold_session.specs.declared.journal.TheConstants.{MAX_MESSAGES};
-ghost use Rattle.mold_durable.specs.MessageTaker.{HasTaken};
+ghost use Rattle.mold_durable.specs.MessageTaker.{HasTaken, HoldsOpen};
 ghost use Rattle.mold_durable.specs.Reading.{IsNextRecord, SkipsRecords, file_error};
 
 use crate::error::OpenError;
@@ -77,11 +77,8 @@ fn whole_record(most: u16, rest: &[u8]) -> Option<usize>
         return None;
     }
     let (head, body) = rest.split_at(RECORD_HEAD);
-    let number = BigEndian::read_u32(head);
-    if number < EMPTY_RECORD {
-        return None;
-    }
-    let len = number - EMPTY_RECORD;
+    // For the optimizer: the number of another record wraps around to more than any length, so one comparison suffices.
+    let len = BigEndian::read_u32(head).wrapping_sub(EMPTY_RECORD);
     if len > u32::from(most) || body.len() < len as usize {
         return None;
     }
@@ -142,7 +139,8 @@ pub fn skip_records<T: MessageTaker>(
     bytes: &[u8],
     taker: &mut T,
 ) -> Result<Skipped, AllocError>
-    requires { start < MAX_NUMBER }
+    requires few { start < MAX_NUMBER }
+    requires is_open { HoldsOpen T.holds most start taker.old }
     ensures { IfOk result
         (SkipsRecords (HasTaken T.holds false taker.old taker.new) most start bytes.now) }
 {

@@ -4,7 +4,7 @@ ghost use Rattle.std.specs.Prelude.{◌≡◌, ◌⊎◌, ◌+◌, ◌<◌, ◌�
 ghost use Rattle.mold_wire.specs.declared.limits.TheConstants.{MAX_NUMBER};
 ghost use Rattle.mold_session.specs.Journal.{fresh_journal};
 ghost use Rattle.mold_session.specs.Records.{head_3};
-ghost use Rattle.mold_durable.specs.MessageTaker.{HasTaken, continued};
+ghost use Rattle.mold_durable.specs.MessageTaker.{HasTaken, HoldsOpen, continued};
 ghost use Rattle.mold_durable.specs.Reading.{CountsOpen, HasReadAll, HeadFault, IsOfDevice, IsRecordsError, OpenFault};
 ghost use Rattle.mold_durable.specs.Reading.{ReadsPiece};
 ghost use Rattle.mold_durable.specs.Storage.{IsWithin, OnlyReads};
@@ -67,7 +67,8 @@ fn read_piece<S: Storage, T: MessageTaker>(
     read: Records,
     taker: &mut T,
 ) -> Result<Skipped, OpenError>
-    requires { read.count < MAX_NUMBER }
+    requires few { read.count < MAX_NUMBER }
+    requires is_open { HoldsOpen T.holds most read.count taker.old }
     ensures read { OnlyReads S.shows S.may_leave S.moment S.left_since storage.old storage.new }
     ensures found { IfOk result (ReadsPiece (S.shows storage.old) (HasTaken T.holds false taker.old taker.new) most
         read.count read.end (length buffer.new)) }
@@ -91,7 +92,8 @@ fn read_records<S: Storage, T: MessageTaker>(
     most: u16,
     taker: &mut T,
 ) -> Result<Records, OpenError>
-    requires { 65539 ≤ length buffer.old }
+    requires long { 65539 ≤ length buffer.old }
+    requires is_open { HoldsOpen T.holds most 0 taker.old }
     ensures read { OnlyReads S.shows S.may_leave S.moment S.left_since storage.old storage.new }
     ensures near { IfOk result (λ found. found.end < 2 ^ 63) }
     ensures found { IfOk result (λ found. HasReadAll (S.shows storage.old)

@@ -110,7 +110,7 @@ impl Index {
             return Err(IndexError::Memory);
         }
         self.room = room_after(&self.entries);
-        self.count += 1;
+        self.count = next.number;
         self.end += size;
         Ok(())
     }

@@ -56,15 +56,10 @@ impl MessageTaker for StoredJournal {
         let Ok(()) = self.index.push(message.len() as u16) else {
             return Err(AllocError);
         };
-        match self.journal.append(message) {
-            Ok(_) => {
-                // For the prover: it states that the journal is one.
-                let _count = self.journal.count();
-                Ok(())
-            }
-            // For the prover: the journal is open and takes the message.
-            Err(_) => Err(AllocError),
-        }
+        self.journal.append_within(message);
+        // For the prover: it states that the journal is one.
+        let _count = self.journal.count();
+        Ok(())
     }
 
     fn close(&mut self) {

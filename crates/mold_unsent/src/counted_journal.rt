@@ -101,8 +101,7 @@ impl CountedJournal {
         if self.count == MAX_MESSAGES {
             return Err(AppendError::Full);
         }
-        self.forgotten = self.forgotten.and(&Message { bytes: message });
-        self.count += 1;
+        self.append_within(message);
         Ok(self.count)
     }
 

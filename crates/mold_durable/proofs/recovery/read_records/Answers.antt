@@ -53,7 +53,7 @@ returns-then-skipped-eq0-clause-refused g c =
     c.in-Ok.skipped c.pieces.invariant.read.shown.1 c.in-Ok.ensures.found in
     inr (read_fault shows earlier later c.args.most c.pieces.count c.pieces.end size c.in-Ok.skipped
     c.pieces.invariant.found next c.in-Err-stop.error (omega (arith, c.ranges.most.fits))
-    (omega (arith, c.requires, c.pieces.auto.buffer, c.read_piece.auto.buffer)) c.if-skipped-eq0.true c.in-Err-stop.is)
+    (omega (arith, c.requires.long, c.pieces.auto.buffer, c.read_piece.auto.buffer)) c.if-skipped-eq0.true c.in-Err-stop.is)
 
 pub pieces-preserved : goal.pieces-preserved
 pieces-preserved g c =
