@@ -88,6 +88,8 @@ impl Index {
     }
 
     // Appends a message, which may need an entry.
+    // For the optimizer: `push` without this code is inlined.
+    #[inline(never)]
     fn push_checked(&mut self, len: u16) -> Result<(), IndexError>
         ensures indexes { (lengths : List ℕ) → Indexes self.old lengths →
             OnOk result (Indexes self.new (lengths ++ len ∷ [])) }
@@ -120,6 +122,7 @@ impl Index {
     /// It allocates only if the message needs an entry and the memory of the entries is full. Otherwise it takes
     /// constant time.
     // For the optimizer: most messages need no entry, and then two comparisons replace all checks.
+    #[inline(always)]
     pub fn push(&mut self, len: u16) -> Result<(), IndexError>
         ensures indexes { (lengths : List ℕ) → Indexes self.old lengths →
             OnOk result (Indexes self.new (lengths ++ len ∷ [])) }
