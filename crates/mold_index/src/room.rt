@@ -16,7 +16,9 @@ pub const MOST_BYTES: u64 = 131_070;
 /// full.
 #[derive(Clone, Copy)]
 pub struct Room {
+    /// The number of messages, of which fewer have to precede the message.
     pub count: u64,
+    /// The offset in the file, in bytes, before which the message has to begin.
     pub end: u64,
 }
 
