@@ -37,19 +37,21 @@ namespace {
 /// The number of messages of a datagram that a checker takes or refuses.
 constexpr std::size_t at_once = 32;
 
-/// A checker that has taken the messages 1, 3, 5 and so on, each of which is a run, and one run above them.
+/// A checker that has taken the messages 1, 3, 5 and so on, each of which is a run, and one run above them. Message 1 has
+/// one byte and all others have none, so the checker stores where each message after it ends.
 class Checker {
 public:
-    /// The last run leaves room for eight more messages in the list of offsets, whose capacity is a power of two.
+    /// The last run leaves room for eight more messages in the list of ends, whose capacity is a power of two. Message 1
+    /// is not in it.
     explicit Checker(std::uint64_t runs) : runs_(runs) {
         if (mold_checker_new(&checker_) != MOLD_DONE)
             stop("the checker cannot be made");
         for (std::uint64_t i = 0; i < runs; i++)
-            take(datagram(2 * i + 1, 1, 0), MOLD_DONE);
+            take(datagram(2 * i + 1, 1, i == 0 ? 1 : 0), MOLD_DONE);
         std::uint64_t room = 1;
         while (room < runs + 9)
             room *= 2;
-        take(datagram(2 * runs + 1, room - 8 - runs, 0), MOLD_DONE);
+        take(datagram(2 * runs + 1, room - 7 - runs, 0), MOLD_DONE);
         next_ = runs + room;
     }
 

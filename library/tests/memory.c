@@ -1,7 +1,7 @@
 /* Counts the bytes that the library holds: a listener's batch, a publisher, a server of a journal and a checker, with
  * messages of 8, 40 and 1,400 bytes, and a listener's store. tests/library compares the output with docs/LIBRARY.md.
  *
- *     cd library/tests && cc -std=c99 memory.c ../out/libmold.a -o memory && ./memory 10 8 8 8 55 16 1024
+ *     cd library/tests && cc -std=c99 memory.c ../out/libmold.a -o memory && ./memory 10 8 8 4 55 16 1024
  *
  * The arguments are the figures of LIBRARY: the bytes for each message besides its own, of a batch, a publisher, a
  * server and a checker; the bytes for each run of a checker, and for each missing range; and the bytes for everything
@@ -161,17 +161,20 @@ static void count_server(size_t length) {
     print("server", length, found);
 }
 
-/* Besides: the bytes for each run. Each datagram is one run. */
+/* Besides: the bytes for each run. Datagrams that descend are one run each, and others extend the only run. Message 1 has
+ * another length, so each message after it takes bytes for its end. */
 static void count_checker(size_t length, uint16_t at_once, bool descends) {
     mold_checker checker = MOLD_EMPTY;
     seen found = {0, 0};
     size_t runs = count_of(length) / at_once;
     CODE(mold_checker_new(&checker), MOLD_DONE);
+    take_all(&checker, packet_of(1, 1, length + 1));
     most = held;
     for (size_t run = 0; run < runs; run++) {
         size_t at = descends ? runs - 1 - run : run;
-        take_all(&checker, packet_of(at * at_once + 1, at_once, length));
-        measure(&found, (run + 1) * at_once * (length + checker_message), (run + 1) * checker_run);
+        take_all(&checker, packet_of(at * at_once + 2, at_once, length));
+        measure(&found, length + 1 + (run + 1) * at_once * (length + checker_message),
+                (descends ? run + 2 : 1) * checker_run);
     }
     mold_free(&checker);
     CHECK(held == 0);

@@ -10,3 +10,6 @@ pub mod GapLemmas
 pub mod CheckerLemmas
 pub mod CheckLemmas
 pub mod OutcomeLemmas
+pub mod OffsetLemmas
+pub mod EndLemmas
+pub mod KeptLemmas

@@ -11,13 +11,13 @@ use Rattle.std.specs.Option.{option_or}
 use Rattle.std.specs.Ordering.{nat_cmp, is_gt}
 use Rattle.std.specs.declared.cmp.Ordering.TheVariants.{Less, Equal}
 use Rattle.std.proofs.lemmas.Bool.{true≢false, cases_order, cases_eq, cond-true, cond-false, eq-eqb, ne_eqb}
-use Rattle.std.proofs.lemmas.List.{length-take}
+use Rattle.std.proofs.lemmas.List.{length-take, length-drop}
 use Rattle.std.proofs.lemmas.List.Elements.{All-head, All-tail}
 use Rattle.std.proofs.lemmas.Map.Views.{All-found}
 use Rattle.std.proofs.lemmas.Option.{none-some, same_Some, slice_get-get_or}
 use Rattle.mold_wire.specs.Truth.{message_at}
 use Rattle.mold_capture.specs.declared.run.Run.{Run}
-use Rattle.mold_capture.specs.Runs.{Runs, messages_in, run_pairs, pairs_of, HasRun, AreRuns, Covers}
+use Rattle.mold_capture.specs.Runs.{Runs, messages_in, run_pairs, pairs_of, HasRun, AreRuns, Covers, AreFreeFrom}
 use Rattle.mold_capture.specs.Seen.{numbered}
 use Rattle.mold_capture.proofs.PairLemmas.{option_cases, option_or_cases, option_or_first, option_or_second}
 use Rattle.mold_capture.proofs.PairLemmas.{lookup-numbered, lookup-append, get_made, message_below, message_within}
@@ -37,7 +37,8 @@ lookup_at q (e ∷ es) =
     ap (λ (b : Bool). cond b (Some e.1) (lookup (is_at (nat_cmp q)) es)) (unsigned_tied q e.0)
     ∙ ap (cond (eqb q e.0) (Some e.1)) (lookup_at q es)
 
-slice_get_part : (kept : List (List ℕ)) (start count i : ℕ) → i < count →
+-- A message of a part of the list.
+pub slice_get_part : (kept : List (List ℕ)) (start count i : ℕ) → i < count →
     slice_get (take count (drop start kept)) i ≡ slice_get kept (start + i)
 slice_get_part kept start zero i within = absurd (omega arith)
 slice_get_part [] zero (suc count) i within = refl
@@ -204,3 +205,52 @@ uncovered_at runs kept are q none =
           let at = at_pairs runs kept are q some.0 some.1 in
           absurd (none at.first at.run at.there at.covers)
     ]
+
+-- The numbers from one that no run has or exceeds have no carried messages.
+pub free_from : (runs : Runs) (kept : List (List ℕ)) → AreRuns runs (length kept) → (n : ℕ) → AreFreeFrom runs n →
+    (k : ℕ) → n ≤ k → finite.get (pairs_of runs.entries kept) k ≡ None
+free_from runs kept are n free k low =
+    uncovered_at runs kept are k (λ f run has covers. free f run k has covers low)
+
+-- The first message of a part of the list, and those after it.
+pub part_first : (kept : List (List ℕ)) (start count : ℕ) (m : List ℕ) → slice_get kept start ≡ Some m → 0 < count →
+    take count (drop start kept) ≡ m ∷ take (count - 1) (drop (start + 1) kept)
+part_first [] start count m is some = absurd (none-some m is)
+part_first (x ∷ kept) zero zero m is some = absurd (omega arith)
+part_first (x ∷ kept) zero (suc count) m is some =
+    let rest : count ≡ suc count - 1 = omega arith in
+    λ i. same_Some x m is i ∷ take (rest i) kept
+part_first (x ∷ kept) (suc start) count m is some =
+    let next : suc (start + 1) ≡ suc start + 1 = omega arith in
+    part_first kept start count m is some ∙ ap (λ (n : ℕ). m ∷ take (count - 1) (drop n (x ∷ kept))) next
+
+-- The messages of a run from an index on.
+pub record IsRest (runs : Runs) (kept : List (List ℕ)) (first : ℕ) (run : Run) (skip : ℕ) (rest : List (List ℕ)) : Type 0 where
+  pub are : AreRuns runs (length kept)
+  pub there : HasRun runs first run
+  pub within : skip < run.count
+  pub is : rest ≡ take (run.count - skip) (drop (run.start + skip) kept)
+
+pub length-rest : (runs : Runs) (kept : List (List ℕ)) (first : ℕ) (run : Run) (skip : ℕ) (rest : List (List ℕ)) →
+    IsRest runs kept first run skip rest → length rest ≡ run.count - skip
+length-rest runs kept first run skip rest it =
+    let inside = it.are.inside first run it.there in
+    omega (
+      arith,
+      inside,
+      it.within,
+      ap (λ (t : List (List ℕ)). length t) it.is,
+      length-take (run.count - skip) (drop (run.start + skip) kept),
+      length-drop (run.start + skip) kept,
+    )
+
+pub carried_rest : (runs : Runs) (kept : List (List ℕ)) (first : ℕ) (run : Run) (skip : ℕ) (rest : List (List ℕ)) →
+    IsRest runs kept first run skip rest → (i : ℕ) → i < length rest
+    → finite.get (pairs_of runs.entries kept) (first + skip + i) ≡ slice_get rest i
+carried_rest runs kept first run skip rest it i within =
+    let long = length-rest runs kept first run skip rest it in
+    let index : run.start + (first + skip + i - first) ≡ run.start + skip + i = omega arith in
+    covered_at runs kept it.are (first + skip + i) first run it.there (omega arith, omega (arith, within, long, it.within))
+    ∙ ap (slice_get kept) index
+    ∙ sym (slice_get_part kept (run.start + skip) (run.count - skip) i (omega (arith, within, long)))
+    ∙ ap (λ (t : List (List ℕ)). slice_get t i) (sym it.is)

@@ -5,3 +5,6 @@ pub mod Verdict
 pub mod Check
 pub mod Runs
 pub mod Outcome
+pub mod Offsets
+pub mod Ends
+pub mod Kept

@@ -6,7 +6,6 @@ use Rattle.std.specs.BTreeMap as tree
 use Rattle.std.specs.BTreeMap.{BTreeMap, is_at}
 use Rattle.std.specs.FinMap as finite
 use Rattle.std.specs.Ordering.{nat_cmp}
-use Rattle.mold_messages.specs.Listed.{Listed}
 use Rattle.mold_capture.specs.Seen.{Pairs, numbered}
 use Rattle.mold_capture.specs.declared.run.Run.{Run}
 
@@ -27,8 +26,8 @@ unfoldable pub pairs_of : List (ℕ × Run) → List (List ℕ) → Pairs
 pairs_of entries kept = finite.from_entries (run_pairs entries kept)
 
 -- The carried messages by sequence number.
-abbrev pub carried : Runs → Listed → Pairs
-carried runs kept = pairs_of runs.entries kept.messages
+abbrev pub carried : Runs → List (List ℕ) → Pairs
+carried runs kept = pairs_of runs.entries kept
 
 -- The map has the run at the number `first`.
 abbrev pub HasRun : Runs → ℕ → Run → Type 0
@@ -59,6 +58,11 @@ Covers first run number = (first ≤ number) × (number < first + run.count)
 abbrev pub AreFree : Runs → ℕ → ℕ → Type 0
 AreFree runs first top = (f : ℕ) (run : Run) (number : ℕ) → HasRun runs f run → Covers f run number →
     first ≤ number → number < top → ⊥
+
+-- No run has the number `first` or a larger one.
+abbrev pub AreFreeFrom : Runs → ℕ → Type 0
+AreFreeFrom runs first = (f : ℕ) (run : Run) (number : ℕ) → HasRun runs f run → Covers f run number →
+    first ≤ number → ⊥
 
 -- The map `now` is the map `runs` with the run inserted at the number `f`, or replaced there.
 abbrev pub IsPut : Runs → ℕ → Run → Runs → Type 0

@@ -1,7 +1,7 @@
 //! The messages that the accepted datagrams carry, by sequence number.
 
 ghost use Rattle.std.specs.Prelude.{◌≡◌, ◌+◌, ◌-◌, ◌<◌, ◌≤◌, ◌^◌, length, List, ℕ, None, Some, IfOk, IfErr, OnOk};
-ghost use Rattle.std.specs.Prelude.{OnErr};
+ghost use Rattle.std.specs.Prelude.{OnErr, IfNone, IfSome, slice_get};
 ghost use Rattle.std.specs.FinMap as finite;
 ghost use Rattle.std.specs.Ordering.{nat_cmp};
 ghost use Rattle.mold_rule.specs.Ranges as lacking;
@@ -11,12 +11,14 @@ ghost use Rattle.mold_capture.specs.Seen.{BringNew, pairs_with};
 ghost use Rattle.mold_rule.specs.declared.refusal.Refusal.TheVariants.{Memory};
 ghost use Rattle.mold_capture.specs.Verdict.{lacks, ranges_of};
 
+use crate::carried_messages::CarriedMessages;
+use crate::carried_run::CarriedRun;
 use crate::compare::compare;
 use crate::keep::{add_all, add_each};
+use crate::kept::Kept;
 use crate::missing::find_gaps;
-use crate::run::{Run, is_free};
+use crate::run::{Run, find_from, is_free};
 use crate::verdict::Range;
-use mold_messages::MessageList;
 use mold_rule::Refusal;
 use mold_rule::laws::ranges_walk_law;
 use mold_wire::Blocks;
@@ -29,7 +31,7 @@ use std::marker::Model;
 #[derive(Drop)]
 pub(crate) struct Carried {
     runs: BTreeMap<u64, Run>,
-    kept: MessageList,
+    kept: Kept,
 }
 
 impl Model for Carried {
@@ -46,7 +48,7 @@ impl Model for Carried {
 
     ghost view = { λ c. carried c.runs c.kept };
 
-    ghost invariant = { λ c. AreRuns c.runs (length c.kept.messages) };
+    ghost invariant = { λ c. AreRuns c.runs (length c.kept) };
 }
 
 impl Carried {
@@ -56,7 +58,7 @@ impl Carried {
     {
         Carried {
             runs: BTreeMap::new(alloc),
-            kept: MessageList::new(alloc),
+            kept: Kept::new(alloc),
         }
     }
 
@@ -80,6 +82,25 @@ impl Carried {
             Ok(true) => Ok(()),
             Ok(false) => add_each(&mut self.runs, &mut self.kept, first, blocks),
         }
+    }
+
+    /// Returns the first message whose number is `number` or larger, and the messages that follow it in its run.
+    pub(crate) fn run_from(&self, number: u64) -> Option<CarriedRun<'_>>
+        ensures none { IfNone result ((k : ℕ) → number ≤ k → finite.get self.now k ≡ None) }
+        ensures first { IfSome result (λ run. number ≤ run.first) }
+        ensures some { IfSome result (λ run. 0 < length run.messages) }
+        ensures last { IfSome result (λ run. run.first + length run.messages < 2 ^ 64) }
+        ensures before { IfSome result (λ run. (k : ℕ) → number ≤ k → k < run.first → finite.get self.now k ≡ None) }
+        ensures carried { IfSome result (λ run. (i : ℕ) → i < length run.messages →
+            finite.get self.now (run.first + i) ≡ slice_get run.messages i) }
+    {
+        let (first, run) = find_from(&self.runs, number)?;
+        let skip = number.saturating_sub(first);
+        let start = run.start + skip as usize;
+        Some(CarriedRun {
+            first: first + skip,
+            messages: CarriedMessages::new(&self.kept, start, (run.count - skip) as usize),
+        })
     }
 
     /// Returns the longest ranges of numbers from 1 up to, but not including, `known` that have no message, in

@@ -1,7 +1,9 @@
 //! The checker, which takes datagrams one by one.
 
-ghost use Rattle.std.specs.Prelude.{◌≡◌, ◌≤◌, ◌<◌, ◌^◌, [], None, IfOk, IfErr, OnOk, OnErr};
-ghost use Rattle.std.specs.Option.{option_or};
+ghost use Rattle.std.specs.Prelude.{◌≡◌, ◌+◌, ◌≤◌, ◌<◌, ◌^◌, [], ℕ, None, IfOk, IfErr, IfNone, IfSome, OnOk, OnErr};
+ghost use Rattle.std.specs.Prelude.{length, slice_get};
+ghost use Rattle.std.specs.FinMap as finite;
+ghost use Rattle.std.specs.Option.{option_map, option_or};
 ghost use Rattle.mold_wire.specs.Packet.{Spells, messages_of, top_of};
 ghost use Rattle.mold_wire.specs.declared.packet.Packet.{Packet};
 ghost use Rattle.mold_capture.specs.Refusal.{conflict, refusal, told};
@@ -11,6 +13,7 @@ ghost use Rattle.mold_capture.specs.Verdict.{IsVerdict};
 ghost use Rattle.mold_rule.specs.declared.refusal.Refusal.TheVariants.{Memory as IsMemory};
 
 use crate::carried::Carried;
+use crate::carried_run::CarriedRun;
 use crate::memory::Memory;
 use crate::verdict::Verdict;
 use mold_rule::laws::refusal_law;
@@ -119,6 +122,44 @@ impl Checker {
         self.known = self.known.max(top);
         self.ended = ended;
         Ok(())
+    }
+
+    /// Returns the session of the accepted datagrams, or `None` if no datagram was accepted.
+    pub fn session(&self) -> Option<Session>
+        ensures { option_map (λ s. s.0) result ≡ self.now.session }
+    {
+        self.session
+    }
+
+    /// Returns the sequence number of the end packet, which is one more than the number of messages in the session, or
+    /// `None` if no end packet was accepted.
+    pub fn end(&self) -> Option<u64>
+        ensures { result ≡ self.now.ended }
+    {
+        self.ended
+    }
+
+    /// Returns the largest top of an accepted packet, at least 1. All numbers of carried messages are below it.
+    pub fn known(&self) -> u64
+        ensures { result ≡ self.now.known }
+    {
+        self.known
+    }
+
+    /// Returns the first carried message whose number is `number` or larger, and messages that follow it with
+    /// consecutive numbers. They are not always all of these: `run_from(first + count)` continues. It returns `None` if
+    /// no message is carried from `number` on. The messages are borrowed, and one or two runs are looked up.
+    pub fn run_from(&self, number: u64) -> Option<CarriedRun<'_>>
+        ensures none { IfNone result ((k : ℕ) → number ≤ k → finite.get self.now.pairs k ≡ None) }
+        ensures first { IfSome result (λ run. number ≤ run.first) }
+        ensures some { IfSome result (λ run. 0 < length run.messages) }
+        ensures last { IfSome result (λ run. run.first + length run.messages < 2 ^ 64) }
+        ensures before { IfSome result (λ run. (k : ℕ) → number ≤ k → k < run.first →
+            finite.get self.now.pairs k ≡ None) }
+        ensures carried { IfSome result (λ run. (i : ℕ) → i < length run.messages →
+            finite.get self.now.pairs (run.first + i) ≡ slice_get run.messages i) }
+    {
+        self.carried.run_from(number)
     }
 
     /// Returns whether the accepted datagrams are a whole session, and what is missing if they aren't. Its cost

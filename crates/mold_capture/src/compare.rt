@@ -8,19 +8,19 @@ ghost use Rattle.mold_capture.specs.Runs.{AreRuns, HasRun, carried};
 ghost use Rattle.mold_capture.specs.Seen.{BringNew, pairs_with};
 ghost use Rattle.mold_rule.specs.Held.{differs};
 
+use crate::kept::Kept;
 use crate::run::{Run, run_at};
-use mold_messages::MessageList;
 use mold_wire::Blocks;
 use std::collections::BTreeMap;
 
 // The stored message with this number. `near` is set to the run that has it, for the search of the next number.
 fn message_at<'a>(
     runs: &BTreeMap<u64, Run>,
-    kept: &'a MessageList,
+    kept: &'a Kept,
     near: &mut Option<(u64, Run)>,
     number: u64,
 ) -> Option<&'a [u8]>
-    requires are { AreRuns runs.now (length kept.now.messages) }
+    requires are { AreRuns runs.now (length kept.now) }
     requires near { IfSome near.old (λ e. HasRun runs.now e.0 e.1) }
     ensures near { IfSome near.new (λ e. HasRun runs.now e.0 e.1) }
     ensures message { option_copied result ≡ finite.get (carried runs.now kept.entry.now) number }
@@ -47,11 +47,11 @@ fn is_other(carried: Option<&[u8]>, message: &[u8]) -> bool
 /// message differs.
 pub(crate) fn compare(
     runs: &BTreeMap<u64, Run>,
-    kept: &MessageList,
+    kept: &Kept,
     first: u64,
     blocks: &Blocks<'_>,
 ) -> Result<bool, u64>
-    requires are { AreRuns runs.now (length kept.now.messages) }
+    requires are { AreRuns runs.now (length kept.now) }
     requires few { first + length blocks.now < 2 ^ 64 }
     ensures other { IfErr result (λ number. conflict (carried runs.now kept.now) first blocks.now ≡ Some number) }
     ensures same { OnOk result (conflict (carried runs.now kept.now) first blocks.now ≡ None) }

@@ -3,7 +3,7 @@
 ghost use Rattle.std.specs.Prelude.{◌≡◌, ◌+◌, ◌^◌, ◌<◌, ◌≤◌, ◌↔◌, false, IsTrue, ℕ, IfSome, IfNone, OnOk, OnErr};
 ghost use Rattle.std.specs.BTreeMap as tree;
 ghost use Rattle.std.specs.Ordering.{nat_cmp};
-ghost use Rattle.mold_capture.specs.Runs.{AreApart, AreFree, AreRuns, BeginWithin, Covers, HasRun, IsGrown, IsPut};
+ghost use Rattle.mold_capture.specs.Runs.{AreApart, AreFree, AreFreeFrom, AreRuns, BeginWithin, Covers, HasRun, IsGrown, IsPut};
 ghost use Rattle.mold_capture.specs.declared.run.Run.{Run};
 
 use std::alloc::AllocError;
@@ -59,6 +59,34 @@ pub(crate) fn run_at(
     }
 }
 
+// The first run that begins at this number or above it, with the number of its first message.
+fn next_run(runs: &BTreeMap<u64, Run>, number: u64) -> Option<(u64, Run)>
+    ensures none { IfNone result ((f : ℕ) (run : Run) → HasRun runs.now f run → f < number) }
+    ensures there { IfSome result (λ e. HasRun runs.now e.0 e.1) }
+    ensures high { IfSome result (λ e. number ≤ e.0) }
+    ensures first { IfSome result (λ e. (f : ℕ) (run : Run) → HasRun runs.now f run → number ≤ f → e.0 ≤ f) }
+{
+    match runs.range(number..).next() {
+        Some((first, run)) => Some((*first, *run)),
+        None => None,
+    }
+}
+
+/// Finds the run that has a message with this number, or otherwise the first run that begins above it. It returns the
+/// number of the run's first message, too. This looks up one run or two.
+pub(crate) fn find_from(runs: &BTreeMap<u64, Run>, number: u64) -> Option<(u64, Run)>
+    requires apart { AreApart runs.now }
+    ensures none { IfNone result (AreFreeFrom runs.now number) }
+    ensures there { IfSome result (λ e. HasRun runs.now e.0 e.1) }
+    ensures within { IfSome result (λ e. e.0 < number → Covers e.0 e.1 number) }
+    ensures before { IfSome result (λ e. AreFree runs.now number e.0) }
+{
+    match run_at(runs, None, number) {
+        Some(found) => Some(found),
+        None => next_run(runs, number),
+    }
+}
+
 /// Returns true if no run has a number from `first` up to, but not including, `top`. It reads one run.
 pub(crate) fn is_free(runs: &BTreeMap<u64, Run>, first: u64, top: u64) -> bool
     requires apart { AreApart runs.now }
@@ -71,24 +99,25 @@ pub(crate) fn is_free(runs: &BTreeMap<u64, Run>, first: u64, top: u64) -> bool
     }
 }
 
-/// Returns the run of a message that is added with this number after `len` messages, and the number of the
-/// run's first message. The message extends a run that ends there, if that run starts at index `since` or
+/// Returns the run of `count` messages that are added after `len` messages, and the number of the run's first message.
+/// The first of them has this number. They extend a run that ends there, if that run starts at index `since` or
 /// later.
 pub(crate) fn grown_run(
     runs: &BTreeMap<u64, Run>,
     since: usize,
     len: usize,
     number: u64,
+    count: u64,
 ) -> (u64, Run)
     requires are { AreRuns runs.now len }
     requires since { since ≤ len }
-    requires few { number + 1 < 2 ^ 64 }
-    ensures grown { IsGrown runs.now len number 1 result.0 result.1 }
+    requires few { number + count < 2 ^ 64 }
+    ensures grown { IsGrown runs.now len number count result.0 result.1 }
     ensures since { since ≤ result.1.start }
 {
     match last_run(runs, number) {
         Some((first, run)) if joins(first, run, len, number) && since <= run.start => {
-            let count = run.count + 1;
+            let count = run.count + count;
             (
                 first,
                 Run {
@@ -97,13 +126,7 @@ pub(crate) fn grown_run(
                 },
             )
         }
-        _ => (
-            number,
-            Run {
-                start: len,
-                count: 1,
-            },
-        ),
+        _ => (number, Run { start: len, count }),
     }
 }
 

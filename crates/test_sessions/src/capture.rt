@@ -2,8 +2,11 @@
 //! refusals. Expected values are constants, and each kind of comparison is in one function: the proof of a test grows
 //! with the owned values and the comparisons in it.
 
+ghost use Rattle.std.specs.Prelude.{◌<◌};
+
 use crate::comparisons::{holds, holds_at};
 use mold_capture::{Checker, Memory, Range, Refusal, Verdict};
+use std::alloc::AllocError;
 use std::process::Abort;
 use std::test::Fail;
 
@@ -14,12 +17,13 @@ const DATA_1: &[u8] = b"SESSION001\0\0\0\0\0\0\0\x01\0\x01\0\x01A";
 
 const DATA_2: &[u8] = b"SESSION001\0\0\0\0\0\0\0\x02\0\x01\0\x01B";
 
-const DATA_5: &[u8] = b"SESSION001\0\0\0\0\0\0\0\x05\0\x01\0\x01E";
+// Message 5 is the only one of two bytes: with it, the checker begins to allocate for the ends of messages.
+const DATA_5: &[u8] = b"SESSION001\0\0\0\0\0\0\0\x05\0\x01\0\x02Ee";
 
 const DATA_2_TO_3: &[u8] = b"SESSION001\0\0\0\0\0\0\0\x02\0\x02\0\x01B\0\x01C";
 
 const DATA_1_TO_6: &[u8] =
-    b"SESSION001\0\0\0\0\0\0\0\x01\0\x06\0\x01A\0\x01B\0\x01C\0\x01D\0\x01E\0\x01F";
+    b"SESSION001\0\0\0\0\0\0\0\x01\0\x06\0\x01A\0\x01B\0\x01C\0\x01D\0\x02Ee\0\x01F";
 
 const END_7: &[u8] = b"SESSION001\0\0\0\0\0\0\0\x07\xff\xff";
 
@@ -127,5 +131,101 @@ fn out_of_memory_adds_nothing(rt: HostRuntime) -> Result<(), Fail> {
     for (i, (datagram, wanted)) in NOTHING_NEW.iter().enumerate() {
         holds_at(&rt, checker.add(datagram) == *wanted, "datagram", i);
     }
+    Ok(())
+}
+
+/// The number of the first messages, which all have one length.
+const EQUAL: u64 = 100;
+
+/// The number of messages with more offsets after these than a block of offsets has.
+const ALL: u64 = EQUAL + 65_537;
+
+/// The length of a message: 3 for the first `EQUAL` ones, then 0 to 4 in turn.
+fn size_of(number: u64) -> usize
+    ensures { result < 5 }
+{
+    if number <= EQUAL {
+        3
+    } else {
+        (number % 5) as usize
+    }
+}
+
+/// Each byte of a message.
+fn byte_of(number: u64) -> u8 {
+    (number % 251) as u8
+}
+
+/// Writes the datagram of one message.
+fn write_datagram(bytes: &mut Vec<u8>, number: u64) -> Result<(), AllocError> {
+    let size = size_of(number);
+    bytes.clear();
+    bytes.extend_from_slice(b"SESSION001")?;
+    bytes.extend_from_slice(&number.to_be_bytes())?;
+    bytes.extend_from_slice(&[0, 1, 0, size as u8])?;
+    bytes.resize(22 + size, byte_of(number))
+}
+
+fn is_message(message: &[u8], number: u64) -> bool {
+    let wanted = byte_of(number);
+    message.len() == size_of(number) && message.iter().all(|byte| *byte == wanted)
+}
+
+/// Compares the messages of a checker's run from a number on with those that were added.
+fn expect_run(rt: &impl Abort, checker: &Checker, from: u64) {
+    let Some(run) = checker.run_from(from) else {
+        holds(rt, from > ALL);
+        return;
+    };
+    holds(rt, run.first == from);
+    let mut same = true;
+    let mut count = 0;
+    for (number, message) in (from..=ALL).zip(run.messages) {
+        same &= is_message(message, number);
+        count = number;
+    }
+    holds(rt, same && count == ALL);
+}
+
+#[test]
+fn messages_are_read_back(rt: HostRuntime) -> Result<(), Fail> {
+    let mut checker = Checker::new(rt.alloc());
+    let mut bytes = Vec::new(rt.alloc());
+    for number in 1..=ALL {
+        write_datagram(&mut bytes, number)?;
+        holds(&rt, checker.add(&bytes).is_ok());
+    }
+    for from in [1, EQUAL, EQUAL + 1, ALL - 1, ALL, ALL + 1] {
+        expect_run(&rt, &checker, from);
+    }
+    Ok(())
+}
+
+#[test]
+fn runs_are_found_in_order(rt: HostRuntime) -> Result<(), Fail> {
+    let mut checker = Checker::new(rt.alloc());
+    holds(
+        &rt,
+        checker.run_from(0).is_none() && checker.session().is_none(),
+    );
+    for datagram in [DATA_5, DATA_1, DATA_2, END_7] {
+        holds(&rt, checker.add(datagram).is_ok());
+    }
+    for (from, first) in [
+        (0, Some(1)),
+        (1, Some(1)),
+        (2, Some(2)),
+        (3, Some(5)),
+        (5, Some(5)),
+        (6, None),
+    ] {
+        holds_at(
+            &rt,
+            checker.run_from(from).map(|run| run.first) == first,
+            "from",
+            from as usize,
+        );
+    }
+    holds(&rt, checker.end() == Some(7) && checker.known() == 7);
     Ok(())
 }

@@ -5,9 +5,9 @@ use Rattle.mold_capture.proofs.compare.message_at.Goals as goal
 pub returns-in-Some-clause-message : goal.returns-in-Some-clause-message
 returns-in-Some-clause-message c =
     c.get.ensures
-    ∙ sym (covered_at c.args.runs.now c.args.kept.now.messages c.requires.are c.args.number c.in-Some.first
+    ∙ sym (covered_at c.args.runs.now c.args.kept.now c.requires.are c.args.number c.in-Some.first
     c.in-Some.run' c.in-Some.ensures.there c.in-Some.ensures.covers)
 
 pub returns-in-None-clause-message : goal.returns-in-None-clause-message
 returns-in-None-clause-message c =
-    sym (uncovered_at c.args.runs.now c.args.kept.now.messages c.requires.are c.args.number c.in-None.ensures.none)
+    sym (uncovered_at c.args.runs.now c.args.kept.now c.requires.are c.args.number c.in-None.ensures.none)

@@ -1,5 +1,6 @@
 use Rattle.std.proofs.Common.{ℕ, ◌+◌, List, length, refl, sym, ap, subst, ◌∙◌, arith}
-use Rattle.mold_messages.specs.Listed.{Listed}
+use Rattle.std.specs.List.{AllByRecursion}
+use Rattle.mold_wire.specs.Block.{IsMessage}
 use Rattle.mold_capture.specs.Runs.{AreRuns, carried}
 use Rattle.mold_capture.specs.Seen.{Pairs, pairs_with}
 use Rattle.mold_capture.proofs.GrowLemmas.{back_is}
@@ -13,8 +14,8 @@ returns-in-Err-clause-err c =
     (c.add_new.ensures.since c.args.runs.now before c.loop-message.invariant.since)
     c.take_back.ensures.ordered c.take_back.ensures.out c.take_back.ensures.stays
     in
-    same_carried c.args.runs.now c.take_back.new.runs c.args.kept.now.messages c.truncate.new.self.messages entries
-    (ap (λ (l : Listed). l.messages) c.truncate.ensures ∙ c.add_new.ensures.front ∙ c.loop-message.invariant.front)
+    same_carried c.args.runs.now c.take_back.new.runs c.args.kept.now c.truncate.new.self entries
+    (c.truncate.ensures ∙ c.add_new.ensures.front ∙ c.loop-message.invariant.front)
 
 pub take_back-requires-clause-within : goal.take_back-requires-clause-within
 take_back-requires-clause-within c =
@@ -27,6 +28,7 @@ loop-message-preserved c =
     let steps = c.in-Some.ensures.steps in
     record {
       are = c.add_new.ensures.are;
+      short = (subst (AllByRecursion IsMessage) steps old.short).1;
       counted = omega (arith, old.counted, ap (λ (t : List (List ℕ)). length t) steps);
       same =
           ap (λ (p : Pairs). pairs_with p (c.loop-message.number + 1) c.next.new.self) c.in_default.ensures.ok

@@ -4,7 +4,7 @@ use Rattle.mold_capture.proofs.GrowLemmas.{Growth, are_grown, carried_grown, sin
 use Rattle.mold_capture.proofs.keep.add_message.Goals as goal
 
 growth : (c : goal.In-Ok) →
-    Growth c.args.runs.now c.put_run.new.runs c.args.kept.now.messages (c.args.message.now ∷ []) c.args.number
+    Growth c.args.runs.now c.put_run.new.runs c.args.kept.now (c.args.message.now ∷ []) c.args.number
     c.grown_run-first.result.0 c.grown_run-first.result.1
 growth c = record {
   are = c.requires.are;

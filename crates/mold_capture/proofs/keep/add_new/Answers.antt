@@ -9,7 +9,7 @@ use Rattle.mold_capture.proofs.keep.add_new.Goals as goal
 pub returns-then-is_some-clause-ok : goal.returns-then-is_some-clause-ok
 returns-then-is_some-clause-ok c =
     let pairs = carried c.args.runs.now c.args.kept.now in
-    let found = found_pairs c.args.runs.now c.args.kept.now.messages c.requires.are c.args.number c.run_at.result
+    let found = found_pairs c.args.runs.now c.args.kept.now c.requires.are c.args.number c.run_at.result
     c.run_at.ensures.there c.run_at.ensures.covers (sym c.is_some.ensures ∙ c.if-is_some.true)
     in
     sym (with_carried pairs c.args.number (c.args.message.now ∷ [])

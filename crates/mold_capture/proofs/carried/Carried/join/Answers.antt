@@ -17,7 +17,7 @@ none c =
     c.is_free.ensures c.if-is_free.true f run number has covers low (omega (arith, c.from.ensures, c.len.ensures.length))
     in
     subst (λ (p : Pairs). conflict p c.args.first c.args.blocks.now ≡ None) c.self.view_is
-    (free_conflict c.self.inside.runs c.self.inside.kept.messages c.self.invariant c.args.first c.args.blocks.now free)
+    (free_conflict c.self.inside.runs c.self.inside.kept c.self.invariant c.args.first c.args.blocks.now free)
 
 pub returns-then-is_free-clause-new : goal.returns-then-is_free-clause-new
 returns-then-is_free-clause-new c =
@@ -27,7 +27,7 @@ returns-then-is_free-clause-new c =
     in
     always_memory c.add_all.result _
     (subst (λ (p : Pairs). BringNew p c.args.first c.args.blocks.now) c.self.view_is
-    (free_brings c.self.inside.runs c.self.inside.kept.messages c.self.invariant c.args.first c.args.blocks.now
+    (free_brings c.self.inside.runs c.self.inside.kept c.self.invariant c.args.first c.args.blocks.now
     c.len.ensures.range.0 free))
 
 pub returns-then-is_free-clause-refused : goal.returns-then-is_free-clause-refused

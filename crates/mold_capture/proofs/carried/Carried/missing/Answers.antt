@@ -24,7 +24,7 @@ returns c =
     (λ (p : Pairs). (q : ℕ) (m : List ℕ) → finite.get p q ≡ Some m → (1 ≤ q) × (q < c.args.known))
     (sym c.self.view_is) c.requires.within
     in
-    let same = gaps_are f.runs f.kept.messages c.self.invariant c.args.known c.requires.some walks within
+    let same = gaps_are f.runs f.kept c.self.invariant c.args.known c.requires.some walks within
     ∙ ap (λ (p : Pairs). lacking.ranges (lacks p) 1 (c.args.known - 1)) c.self.view_is
     in
     ok_then c.find_gaps.result _ _ (λ missing is. is ∙ same) c.find_gaps.ensures

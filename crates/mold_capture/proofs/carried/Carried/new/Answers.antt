@@ -6,5 +6,5 @@ use Rattle.mold_capture.proofs.carried.Carried.new.Goals as goal
 
 pub returns : goal.returns
 returns c =
-    ap (λ (es : List (ℕ × Run)). pairs_of es c.new-2.result.messages) c.new.ensures.empty
-    ∙ none_carried c.new-2.result.messages
+    ap (λ (es : List (ℕ × Run)). pairs_of es c.new-2.result) c.new.ensures.empty
+    ∙ none_carried c.new-2.result
