@@ -34,6 +34,13 @@ impl<'a> CarriedMessages<'a> {
     {
         CarriedMessages { kept, next, left }
     }
+
+    /// Returns the number of remaining messages, in constant time.
+    pub fn len(&self) -> usize
+        ensures { result ≡ length self.now }
+    {
+        self.left
+    }
 }
 
 impl<'a> Iterator for CarriedMessages<'a> {
