@@ -1,0 +1,6 @@
+pub mod BetweenLemmas
+pub mod PuttingLemmas
+pub mod FullLemmas
+pub mod RunLemmas
+pub mod JournalLemmas
+pub mod LawLemmas
