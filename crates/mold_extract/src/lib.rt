@@ -1,5 +1,4 @@
-//! Writes the messages of a checker: as lines, as message blocks, or as the journal of a whole session. The
-//! messages are not copied to memory of their own.
+//! Writes the messages of a checker: as lines, as message blocks, or as the journal of a whole session.
 #![tactic(auto)]
 
 mod block_buffer;
