@@ -4,3 +4,4 @@ pub mod FullLemmas
 pub mod RunLemmas
 pub mod JournalLemmas
 pub mod LawLemmas
+pub mod ResultLemmas

@@ -73,7 +73,8 @@ pub(crate) fn put_blocks<K: Sink>(
 /// as for `mold dump` those after the last message. Without an end packet, a range that goes beyond the carried messages
 /// is not carried in full.
 ///
-/// After a fault, a prefix of the blocks was written. Nothing is allocated.
+/// The blocks are written in pieces of about 64 KiB. After a fault, a prefix of them was written. Nothing is
+/// allocated. Without a message to write, the sink is not called.
 pub fn extract_blocks<K: Sink>(
     checker: &Checker,
     range: NumberRange,

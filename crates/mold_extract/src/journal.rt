@@ -74,9 +74,9 @@ fn whole_session(checker: &Checker) -> Option<(Session, u64)>
 }
 
 /// Writes the messages of a whole session as the file of a closed journal of version 2, and returns their number. If
-/// the session is not whole, nothing is written. The session is whole exactly if `Checker::verdict` says so.
+/// the session is not whole, as in `Checker::verdict`, nothing is written.
 ///
-/// After a fault, a prefix of the file was written. Nothing is allocated.
+/// The file is written in pieces of about 64 KiB. After a fault, a prefix of it was written. Nothing is allocated.
 pub fn save_journal<K: Sink>(checker: &Checker, sink: &mut K) -> Result<Extracted, DeviceFault>
     ensures saved { IfOk result (λ saved. Saves (K.held sink.old) (K.held sink.new) checker.now saved) }
     ensures front { OnErr result (AppendsJournalPrefix (K.held sink.old) (K.held sink.new) checker.now) }

@@ -8,8 +8,9 @@ ghost use Rattle.mold_wire.specs.Block.{blocks};
 ghost use Rattle.mold_wire.specs.declared.session.Session.{Session};
 ghost use Rattle.mold_session.specs.File.{AppendsFile, AppendsFilePrefix};
 ghost use Rattle.mold_capture.specs.Consistent.{Consistent, Explains, Whole};
-ghost use Rattle.mold_capture.specs.Seen.{numbered, seen_of};
+ghost use Rattle.mold_capture.specs.Seen.{Seen, numbered, seen_of};
 ghost use Rattle.mold_extract.specs.Carried.{IsInFull};
+ghost use Rattle.mold_extract.specs.Extracting.{ExtractsBlocks};
 ghost use Rattle.mold_extract.specs.Journal.{AppendsJournalPrefix, Saves};
 ghost use Rattle.mold_extract.specs.Text.{blocks_in, entry_line, lines_in};
 ghost use Rattle.mold_extract.specs.declared.extracted.Extracted.{Extracted};
@@ -49,3 +50,12 @@ pub fn whole_law()
 {
     reading_law();
 }
+
+/// Whether and how many messages are written depends only on what the checker states, and not on the sink.
+pub fn one_result_law()
+    ensures saved { (seen : Seen) (old new before after : Option (List ℕ)) (one other : Extracted) →
+        Saves old new seen one → Saves before after seen other → one ≡ other }
+    ensures blocks { (seen : Seen) (range : NumberRange) (old new before after : Option (List ℕ))
+        (one other : Extracted) → ExtractsBlocks old new seen range one →
+        ExtractsBlocks before after seen range other → one ≡ other }
+{}

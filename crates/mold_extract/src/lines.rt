@@ -37,13 +37,13 @@ fn print_entry<K: Sink>(
         (text.old.items ++ entry_line (number, message.now))) }
     ensures failures { CountsSink (K.failed sink.old) (K.failed sink.new) result }
 {
-    let told = text.len();
+    let before = text.len();
     match push_entry(text, number, message) {
         Ok(()) => {
             send_large(sink, text)?;
             Ok(())
         }
-        Err(_) => Err(end_with(sink, text, told, CommandFault::Memory)),
+        Err(_) => Err(end_with(sink, text, before, CommandFault::Memory)),
     }
 }
 
