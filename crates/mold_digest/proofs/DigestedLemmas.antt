@@ -1,12 +1,12 @@
 -- The packets that digested datagrams encode.
-use Rattle.std.proofs.Common.{◌≡◌, ℕ, ◌+◌, ◌<◌, ◌^◌, List, [], ◌∷◌, ◌++◌, length, length-append, map}
+use Rattle.std.proofs.Common.{◌≡◌, ℕ, List, [], ◌∷◌, ◌++◌, length, length-append}
 use Rattle.std.proofs.Common.{take, sym, ap, ◌∙◌, arith, inl, inr, ◌⊎◌}
-use Rattle.std.specs.Prelude.{Result, Ok, Err}
+use Rattle.std.specs.Prelude.{Ok, Err}
 use Rattle.std.specs.List.{AllByRecursion}
 use Rattle.std.proofs.lemmas.List.{length-map, take_at, length-take-le}
 use Rattle.sha2.specs.Sha256.{sha256}
 use Rattle.sha2.proofs.Facts256.{length-sha256}
-use Rattle.mold_wire.specs.Block.{be16, be64, IsBytes, IsMessage, block, blocks}
+use Rattle.mold_wire.specs.Block.{be16, be64, IsMessage, blocks}
 use Rattle.mold_wire.specs.Header.{header_bytes}
 use Rattle.mold_wire.specs.Packet.{IsBody, IsPacket, Spells, count_of, messages_of, spelling_of}
 use Rattle.mold_wire.specs.Reading.{reading}

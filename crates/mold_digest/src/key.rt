@@ -3,13 +3,12 @@
 ghost use Rattle.std.specs.Prelude.{◌≡◌};
 
 use crate::digested::push_digested;
-use std::fmt;
-use std::fmt::{Debug, Formatter};
-use std::io;
-use std::marker::Model;
-use std::random::RandomSource;
 use sha2::{Digest, Sha256};
 use std::alloc::AllocError;
+use std::fmt::{Debug, Formatter};
+use std::marker::Model;
+use std::random::RandomSource;
+use std::{fmt, io};
 
 /// The size of a key in bytes.
 pub const KEY_BYTES: usize = 16;

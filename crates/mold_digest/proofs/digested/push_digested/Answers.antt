@@ -1,8 +1,5 @@
-use Rattle.std.proofs.Common.{◌≡◌, ◌∙◌, ◌++◌, sym, ap, refl, append_assoc, arith, take}
-use Rattle.std.specs.Result.{OnOk}
+use Rattle.std.proofs.Common.{◌∙◌, sym, arith}
 use Rattle.std.proofs.lemmas.Grind.{common_steps}
-use Rattle.mold_wire.specs.Block.{blocks}
-use Rattle.mold_digest.specs.Digested.{digested_body, digests}
 use Rattle.mold_digest.proofs.DigestedLemmas.{digested_data, digested_err, digested_plain, plain_body}
 use Rattle.mold_digest.proofs.digested.push_digested.Goals as goal
 
@@ -16,8 +13,13 @@ pub returns-in_ok-extend_from_slice-in-Data : goal.returns-in_ok-extend_from_sli
 returns-in_ok-extend_from_slice-in-Data c =
     let same = digested_data c.args.key.now c.args.datagram.now c.in-Ok.packet c.in-Data.messages
     c.in-Ok.ensures.spelled (sym c.decode.ensures.exact ∙ c.in-Ok.is) c.in-Data.is in
-    rw (sym same) (grind (arith, common_steps, c.push_digests.ensures, c.split_at.ensures.front,
-    c.in_ok-extend_from_slice-in-Data.ensures.items))
+    rw (sym same) (grind (
+      arith,
+      common_steps,
+      c.push_digests.ensures,
+      c.split_at.ensures.front,
+      c.in_ok-extend_from_slice-in-Data.ensures.items,
+    ))
 
 pub returns-in-Heartbeat : goal.returns-in-Heartbeat
 returns-in-Heartbeat c =
