@@ -9,6 +9,8 @@ mod cases;
 #[cfg(test)]
 mod check;
 #[cfg(test)]
+mod digests;
+#[cfg(test)]
 mod ipv4;
 #[cfg(test)]
 mod ipv6;
