@@ -1,6 +1,6 @@
 //! Datagrams in which each message is replaced by its digest.
 
-ghost use Rattle.std.specs.Prelude.{◌≡◌, ◌++◌, OnOk};
+ghost use Rattle.std.specs.Prelude.{◌≡◌, ◌+◌, ◌<◌, ◌≤◌, ◌++◌, OnErr, OnOk, length, vec_capacity};
 ghost use Rattle.mold_wire.specs.Block.{blocks};
 ghost use Rattle.mold_digest.specs.Digested.{digested, digests};
 
@@ -13,7 +13,10 @@ const DIGEST_LENGTH: [u8; LENGTH_BYTES] = [0, DIGEST_BYTES as u8];
 
 // Appends the block of each message's digest.
 fn push_digests(key: &DigestKey, messages: &Blocks<'_>, out: &mut Vec<u8>) -> Result<(), AllocError>
-    ensures { OnOk result (out.new.items ≡ out.old.items ++ blocks (digests key.now messages.now)) }
+    ensures ok { OnOk result (out.new.items ≡ out.old.items ++ blocks (digests key.now messages.now)) }
+    ensures full { OnErr result
+        (vec_capacity out.old < length out.old.items + length (blocks (digests key.now messages.now))) }
+    ensures capacity { vec_capacity out.old ≤ vec_capacity out.new }
 {
     for message in messages.iter() {
         out.extend_from_slice(DIGEST_LENGTH.as_slice())?;
@@ -28,7 +31,10 @@ pub(crate) fn push_digested(
     datagram: &[u8],
     out: &mut Vec<u8>,
 ) -> Result<(), AllocError>
-    ensures { OnOk result (out.new.items ≡ out.old.items ++ digested key.now datagram.now) }
+    ensures ok { OnOk result (out.new.items ≡ out.old.items ++ digested key.now datagram.now) }
+    ensures full { OnErr result
+        (vec_capacity out.old < length out.old.items + length (digested key.now datagram.now)) }
+    ensures capacity { vec_capacity out.old ≤ vec_capacity out.new }
 {
     let Ok(packet) = decode(datagram) else {
         return out.extend_from_slice(datagram);

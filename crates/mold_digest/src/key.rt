@@ -38,7 +38,7 @@ impl Model for DigestKey {
 }
 
 impl DigestKey {
-    ghost use Rattle.std.specs.Prelude.{[], OnOk, OnErr};
+    ghost use Rattle.std.specs.Prelude.{◌<◌, ◌≤◌, [], OnOk, OnErr, length, vec_capacity};
     ghost use Rattle.mold_digest.specs.Key.{digest};
     ghost use Rattle.mold_digest.specs.Digested.{digested};
 
@@ -74,11 +74,13 @@ impl DigestKey {
 
     /// Replaces the contents of `out` with the datagram in which each message is replaced by its digest. Bytes that do
     /// not encode a data packet stay the same. The digested datagram of a data packet has 18 bytes for each message
-    /// after the header, so it may be longer than the datagram. It allocates only if `out` has to grow. After an error,
-    /// `out` is empty.
+    /// after the header, so it may be longer than the datagram. With one `out` for all datagrams, it allocates only for
+    /// the longest one so far. An error means that an allocation failed.
     pub fn digested(&self, datagram: &[u8], out: &mut Vec<u8>) -> Result<(), AllocError>
         ensures ok { OnOk result (out.new.items ≡ digested self.now datagram.now) }
         ensures err { OnErr result (out.new.items ≡ []) }
+        ensures full { OnErr result (vec_capacity out.old < length (digested self.now datagram.now)) }
+        ensures capacity { vec_capacity out.old ≤ vec_capacity out.new }
     {
         out.clear();
         let done = push_digested(self, datagram, out);
