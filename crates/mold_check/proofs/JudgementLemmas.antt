@@ -1,7 +1,8 @@
 -- What a check of datagrams prints.
-use Rattle.std.proofs.Common.{◌≡◌, ℕ, zero, suc, ◌+◌, ◌≤◌, Bool, true, false, cond, List, [], ◌∷◌, ◌++◌, refl, sym, ap, subst, ◌∙◌, arith}
+use Rattle.std.proofs.Common.{◌≡◌, ℕ, zero, suc, ◌+◌, ◌≤◌, Bool, true, false, cond, List, [], ◌∷◌, ◌++◌, refl, sym, ap, subst, ◌∙◌, arith, append_assoc, append-nil}
 use Rattle.std.specs.Prelude.{Option, None, Some, Result, Ok, Err, IfOk, codes, decimal, min, ◌==◌, ◌^◌, ◌-◌}
 use Rattle.std.specs.Io.KnownBytes.{Appends}
+use Rattle.std.specs.List.{flat_map}
 use Rattle.mold_capture.specs.Outcome.{Outcome, whole, incomplete, refused, outcome_in}
 use Rattle.mold_capture.specs.Refusal.{refusal}
 use Rattle.mold_capture.specs.Seen.{Seen, after}
@@ -11,11 +12,12 @@ use Rattle.mold_devices.specs.Devices.{one_more}
 use Rattle.mold_devices.specs.declared.fault.CommandFault.{CommandFault}
 use Rattle.mold_rule.specs.Ranges as lacking
 use Rattle.mold_rule.specs.declared.refusal.Refusal.{Refusal}
-use Rattle.mold_text.specs.Line.{line_of}
-use Rattle.mold_text.specs.Text.{refusal_words}
+use Rattle.mold_text.specs.Line.{after_space, joined, line_of}
+use Rattle.mold_text.specs.Text.{refusal_words, refused_line}
 use Rattle.mold_check.specs.CheckLines.{index_raised, outcome_at, outcome_from, outcome_of, outcome_or}
-use Rattle.mold_check.specs.Judgement.{Judgement, added_to, all_added, found_status, found_text, judged_as}
-use Rattle.mold_check.specs.Judgement.{judgement_status, judgement_text, no_judgement, numbered_text, refused_text}
+use Rattle.mold_check.specs.Judgement.{Judgement, added_to, all_added, found_status, found_text, judged_as, named_text}
+use Rattle.mold_check.specs.Judgement.{judgement_status, judgement_text, no_judgement, numbered_text}
+use Rattle.mold_check.specs.Naming.{counted}
 use Rattle.mold_check.specs.Report.{outcome_status, outcome_text}
 use Rattle.mold_check.specs.declared.refused_datagram.RefusedDatagram.{RefusedDatagram}
 use Rattle.mold_check.proofs.VerdictLemmas.{NoneLacks, verdict_at}
@@ -24,12 +26,12 @@ use Rattle.mold_check.proofs.VerdictLemmas.{NoneLacks, verdict_at}
 
 -- What is printed by a check that refused nothing.
 pub found_verdict : NoneLacks → (j : Judgement) (seen : Seen) (before : Option RefusedDatagram) (v : Verdict)
-    (word : List ℕ) → record { seen = seen; refused = before } ≡ j → before ≡ None → IsVerdict v seen →
-    (outcome_text [] (outcome_in v) ≡ judgement_text word j) × (outcome_status (outcome_in v) ≡ judgement_status j)
-found_verdict law j seen before v word same none is = (
+    (names : ℕ → List ℕ) → record { seen = seen; refused = before } ≡ j → before ≡ None → IsVerdict v seen →
+    (outcome_text [] (outcome_in v) ≡ named_text names j) × (outcome_status (outcome_in v) ≡ judgement_status j)
+found_verdict law j seen before v names same none is = (
   ap (outcome_text []) (verdict_at law seen v is)
-      ∙ ap (found_text word seen) (sym none)
-      ∙ ap (judgement_text word) same,
+      ∙ ap (found_text names seen) (sym none)
+      ∙ ap (named_text names) same,
   ap outcome_status (verdict_at law seen v is) ∙ ap (found_status seen) (sym none) ∙ ap judgement_status same,
 )
 
@@ -41,11 +43,24 @@ told_as old new (Ok s) start text other status so is ends told =
     (subst (λ (t : List ℕ). Appends old new (start ++ t)) is told.0, told.1 ∙ ends)
 told_as old new (Err e) start text other status so is ends told = tt
 
+-- ---- names
+
+-- The line of a refusal, from its words or from the name of the datagram.
+pub named_line : (word : List ℕ) (number : ℕ) (words : List (List ℕ)) →
+    line_of (codes "refused" ∷ word ∷ decimal number ∷ words) ≡ refused_line (counted word number ∷ words)
+unfolding joined
+named_line word number words =
+    ap (λ (d : List ℕ). codes "refused" ++ (codes " " ++ (word ++ (codes " " ++ (d ++ flat_map after_space words)))) ++ codes "\n")
+    (sym (append-nil (decimal number)))
+    ∙ ap (λ (t : List ℕ). codes "refused" ++ (codes " " ++ t) ++ codes "\n")
+    (sym (append_assoc word (codes " " ++ (decimal number ++ [])) (flat_map after_space words)))
+
 -- ---- all datagrams
 
 -- What is printed about datagrams that follow others, of which the first has the number `number`.
 abbrev told : List ℕ → ℕ → Seen → Option RefusedDatagram → List (List ℕ) → List ℕ × ℕ
-told word number seen (Some datagram) list = (refused_text word datagram, 2)
+told word number seen (Some datagram) list =
+    (line_of (codes "refused" ∷ word ∷ decimal datagram.number ∷ refusal_words datagram.why), 2)
 told word number seen None list =
     (numbered_text word number (outcome_from seen list), outcome_status (outcome_from seen list))
 
@@ -72,9 +87,11 @@ told_end word number seen (Some (suc messages)) = by_count (lacking.lacking (lac
 
 -- No datagram remains.
 told_nothing : (word : List ℕ) (number : ℕ) (seen : Seen) (before : Option RefusedDatagram) →
-    ◌≡◌ {A = List ℕ × ℕ} (found_text word seen before, found_status seen before) (told word number seen before [])
+    ◌≡◌ {A = List ℕ × ℕ} (found_text (counted word) seen before, found_status seen before)
+    (told word number seen before [])
 unfolding outcome_from
-told_nothing word number seen (Some datagram) = refl
+told_nothing word number seen (Some datagram) =
+    ap (λ (t : List ℕ). (t, 2)) (sym (named_line word datagram.number (refusal_words datagram.why)))
 told_nothing word number seen None = told_end word number seen seen.ended
 
 next_number : (number index most : ℕ) → min (min (number + 1) most + index) most ≡ min (number + suc index) most

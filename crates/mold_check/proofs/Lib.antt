@@ -1,8 +1,12 @@
 pub mod OrderLemmas
 pub mod ReportLemmas
+pub mod MovedLemmas
 pub mod CheckedLemmas
-pub mod LineLemmas
-pub mod JudgementLemmas
 pub mod VerdictLemmas
+pub mod JudgementLemmas
+pub mod LineLemmas
 pub mod DigitLemmas
+pub mod GroupLemmas
+pub mod EachLemmas
+pub mod SessionLemmas
 pub mod LawLemmas

@@ -1,5 +1,10 @@
 pub mod Entries
 pub mod Report
 pub mod CheckLines
+pub mod Naming
+pub mod Judge
 pub mod Judgement
 pub mod Checking
+pub mod Groups
+pub mod EachCheck
+pub mod EachLines

@@ -5,9 +5,14 @@ ghost use Rattle.std.specs.Prelude.{◌≡◌, ℕ, List};
 ghost use Rattle.std.specs.List.{All};
 ghost use Rattle.mold_wire.specs.Block.{IsBytes};
 ghost use Rattle.mold_capture.specs.Outcome.{IsOutcome};
-ghost use Rattle.mold_check.specs.CheckLines.{datagrams_of, outcome_of};
-ghost use Rattle.mold_check.specs.Judgement.{all_added, judgement_status, judgement_text, no_judgement, numbered_text};
+ghost use Rattle.mold_check.specs.CheckLines.{check_status, check_text, datagrams_of, outcome_of};
+ghost use Rattle.mold_check.specs.Checking.{all_taken, beginning, checking_status, checking_text};
+ghost use Rattle.mold_check.specs.EachCheck.{all_judged, each_judging, sessions_status, sessions_text};
+ghost use Rattle.mold_check.specs.EachLines.{each_lines_status, each_lines_text};
+ghost use Rattle.mold_check.specs.Judgement.{all_added, datagram_judging, judgement_status, judgement_text, no_judgement};
+ghost use Rattle.mold_check.specs.Judgement.{numbered_text};
 ghost use Rattle.mold_check.specs.Report.{outcome_status};
+ghost use Rattle.mold_devices.specs.Lines.{lines_of};
 
 use mold_capture::laws::{after_law, reason_law, whole_is_one_law};
 use mold_rule::laws::lacking_law;
@@ -31,4 +36,35 @@ pub fn datagram_check_law()
         judgement_text word (all_added no_judgement 1 list) ≡ numbered_text word 1 (outcome_of list) }
     ensures status { (list : List (List ℕ)) →
         judgement_status (all_added no_judgement 1 list) ≡ outcome_status (outcome_of list) }
+{}
+
+/// An `EachCheck<DatagramCheck>` to which these datagrams were added, each with its number, prints each session in the
+/// order of first appearance, with the outcome of its datagrams. Of those that do not encode a packet it prints the
+/// number. Its status is the greatest.
+pub fn each_check_law()
+    ensures text { (names : ℕ → List ℕ) (list : List (ℕ × List ℕ)) →
+        (each_judging datagram_judging).text names (all_judged (each_judging datagram_judging) (each_judging datagram_judging).begins list)
+        ≡ sessions_text names list }
+    ensures status { (list : List (ℕ × List ℕ)) →
+        (each_judging datagram_judging).status (all_judged (each_judging datagram_judging) (each_judging datagram_judging).begins list)
+        ≡ sessions_status list }
+{}
+
+/// What a `LineCheck` prints that has taken all lines of an input is a function of the input, for one session and for
+/// each session by itself.
+pub fn line_check_law()
+    ensures text { (input : List ℕ) →
+        checking_text datagram_judging (all_taken datagram_judging (beginning datagram_judging) (lines_of input))
+        ≡ check_text input }
+    ensures status { (input : List ℕ) →
+        checking_status datagram_judging (all_taken datagram_judging (beginning datagram_judging) (lines_of input))
+        ≡ check_status input }
+    ensures each_text { (input : List ℕ) →
+        checking_text (each_judging datagram_judging)
+        (all_taken (each_judging datagram_judging) (beginning (each_judging datagram_judging)) (lines_of input))
+        ≡ each_lines_text input }
+    ensures each_status { (input : List ℕ) →
+        checking_status (each_judging datagram_judging)
+        (all_taken (each_judging datagram_judging) (beginning (each_judging datagram_judging)) (lines_of input))
+        ≡ each_lines_status input }
 {}

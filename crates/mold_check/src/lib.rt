@@ -5,16 +5,27 @@
 
 mod datagram_check;
 mod datagrams;
+mod each_check;
 mod entry;
+mod entry_names;
+mod judge;
 pub mod laws;
 mod line_check;
 mod lines;
+mod naming;
 mod refused_datagram;
 mod report;
+mod session_key;
+mod session_table;
 
 pub use datagram_check::DatagramCheck;
 pub use datagrams::names_datagram;
+pub use each_check::EachCheck;
 pub use entry::Entry;
-pub use lines::check_lines;
+pub use judge::Judge;
+pub use line_check::LineCheck;
+pub use lines::{check_lines, read_lines};
+pub use naming::{Counted, Naming};
 pub use refused_datagram::RefusedDatagram;
 pub use report::check_entries;
+pub use session_key::SessionKey;

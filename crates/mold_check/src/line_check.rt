@@ -4,37 +4,51 @@ ghost use Rattle.std.specs.Prelude.{◌≡◌, ◌++◌, None, length, take, IfE
 ghost use Rattle.std.specs.Io.KnownBytes.{Appends};
 ghost use Rattle.hex.specs.Hex.{decode_of};
 ghost use Rattle.mold_check.specs.CheckLines.{count_line};
-ghost use Rattle.mold_check.specs.Checking.{beginning, checking_of, checking_status, checking_text};
-ghost use Rattle.mold_check.specs.Checking.{judged_digits, line_judged, not_hex_text, taken};
+ghost use Rattle.mold_check.specs.Checking.{beginning, checking_status, checking_text, judged_digits, not_hex_text, taken};
 ghost use Rattle.mold_check.specs.Report.{Keeps};
 ghost use Rattle.mold_devices.specs.Devices.{AppendsPrefix};
 ghost use Rattle.mold_devices.specs.Faults.{CountsSink};
 
-use crate::datagram_check::DatagramCheck;
+use crate::judge::Judge;
+use crate::naming::Counted;
 use mold_devices::{CommandFault, Sink, end_with, send};
 use mold_text::{Word, push_line};
 use std::alloc::{AllocError, Global};
+use std::marker::Model;
 
-/// A check of lines up to the first refused one, which is not an even number of hexadecimal digits, or has a datagram
-/// that is refused. The lines after it are only counted. It keeps no line, only the messages that the checker stores.
-/// The first line has number 1. The numbers stop at `u64::MAX`.
+/// A check of lines of hexadecimal digits, each of which encodes a datagram. The lines after one that is not an even
+/// number of hexadecimal digits are only counted, and so are those after which the judge has decided. It keeps no line,
+/// only the messages that the judge stores. The first line has number 1. The numbers stop at `u64::MAX`.
 #[derive(Drop)]
-pub(crate) struct LineCheck {
-    check: DatagramCheck,
+pub struct LineCheck<J> {
+    judge: J,
     bytes: Vec<u8>,
     next: u64,
     datagrams: u64,
-    // The number of the refused line, if it is not hexadecimal.
+    // The number of the first line that is not hexadecimal.
     not_hex: Option<u64>,
 }
 
-impl LineCheck {
+impl<J> Model for LineCheck<J> {
+    ghost use Rattle.mold_check.specs.Checking.{Checking};
+
+    ghost Value = { Checking J };
+
+    ghost view = { λ c. record {
+      next = c.next;
+      datagrams = c.datagrams;
+      judge = c.judge;
+      not_hex = c.not_hex;
+    } };
+}
+
+impl<J: Judge> LineCheck<J> {
     /// Returns a check that has taken no line. This allocates nothing.
-    pub(crate) fn new(alloc: Global) -> LineCheck
-        ensures { checking_of result ≡ beginning }
+    pub fn new(alloc: Global) -> LineCheck<J>
+        ensures { result ≡ beginning J.judging }
     {
         LineCheck {
-            check: DatagramCheck::new(alloc),
+            judge: J::new(alloc),
             bytes: Vec::new(alloc),
             next: 1,
             datagrams: 0,
@@ -44,8 +58,8 @@ impl LineCheck {
 
     /// Takes the next line. It returns an error if an allocation fails.
     #[tactic(auto, unfolding(crate::specs::Checking::taken))]
-    pub(crate) fn take(&mut self, line: &[u8]) -> Result<(), AllocError>
-        ensures { OnOk result (checking_of self.new ≡ taken (checking_of self.old) line.now) }
+    pub fn take(&mut self, line: &[u8]) -> Result<(), AllocError>
+        ensures { OnOk result (self.new ≡ taken J.judging self.old line.now) }
     {
         let number = self.next;
         self.next = number.saturating_add(1);
@@ -53,45 +67,63 @@ impl LineCheck {
             return Ok(());
         }
         self.datagrams = self.datagrams.saturating_add(1);
-        if self.not_hex.is_none() && self.check.refused().is_none() {
-            self.not_hex = judge(&mut self.check, &mut self.bytes, number, line)?;
+        if self.not_hex.is_none() && !self.judge.is_decided() {
+            self.not_hex = judge(&mut self.judge, &mut self.bytes, number, line)?;
         }
         Ok(())
     }
 
-    /// Writes the outcome of the lines so far, and returns the exit status. After a fault, a prefix of the text
-    /// was written.
-    pub(crate) fn print<K: Sink>(&self, alloc: Global, sink: &mut K) -> Result<u8, CommandFault>
+    /// Returns the judge of the datagrams so far.
+    pub fn judge(&self) -> &J
+        ensures { result.now ≡ self.now.judge }
+    {
+        &self.judge
+    }
+
+    /// Returns the number of the first line that is not hexadecimal, if there is one.
+    pub fn not_hex(&self) -> Option<u64>
+        ensures { result ≡ self.now.not_hex }
+    {
+        self.not_hex
+    }
+
+    /// Writes the number of datagrams and the outcome of the lines so far, and returns the exit status. After a fault,
+    /// a prefix of the text was written. `Write` is returned only if the sink failed, `Memory` only if an allocation
+    /// failed, and `Read` never.
+    pub fn print<K: Sink>(&self, alloc: Global, sink: &mut K) -> Result<u8, CommandFault>
         ensures whole { IfOk result (λ status. Appends (K.held sink.old) (K.held sink.new)
-            (checking_text (checking_of self.now)) × (status ≡ checking_status (checking_of self.now))) }
-        ensures front { AppendsPrefix (K.held sink.old) (K.held sink.new) (checking_text (checking_of self.now)) }
+            (checking_text J.judging self.now) × (status ≡ checking_status J.judging self.now)) }
+        ensures front { AppendsPrefix (K.held sink.old) (K.held sink.new) (checking_text J.judging self.now) }
         ensures failures { CountsSink (K.failed sink.old) (K.failed sink.new) result }
     {
         let mut text = Vec::new(alloc);
         push_count(&mut text, self.datagrams)?;
+        let names = Counted { word: b"line" };
         match self.not_hex {
-            Some(number) => print_not_hex(sink, &mut text, number),
-            None => self.check.print(sink, &mut text, b"line"),
+            Some(number) => {
+                self.judge.print_early(sink, &mut text, &names)?;
+                print_not_hex(sink, &mut text, number)
+            }
+            None => self.judge.print(sink, &mut text, &names),
         }
     }
 }
 
-// Adds the datagram of the line to the check. Returns the number of the line if it is not hexadecimal. The decoded
+// Adds the datagram of the line to the judge. Returns the number of the line if it is not hexadecimal. The decoded
 // bytes replace the contents of `bytes`.
-fn judge(
-    check: &mut DatagramCheck,
+fn judge<J: Judge>(
+    judge: &mut J,
     bytes: &mut Vec<u8>,
     number: u64,
     digits: &[u8],
 ) -> Result<Option<u64>, AllocError>
-    requires { check.old.refused ≡ None }
     ensures { IfOk result (λ not_hex.
-        line_judged check.new not_hex ≡ judged_digits check.old.seen number (decode_of digits.now)) }
+        (judge.new, not_hex) ≡ judged_digits J.judging judge.old number (decode_of digits.now)) }
 {
     if !mold_digits::decode(digits, bytes)? {
         return Ok(Some(number));
     }
-    check.add(number, bytes.as_slice())?;
+    judge.add(number, bytes.as_slice())?;
     Ok(None)
 }
 

@@ -3,19 +3,26 @@
 ghost use Rattle.std.specs.Prelude.{◌≡◌, IfOk, IfSome};
 ghost use Rattle.std.specs.Io.KnownBytes.{Appends};
 ghost use Rattle.mold_check.specs.CheckLines.{check_status, check_text};
-ghost use Rattle.mold_check.specs.Checking.{all_taken, beginning, checking_of};
+ghost use Rattle.mold_check.specs.Checking.{all_taken, beginning};
 ghost use Rattle.mold_devices.specs.Devices.{AppendsPrefix};
 ghost use Rattle.mold_devices.specs.Faults.{CountsCommand, CountsRead};
 ghost use Rattle.mold_devices.specs.Lines.{lines_of};
 
+use crate::datagram_check::DatagramCheck;
+use crate::judge::Judge;
 use crate::line_check::LineCheck;
 use mold_devices::{CommandFault, Lines, ReadFault, Sink, Source};
 use std::alloc::Global;
 
-// Reads all lines of the source and checks them.
-fn read_lines<S: Source>(alloc: Global, source: &mut S) -> Result<LineCheck, ReadFault>
+/// Reads all lines of the source into a check, which can then be printed.
+///
+/// `Read` is returned only if the source failed, `Memory` only if an allocation failed.
+pub fn read_lines<J: Judge, S: Source>(
+    alloc: Global,
+    source: &mut S,
+) -> Result<LineCheck<J>, ReadFault>
     ensures taken { IfOk result (λ check. IfSome (S.left source.old) (λ input.
-        checking_of check ≡ all_taken beginning (lines_of input))) }
+        check ≡ all_taken J.judging (beginning J.judging) (lines_of input))) }
     ensures failures { CountsRead (S.failed source.old) (S.failed source.new) result }
 {
     let mut lines = Lines::new(alloc)?;
@@ -46,6 +53,6 @@ pub fn check_lines<S: Source, K: Sink>(
     ensures failures { CountsCommand (S.failed source.old) (S.failed source.new)
         (K.failed sink.old) (K.failed sink.new) result }
 {
-    let check = read_lines(alloc, source)?;
+    let check: LineCheck<DatagramCheck> = read_lines(alloc, source)?;
     check.print(alloc, sink)
 }

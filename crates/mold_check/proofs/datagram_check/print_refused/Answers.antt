@@ -5,12 +5,12 @@ use Rattle.mold_check.proofs.datagram_check.print_refused.Goals as goal
 
 pub returns-in-Err-clause-kept : goal.returns-in-Err-clause-kept
 returns-in-Err-clause-kept g c = λ is.
-    keeps_former _ _ c.args.text.now.items c.push_refused_datagram.new.text.items _ (c.len-told.ensures ∙ c.args.text.now.ok.0)
+    keeps_former _ _ c.args.text.now.items c.push_refused.new.text.items _ (c.len-told.ensures ∙ c.args.text.now.ok.0)
     c.in-Err.ensures.kept (ends_whole c.end_with.ensures.ends is)
 
 pub returns-in-Err-clause-front : goal.returns-in-Err-clause-front
 returns-in-Err-clause-front g c =
-    front_former _ _ c.args.text.now.items _ c.push_refused_datagram.new.text.items _ (c.len-told.ensures ∙ c.args.text.now.ok.0)
+    front_former _ _ c.args.text.now.items _ c.push_refused.new.text.items _ (c.len-told.ensures ∙ c.args.text.now.ok.0)
     c.in-Err.ensures.kept (ends_front c.end_with.ensures.ends)
 
 pub returns-in-Err-clause-failures : goal.returns-in-Err-clause-failures
