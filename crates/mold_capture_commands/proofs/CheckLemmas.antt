@@ -4,7 +4,11 @@ use Rattle.std.specs.Prelude.{Option, None, Some, IfSome, ◌^◌, ◌-◌, min,
 use Rattle.std.specs.List.{filter}
 use Rattle.std.specs.Io.KnownBytes.{prepend_known}
 use Rattle.mold_check.specs.CheckLines.{outcome_of}
-use Rattle.mold_check.specs.Judgement.{all_added, judgement_status, judgement_text, no_judgement, numbered_text}
+use Rattle.mold_check.specs.EachCheck.{all_judged, each_judging, sessions_status, sessions_text, with_numbers}
+use Rattle.mold_check.specs.Judge.{Judging}
+use Rattle.mold_check.specs.Judgement.{Judgement, all_added, datagram_judging, judgement_status, judgement_text, no_judgement}
+use Rattle.mold_check.specs.Judgement.{numbered_text}
+use Rattle.mold_check.specs.Naming.{counted as named_by}
 use Rattle.mold_check.specs.Report.{outcome_status}
 use Rattle.mold_devices.specs.Devices.{one_more}
 use Rattle.mold_frame.specs.Carried.{Carried}
@@ -16,7 +20,7 @@ use Rattle.mold_pcap.specs.declared.fault.CaptureFault.{CaptureFault}
 use Rattle.mold_capture_commands.specs.Captures.{counts_of, faults_text, founds_of, has_fault, number_of, payloads}
 use Rattle.mold_capture_commands.specs.Checking.{CaptureFile, CheckState, all_files_taken, all_taken, beginning, file_taken}
 use Rattle.mold_capture_commands.specs.Checking.{frames_of, founds, no_captures, taken, check_text, check_status}
-use Rattle.mold_capture_commands.specs.Captures.{captures_status, captures_text}
+use Rattle.mold_capture_commands.specs.Captures.{captures_status, captures_text, each_captures_status, each_captures_text}
 use Rattle.mold_capture_commands.specs.Counts.{counts_text, is_partial, is_passed, is_skipped, is_unread, more_if}
 use Rattle.mold_capture_commands.specs.Faults.{fault_text}
 use Rattle.mold_capture_commands.specs.Filter.{Found, Passed, Skipped, Partial, Unread, found}
@@ -27,36 +31,41 @@ use Rattle.mold_capture_commands.specs.declared.frame_check.FrameCheck.{FrameChe
 -- ---- frames that were taken
 
 -- Of the known capture, some frames were taken. The remaining ones lead to the same state as all frames do.
-abbrev pub TakenSoFar : CaptureFilter → FrameCheck → FrameCheck → Option (List ℕ) → FormatState → Option (List ℕ) → Type 0
-TakenSoFar filter start now None format left = Unit {0}
-TakenSoFar filter start now (Some input) format None = ⊥
-TakenSoFar filter start now (Some input) format (Some left) =
-    (all_taken start (founds filter (capture_of input).frames) ≡ all_taken now (founds filter (captured format left).frames))
+abbrev pub TakenSoFar : {S : Type 0} → Judging S → CaptureFilter → FrameCheck S → FrameCheck S → Option (List ℕ) →
+    FormatState → Option (List ℕ) → Type 0
+TakenSoFar judging filter start now None format left = Unit {0}
+TakenSoFar judging filter start now (Some input) format None = ⊥
+TakenSoFar judging filter start now (Some input) format (Some left) =
+    (all_taken judging start (founds filter (capture_of input).frames)
+    ≡ all_taken judging now (founds filter (captured format left).frames))
     × ((capture_of input).fault ≡ (captured format left).fault)
 
 -- No frame was taken.
-pub taken_none : (filter : CaptureFilter) (start : FrameCheck) (known : Option (List ℕ)) (format : FormatState)
-    (rest : List ℕ) → format ≡ at_start → rest ≡ [] → TakenSoFar filter start start known format (prepend_known rest known)
-taken_none filter start None format rest is none = tt
-taken_none filter start (Some input) format rest is none = (
-  ap (λ (b : List ℕ). all_taken start (founds filter (captured at_start b).frames)) (ap (λ (r : List ℕ). r ++ input) (sym none))
-      ∙ ap (λ (f : FormatState). all_taken start (founds filter (captured f (rest ++ input)).frames)) (sym is),
+pub taken_none : {S : Type 0} (judging : Judging S) (filter : CaptureFilter) (start : FrameCheck S)
+    (known : Option (List ℕ)) (format : FormatState) (rest : List ℕ) → format ≡ at_start → rest ≡ [] →
+    TakenSoFar judging filter start start known format (prepend_known rest known)
+taken_none judging filter start None format rest is none = tt
+taken_none judging filter start (Some input) format rest is none = (
+  ap (λ (b : List ℕ). all_taken judging start (founds filter (captured at_start b).frames))
+      (ap (λ (r : List ℕ). r ++ input) (sym none))
+      ∙ ap (λ (f : FormatState). all_taken judging start (founds filter (captured f (rest ++ input)).frames)) (sym is),
   ap (λ (b : List ℕ). (captured at_start b).fault) (ap (λ (r : List ℕ). r ++ input) (sym none))
       ∙ ap (λ (f : FormatState). (captured f (rest ++ input)).fault) (sym is),
 )
 
 -- One more frame was taken.
-pub taken_more : (filter : CaptureFilter) (start now next : FrameCheck) (known left behind : Option (List ℕ))
-    (format later : FormatState) (frame : Frame) → TakenSoFar filter start now known format left →
-    GivesFrame format left frame later behind → next ≡ taken now (found filter (carried frame.link frame.bytes)) →
-    TakenSoFar filter start next known later behind
+pub taken_more : {S : Type 0} (judging : Judging S) (filter : CaptureFilter) (start now next : FrameCheck S)
+    (known left behind : Option (List ℕ)) (format later : FormatState) (frame : Frame) →
+    TakenSoFar judging filter start now known format left → GivesFrame format left frame later behind →
+    next ≡ taken judging now (found filter (carried frame.link frame.bytes)) →
+    TakenSoFar judging filter start next known later behind
 unfolding all_taken
-taken_more filter start now next None left behind format later frame so gives is = tt
-taken_more filter start now next (Some input) None behind format later frame so gives is = absurd so
-taken_more filter start now next (Some input) (Some xs) None format later frame so gives is = absurd gives
-taken_more filter start now next (Some input) (Some xs) (Some ys) format later frame so gives is = (
-  so.0 ∙ ap (λ c. all_taken now (founds filter c.frames)) gives
-      ∙ ap (λ (s : FrameCheck). all_taken s (founds filter (captured later ys).frames)) (sym is),
+taken_more judging filter start now next None left behind format later frame so gives is = tt
+taken_more judging filter start now next (Some input) None behind format later frame so gives is = absurd so
+taken_more judging filter start now next (Some input) (Some xs) None format later frame so gives is = absurd gives
+taken_more {S} judging filter start now next (Some input) (Some xs) (Some ys) format later frame so gives is = (
+  so.0 ∙ ap (λ c. all_taken judging now (founds filter c.frames)) gives
+      ∙ ap (λ (s : FrameCheck S). all_taken judging s (founds filter (captured later ys).frames)) (sym is),
   so.1 ∙ ap (λ c. c.fault) gives,
 )
 
@@ -68,14 +77,16 @@ found_frame filter frame f c link bytes is read at all =
     is ∙ ap (found filter) (read ∙ ap (λ (l : ℕ). carried l bytes) at ∙ ap (carried frame.link) all)
 
 -- All frames were taken.
-pub taken_all : (filter : CaptureFilter) (start now : FrameCheck) (known left : Option (List ℕ)) (format : FormatState)
-    (fault : Option CaptureFault) → TakenSoFar filter start now known format left → GivesEnd format left fault →
-    IfSome known (λ input. (now ≡ all_taken start (founds filter (capture_of input).frames)) × (fault ≡ (capture_of input).fault))
+pub taken_all : {S : Type 0} (judging : Judging S) (filter : CaptureFilter) (start now : FrameCheck S)
+    (known left : Option (List ℕ)) (format : FormatState) (fault : Option CaptureFault) →
+    TakenSoFar judging filter start now known format left → GivesEnd format left fault →
+    IfSome known (λ input. (now ≡ all_taken judging start (founds filter (capture_of input).frames))
+    × (fault ≡ (capture_of input).fault))
 unfolding all_taken
-taken_all filter start now None left format fault so gives = tt
-taken_all filter start now (Some input) None format fault so gives = absurd so
-taken_all filter start now (Some input) (Some xs) format fault so gives = (
-  sym (so.0 ∙ ap (λ c. all_taken now (founds filter c.frames)) gives),
+taken_all judging filter start now None left format fault so gives = tt
+taken_all judging filter start now (Some input) None format fault so gives = absurd so
+taken_all judging filter start now (Some input) (Some xs) format fault so gives = (
+  sym (so.0 ∙ ap (λ c. all_taken judging now (founds filter c.frames)) gives),
   sym (so.1 ∙ ap (λ c. c.fault) gives),
 )
 
@@ -114,19 +125,21 @@ folded_all test list =
     ∙ ap (λ (n : ℕ). min n (2 ^ 64 - 1))
     (let e : 0 + length (filter test list) ≡ length (filter test list) = omega arith in e)
 
-counts_folded : (s : FrameCheck) (list : List Found) → (all_taken s list).counts ≡ record {
-  datagrams = folded is_passed s.counts.datagrams list;
-  skipped = folded is_skipped s.counts.skipped list;
-  partial = folded is_partial s.counts.partial list;
-  unread = folded is_unread s.counts.unread list;
-}
+counts_folded : {S : Type 0} (judging : Judging S) (s : FrameCheck S) (list : List Found) →
+    (all_taken judging s list).counts ≡ record {
+      datagrams = folded is_passed s.counts.datagrams list;
+      skipped = folded is_skipped s.counts.skipped list;
+      partial = folded is_partial s.counts.partial list;
+      unread = folded is_unread s.counts.unread list;
+    }
 unfolding all_taken
-counts_folded s [] = refl
-counts_folded s (first ∷ list) = counts_folded (taken s first) list
+counts_folded judging s [] = refl
+counts_folded judging s (first ∷ list) = counts_folded judging (taken judging s first) list
 
-counts_are : (list : List Found) → (all_taken beginning list).counts ≡ counts_of list
-counts_are list =
-    counts_folded beginning list
+counts_are : {S : Type 0} (judging : Judging S) (list : List Found) →
+    (all_taken judging (beginning judging) list).counts ≡ counts_of list
+counts_are judging list =
+    counts_folded judging (beginning judging) list
     ∙ ap (λ (n : ℕ). record { datagrams = n; skipped = folded is_skipped 0 list; partial = folded is_partial 0 list; unread = folded is_unread 0 list })
     (folded_all is_passed list)
     ∙ ap (λ (n : ℕ). record { datagrams = number_of is_passed list; skipped = n; partial = folded is_partial 0 list; unread = folded is_unread 0 list })
@@ -136,36 +149,48 @@ counts_are list =
     ∙ ap (λ (n : ℕ). record { datagrams = number_of is_passed list; skipped = number_of is_skipped list; partial = number_of is_partial list; unread = n })
     (folded_all is_unread list)
 
-judgement_is : (s : FrameCheck) (list : List Found) →
-    (all_taken s list).check ≡ all_added s.check (one_more s.counts.datagrams) (payloads list)
+judgement_is : (s : FrameCheck Judgement) (list : List Found) →
+    (all_taken datagram_judging s list).judge ≡ all_added s.judge (one_more s.counts.datagrams) (payloads list)
 unfolding all_taken all_added payloads
 judgement_is s [] = refl
-judgement_is s (Passed datagram ∷ list) = judgement_is (taken s (Passed datagram)) list
-judgement_is s (Skipped ∷ list) = judgement_is (taken s Skipped) list
-judgement_is s (Partial ∷ list) = judgement_is (taken s Partial) list
-judgement_is s (Unread ∷ list) = judgement_is (taken s Unread) list
+judgement_is s (Passed datagram ∷ list) = judgement_is (taken datagram_judging s (Passed datagram)) list
+judgement_is s (Skipped ∷ list) = judgement_is (taken datagram_judging s Skipped) list
+judgement_is s (Partial ∷ list) = judgement_is (taken datagram_judging s Partial) list
+judgement_is s (Unread ∷ list) = judgement_is (taken datagram_judging s Unread) list
+
+-- The judge after the frames, whatever it finds.
+judge_is : {S : Type 0} (judging : Judging S) (s : FrameCheck S) (list : List Found) →
+    (all_taken judging s list).judge
+    ≡ all_judged judging s.judge (with_numbers (one_more s.counts.datagrams) (payloads list))
+unfolding all_taken all_judged with_numbers payloads
+judge_is judging s [] = refl
+judge_is judging s (Passed datagram ∷ list) = judge_is judging (taken judging s (Passed datagram)) list
+judge_is judging s (Skipped ∷ list) = judge_is judging (taken judging s Skipped) list
+judge_is judging s (Partial ∷ list) = judge_is judging (taken judging s Partial) list
+judge_is judging s (Unread ∷ list) = judge_is judging (taken judging s Unread) list
 
 -- ---- the law: a list of files
 
-taken_append : (s : FrameCheck) (list more : List Found) → all_taken s (list ++ more) ≡ all_taken (all_taken s list) more
+taken_append : {S : Type 0} (judging : Judging S) (s : FrameCheck S) (list more : List Found) →
+    all_taken judging s (list ++ more) ≡ all_taken judging (all_taken judging s list) more
 unfolding all_taken
-taken_append s [] more = refl
-taken_append s (first ∷ list) more = taken_append (taken s first) list more
+taken_append judging s [] more = refl
+taken_append judging s (first ∷ list) more = taken_append judging (taken judging s first) list more
 
-pub frames_are : (filter : CaptureFilter) (s : CheckState) (files : List CaptureFile) →
-    frames_of (all_files_taken filter s files) ≡ all_taken (frames_of s) (founds_of filter files)
+pub frames_are : {S : Type 0} (judging : Judging S) (filter : CaptureFilter) (s : CheckState S) (files : List CaptureFile) →
+    frames_of (all_files_taken judging filter s files) ≡ all_taken judging (frames_of s) (founds_of filter files)
 unfolding all_taken all_files_taken
-frames_are filter s [] = refl
-frames_are filter s (file ∷ files) =
-    frames_are filter (file_taken filter s file.name file.bytes) files
-    ∙ sym (taken_append (frames_of s) (founds filter (capture_of file.bytes).frames) (founds_of filter files))
+frames_are judging filter s [] = refl
+frames_are judging filter s (file ∷ files) =
+    frames_are judging filter (file_taken judging filter s file.name file.bytes) files
+    ∙ sym (taken_append judging (frames_of s) (founds filter (capture_of file.bytes).frames) (founds_of filter files))
 
-faults_are : (filter : CaptureFilter) (s : CheckState) (files : List CaptureFile) →
-    (all_files_taken filter s files).faults ≡ s.faults ++ faults_text files
+faults_are : {S : Type 0} (judging : Judging S) (filter : CaptureFilter) (s : CheckState S) (files : List CaptureFile) →
+    (all_files_taken judging filter s files).faults ≡ s.faults ++ faults_text files
 unfolding all_files_taken
-faults_are filter s [] = sym (append-nil s.faults)
-faults_are filter s (file ∷ files) =
-    faults_are filter (file_taken filter s file.name file.bytes) files
+faults_are judging filter s [] = sym (append-nil s.faults)
+faults_are judging filter s (file ∷ files) =
+    faults_are judging filter (file_taken judging filter s file.name file.bytes) files
     ∙ append_assoc s.faults (fault_text file.name (capture_of file.bytes).fault) (faults_text files)
 
 or_or : (a b c : Bool) → ((a || b) || c) ≡ (a || (b || c))
@@ -176,12 +201,12 @@ or_none : (a : Bool) → a ≡ (a || false)
 or_none true = refl
 or_none false = refl
 
-at_fault_is : (filter : CaptureFilter) (s : CheckState) (files : List CaptureFile) →
-    (all_files_taken filter s files).at_fault ≡ (s.at_fault || has_fault files)
+at_fault_is : {S : Type 0} (judging : Judging S) (filter : CaptureFilter) (s : CheckState S) (files : List CaptureFile) →
+    (all_files_taken judging filter s files).at_fault ≡ (s.at_fault || has_fault files)
 unfolding all_files_taken
-at_fault_is filter s [] = or_none s.at_fault
-at_fault_is filter s (file ∷ files) =
-    at_fault_is filter (file_taken filter s file.name file.bytes) files
+at_fault_is judging filter s [] = or_none s.at_fault
+at_fault_is judging filter s (file ∷ files) =
+    at_fault_is judging filter (file_taken judging filter s file.name file.bytes) files
     ∙ or_or s.at_fault (is_some (capture_of file.bytes).fault) (has_fault files)
 
 -- The laws of mold_check that these proofs use.
@@ -192,30 +217,85 @@ TextLaw = (word : List ℕ) (list : List (List ℕ)) →
 abbrev pub StatusLaw : Type 0
 StatusLaw = (list : List (List ℕ)) → judgement_status (all_added no_judgement 1 list) ≡ outcome_status (outcome_of list)
 
-counts_all : (filter : CaptureFilter) (files : List CaptureFile) →
-    (all_files_taken filter no_captures files).counts ≡ counts_of (founds_of filter files)
-counts_all filter files =
-    ap (λ (f : FrameCheck). f.counts) (frames_are filter no_captures files) ∙ counts_are (founds_of filter files)
+abbrev pub EachTextLaw : Type 0
+EachTextLaw = (names : ℕ → List ℕ) (list : List (ℕ × List ℕ)) →
+    (each_judging datagram_judging).text names (all_judged (each_judging datagram_judging) (each_judging datagram_judging).begins list) ≡ sessions_text names list
+
+abbrev pub EachStatusLaw : Type 0
+EachStatusLaw = (list : List (ℕ × List ℕ)) →
+    (each_judging datagram_judging).status (all_judged (each_judging datagram_judging) (each_judging datagram_judging).begins list) ≡ sessions_status list
+
+-- The state after the files.
+abbrev after_files : {S : Type 0} → Judging S → CaptureFilter → List CaptureFile → CheckState S
+after_files judging filter files = all_files_taken judging filter (no_captures judging) files
+
+counts_all : {S : Type 0} (judging : Judging S) (filter : CaptureFilter) (files : List CaptureFile) →
+    (after_files judging filter files).counts ≡ counts_of (founds_of filter files)
+counts_all {S} judging filter files =
+    ap (λ (f : FrameCheck S). f.counts) (frames_are judging filter (no_captures judging) files)
+    ∙ counts_are judging (founds_of filter files)
 
 judgement_all : (filter : CaptureFilter) (files : List CaptureFile) →
-    (all_files_taken filter no_captures files).judgement ≡ all_added no_judgement 1 (payloads (founds_of filter files))
+    (after_files datagram_judging filter files).judge ≡ all_added no_judgement 1 (payloads (founds_of filter files))
 judgement_all filter files =
-    ap (λ (f : FrameCheck). f.check) (frames_are filter no_captures files) ∙ judgement_is beginning (founds_of filter files)
+    ap (λ (f : FrameCheck Judgement). f.judge) (frames_are datagram_judging filter (no_captures datagram_judging) files)
+    ∙ judgement_is (beginning datagram_judging) (founds_of filter files)
+
+judge_all : {S : Type 0} (judging : Judging S) (filter : CaptureFilter) (files : List CaptureFile) →
+    (after_files judging filter files).judge
+    ≡ all_judged judging judging.begins (with_numbers 1 (payloads (founds_of filter files)))
+judge_all {S} judging filter files =
+    ap (λ (f : FrameCheck S). f.judge) (frames_are judging filter (no_captures judging) files)
+    ∙ judge_is judging (beginning judging) (founds_of filter files)
+
+-- The text, given what the judge prints.
+text_with : {S : Type 0} (judging : Judging S) (filter : CaptureFilter) (files : List CaptureFile) (text : List ℕ) →
+    judging.text (named_by (codes "datagram")) (after_files judging filter files).judge ≡ text →
+    check_text judging (after_files judging filter files)
+    ≡ (counts_text (counts_of (founds_of filter files)) ++ faults_text files) ++ text
+text_with judging filter files text is =
+    let s = after_files judging filter files in
+    let told = judging.text (named_by (codes "datagram")) s.judge in
+    ap (λ (c : CaptureCounts). (counts_text c ++ s.faults) ++ told) (counts_all judging filter files)
+    ∙ ap (λ (f : List ℕ). (counts_text (counts_of (founds_of filter files)) ++ f) ++ told)
+    (faults_are judging filter (no_captures judging) files)
+    ∙ ap (λ (t : List ℕ). (counts_text (counts_of (founds_of filter files)) ++ faults_text files) ++ t) is
+
+-- The status, given that of the judge.
+status_with : {S : Type 0} (judging : Judging S) (filter : CaptureFilter) (files : List CaptureFile) (status : ℕ) →
+    judging.status (after_files judging filter files).judge ≡ status →
+    check_status judging (after_files judging filter files) ≡ (if has_fault files then 2 else status)
+status_with judging filter files status is =
+    let s = after_files judging filter files in
+    ap (λ (b : Bool). if b then 2 else judging.status s.judge) (at_fault_is judging filter (no_captures judging) files)
+    ∙ ap (λ (n : ℕ). if has_fault files then 2 else n) is
 
 pub text_is : TextLaw → (filter : CaptureFilter) (files : List CaptureFile) →
-    check_text (all_files_taken filter no_captures files) ≡ captures_text filter files
+    check_text datagram_judging (after_files datagram_judging filter files) ≡ captures_text filter files
 text_is law filter files =
-    let s = all_files_taken filter no_captures files in
-    ap (λ (c : CaptureCounts). (counts_text c ++ s.faults) ++ judgement_text (codes "datagram") s.judgement) (counts_all filter files)
-    ∙ ap (λ (f : List ℕ). (counts_text (counts_of (founds_of filter files)) ++ f) ++ judgement_text (codes "datagram") s.judgement)
-    (faults_are filter no_captures files)
-    ∙ ap (λ (t : List ℕ). (counts_text (counts_of (founds_of filter files)) ++ faults_text files) ++ t)
-    (ap (judgement_text (codes "datagram")) (judgement_all filter files) ∙ law (codes "datagram") (payloads (founds_of filter files)))
+    text_with datagram_judging filter files _
+    (ap (judgement_text (codes "datagram")) (judgement_all filter files)
+    ∙ law (codes "datagram") (payloads (founds_of filter files)))
 
 pub status_is : StatusLaw → (filter : CaptureFilter) (files : List CaptureFile) →
-    check_status (all_files_taken filter no_captures files) ≡ captures_status filter files
+    check_status datagram_judging (after_files datagram_judging filter files) ≡ captures_status filter files
 status_is law filter files =
-    let s = all_files_taken filter no_captures files in
-    ap (λ (b : Bool). if b then 2 else judgement_status s.judgement) (at_fault_is filter no_captures files)
-    ∙ ap (λ (n : ℕ). if has_fault files then 2 else n)
+    status_with datagram_judging filter files _
     (ap judgement_status (judgement_all filter files) ∙ law (payloads (founds_of filter files)))
+
+pub each_text_is : EachTextLaw → (filter : CaptureFilter) (files : List CaptureFile) →
+    check_text (each_judging datagram_judging) (after_files (each_judging datagram_judging) filter files)
+    ≡ each_captures_text filter files
+each_text_is law filter files =
+    let judging = each_judging datagram_judging in
+    text_with judging filter files _
+    (ap (judging.text (named_by (codes "datagram"))) (judge_all judging filter files)
+    ∙ law (named_by (codes "datagram")) (with_numbers 1 (payloads (founds_of filter files))))
+
+pub each_status_is : EachStatusLaw → (filter : CaptureFilter) (files : List CaptureFile) →
+    check_status (each_judging datagram_judging) (after_files (each_judging datagram_judging) filter files)
+    ≡ each_captures_status filter files
+each_status_is law filter files =
+    let judging = each_judging datagram_judging in
+    status_with judging filter files _
+    (ap judging.status (judge_all judging filter files) ∙ law (with_numbers 1 (payloads (founds_of filter files))))

@@ -1,18 +1,19 @@
 -- The destinations of the datagrams, one by one.
 use Rattle.std.proofs.Common.{◌≡◌, ◌∙◌, ℕ, zero, suc, Bool, true, false, cond, List, [], ◌∷◌, Option, None, Some, refl, sym, ap}
-use Rattle.std.specs.Prelude.{slice_index_or}
+use Rattle.std.specs.Prelude.{is_some, slice_index_or}
 use Rattle.mold_capture.specs.Outcome.{Outcome, whole, incomplete, refused}
 use Rattle.mold_capture.specs.Refusal.{refusal}
 use Rattle.mold_capture.specs.Seen.{Seen, after, seen_of}
 use Rattle.mold_capture.specs.Verdict.{missing_in}
 use Rattle.mold_check.specs.CheckLines.{index_raised, outcome_at, outcome_from, outcome_or}
-use Rattle.mold_check.specs.Judgement.{judged_as}
+use Rattle.mold_check.specs.EachCheck.{EachState, each_judging}
+use Rattle.mold_check.specs.Judgement.{Judgement, datagram_judging, judged_as}
 use Rattle.mold_check.specs.declared.refused_datagram.RefusedDatagram.{RefusedDatagram}
 use Rattle.mold_devices.specs.Devices.{one_more}
 use Rattle.mold_frame.specs.Carried.{Datagram}
 use Rattle.mold_rule.specs.declared.refusal.Refusal.{Refusal}
 use Rattle.mold_capture_commands.specs.Captures.{captures_refuse_other, destinations, founds_of, payloads, refuses_other}
-use Rattle.mold_capture_commands.specs.Checking.{CaptureFile, all_files_taken, all_taken, beginning, no_captures}
+use Rattle.mold_capture_commands.specs.Checking.{CaptureFile, all_files_taken, all_taken, beginning, no_captures, taken}
 use Rattle.mold_capture_commands.specs.Counts.{counted}
 use Rattle.mold_capture_commands.specs.Filter.{Found, Passed, Skipped, Partial, Unread}
 use Rattle.mold_capture_commands.specs.Targets.{Destination, TargetState, aimed, destination_of, differ, first_or}
@@ -23,7 +24,8 @@ use Rattle.mold_capture_commands.proofs.CheckLemmas.{frames_are}
 
 -- After a refusal the destinations stay.
 stays : (counts : CaptureCounts) (seen : Seen) (datagram : RefusedDatagram) (targets : TargetState) (list : List Found) →
-    (all_taken (record { counts = counts; check = record { seen = seen; refused = Some datagram }; targets = targets }) list).targets
+    (all_taken datagram_judging
+    (record { counts = counts; judge = record { seen = seen; refused = Some datagram }; targets = targets }) list).targets
     ≡ targets
 unfolding all_taken
 stays counts seen datagram targets [] = refl
@@ -65,18 +67,18 @@ none_left (Some first) seen (Some (suc messages)) = by_count _
 next_is : (counts : CaptureCounts) (seen : Seen) (first : Option Destination) (d : Datagram) (list : List Found)
     (why : Option Refusal) →
     ((later : Option Destination) →
-    (all_taken (record {
+    (all_taken datagram_judging (record {
       counts = counted counts (Passed d);
-      check = record { seen = after seen d.payload; refused = None };
+      judge = record { seen = after seen d.payload; refused = None };
       targets = record { first = later; other = false };
     }) list).targets.other
     ≡ refuses_from later (destinations list) (outcome_from (after seen d.payload) (payloads list)))
-    → (all_taken (record {
+    → (all_taken datagram_judging (record {
       counts = counted counts (Passed d);
-      check = judged_as seen (one_more counts.datagrams) d.payload why;
+      judge = judged_as seen (one_more counts.datagrams) d.payload why;
       targets =
-          aimed (record { first = first; other = false }) None
-          (judged_as seen (one_more counts.datagrams) d.payload why).refused (destination_of d);
+          aimed (record { first = first; other = false }) false
+          (is_some (judged_as seen (one_more counts.datagrams) d.payload why).refused) (destination_of d);
     }) list).targets.other
     ≡ refuses_from first (destination_of d ∷ destinations list)
     (outcome_or why (outcome_from (after seen d.payload) (payloads list)))
@@ -93,9 +95,9 @@ next_is counts seen first d list None others =
     ∙ raised first (destination_of d) (destinations list) (outcome_from (after seen d.payload) (payloads list))
 
 other_is : (counts : CaptureCounts) (seen : Seen) (first : Option Destination) (list : List Found) →
-    (all_taken (record {
+    (all_taken datagram_judging (record {
       counts = counts;
-      check = record { seen = seen; refused = None };
+      judge = record { seen = seen; refused = None };
       targets = record { first = first; other = false };
     }) list).targets.other
     ≡ refuses_from first (destinations list) (outcome_from seen (payloads list))
@@ -109,7 +111,31 @@ other_is counts seen first (Partial ∷ list) = other_is (counted counts Partial
 other_is counts seen first (Unread ∷ list) = other_is (counted counts Unread) seen first list
 
 pub other_target_is : (filter : CaptureFilter) (files : List CaptureFile) →
-    (all_files_taken filter no_captures files).targets.other ≡ captures_refuse_other filter files
+    (all_files_taken datagram_judging filter (no_captures datagram_judging) files).targets.other
+    ≡ captures_refuse_other filter files
 other_target_is filter files =
-    ap (λ (f : FrameCheck). f.targets.other) (frames_are filter no_captures files)
-    ∙ other_is beginning.counts (seen_of []) None (founds_of filter files)
+    ap (λ (f : FrameCheck Judgement). f.targets.other) (frames_are datagram_judging filter (no_captures datagram_judging) files)
+    ∙ other_is (beginning datagram_judging).counts (seen_of []) None (founds_of filter files)
+
+-- ---- each session by itself
+
+abbrev State : Type 0
+State = EachState Judgement
+
+-- No judge of several sessions has decided, so no datagram counts as one with another destination.
+none_other : (s : FrameCheck State) (list : List Found) →
+    (all_taken (each_judging datagram_judging) s list).targets.other ≡ s.targets.other
+unfolding all_taken
+none_other s [] = refl
+none_other s (Passed d ∷ list) = none_other (taken (each_judging datagram_judging) s (Passed d)) list
+none_other s (Skipped ∷ list) = none_other (taken (each_judging datagram_judging) s Skipped) list
+none_other s (Partial ∷ list) = none_other (taken (each_judging datagram_judging) s Partial) list
+none_other s (Unread ∷ list) = none_other (taken (each_judging datagram_judging) s Unread) list
+
+pub each_other_is : (filter : CaptureFilter) (files : List CaptureFile) →
+    (all_files_taken (each_judging datagram_judging) filter (no_captures (each_judging datagram_judging)) files).targets.other
+    ≡ false
+each_other_is filter files =
+    let judging = each_judging datagram_judging in
+    ap (λ (f : FrameCheck State). f.targets.other) (frames_are judging filter (no_captures judging) files)
+    ∙ none_other (beginning judging) (founds_of filter files)

@@ -4,7 +4,9 @@ use Rattle.std.specs.Prelude.{is_some, if◌then◌else◌}
 use Rattle.std.specs.List.{filter, flat_map, list_any}
 use Rattle.mold_capture.specs.Outcome.{Outcome, whole, incomplete, refused}
 use Rattle.mold_check.specs.CheckLines.{outcome_of}
+use Rattle.mold_check.specs.EachCheck.{sessions_status, sessions_text, with_numbers}
 use Rattle.mold_check.specs.Judgement.{numbered_text}
+use Rattle.mold_check.specs.Naming.{counted}
 use Rattle.mold_check.specs.Report.{outcome_status}
 use Rattle.mold_pcap.specs.Captures.{capture_of}
 use Rattle.mold_wire.specs.declared.limits.TheConstants.{MAX_NUMBER}
@@ -96,3 +98,18 @@ captures_text filter files =
 -- The exit status: 2 if a file is at fault, otherwise that of the outcome.
 abbrev pub captures_status : CaptureFilter → List CaptureFile → ℕ
 captures_status filter files = if has_fault files then 2 else outcome_status (captures_outcome filter files)
+
+-- The datagrams that pass, each with its number among them.
+abbrev pub numbered_payloads : CaptureFilter → List CaptureFile → List (ℕ × List ℕ)
+numbered_payloads filter files = with_numbers 1 (payloads_of filter files)
+
+-- What is printed for the files if each session is checked by itself.
+abbrev pub each_captures_text : CaptureFilter → List CaptureFile → List ℕ
+each_captures_text filter files =
+    (counts_text (counts_of (founds_of filter files)) ++ faults_text files)
+    ++ sessions_text (counted (codes "datagram")) (numbered_payloads filter files)
+
+-- The exit status: 2 if a file is at fault, otherwise that of the sessions.
+abbrev pub each_captures_status : CaptureFilter → List CaptureFile → ℕ
+each_captures_status filter files =
+    if has_fault files then 2 else sessions_status (numbered_payloads filter files)

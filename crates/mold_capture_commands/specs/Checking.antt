@@ -1,6 +1,7 @@
--- The state of a check of captures.
+-- The state of a check of captures, whose datagrams are judged by any judge.
 use Rattle.std.specs.Prelude.{ℕ, ◌||◌, Bool, false, List, [], ◌∷◌, ◌++◌, map, codes, is_some, if◌then◌else◌}
-use Rattle.mold_check.specs.Judgement.{Judgement, added, judgement_status, judgement_text, no_judgement}
+use Rattle.mold_check.specs.Judge.{Judging}
+use Rattle.mold_check.specs.Naming.{counted as named_by}
 use Rattle.mold_devices.specs.Devices.{one_more}
 use Rattle.mold_frame.specs.Link.{carried}
 use Rattle.mold_pcap.specs.Captures.{Capture, Frame, capture_of}
@@ -13,76 +14,78 @@ use Rattle.mold_capture_commands.specs.declared.filter.CaptureFilter.{CaptureFil
 use Rattle.mold_capture_commands.specs.declared.frame_check.FrameCheck.{FrameCheck}
 
 -- Before the first frame.
-abbrev pub beginning : FrameCheck
-beginning = record { counts = no_counts; check = no_judgement; targets = no_targets }
+abbrev pub beginning : {S : Type 0} → Judging S → FrameCheck S
+beginning judging = record { counts = no_counts; judge = judging.begins; targets = no_targets }
 
--- What was found after one more frame. A datagram that passes has the number of such datagrams so far.
-abbrev pub judged : Judgement → ℕ → Found → Judgement
-judged judgement number (Passed datagram) = added judgement number datagram.payload
-judged judgement number Skipped = judgement
-judged judgement number Partial = judgement
-judged judgement number Unread = judgement
+-- The judge after one more frame. A datagram that passes has the number of such datagrams so far.
+abbrev pub judged : {S : Type 0} → Judging S → S → ℕ → Found → S
+judged judging judge number (Passed datagram) = judging.added judge number datagram.payload
+judged judging judge number Skipped = judge
+judged judging judge number Partial = judge
+judged judging judge number Unread = judge
 
--- What is kept of the destinations after one more frame, by the judgements before and after it.
-abbrev pub sent_to : TargetState → Judgement → Judgement → Found → TargetState
-sent_to targets before after (Passed datagram) = aimed targets before.refused after.refused (destination_of datagram)
+-- What is kept of the destinations after one more frame, given whether the judge had decided before and after it.
+abbrev pub sent_to : TargetState → Bool → Bool → Found → TargetState
+sent_to targets before after (Passed datagram) = aimed targets before after (destination_of datagram)
 sent_to targets before after Skipped = targets
 sent_to targets before after Partial = targets
 sent_to targets before after Unread = targets
 
 -- The state after one more frame.
-abbrev pub taken : FrameCheck → Found → FrameCheck
-taken s found = record {
+abbrev pub taken : {S : Type 0} → Judging S → FrameCheck S → Found → FrameCheck S
+taken judging s found = record {
   counts = counted s.counts found;
-  check = judged s.check (one_more s.counts.datagrams) found;
-  targets = sent_to s.targets s.check (judged s.check (one_more s.counts.datagrams) found) found;
+  judge = judged judging s.judge (one_more s.counts.datagrams) found;
+  targets =
+      sent_to s.targets (judging.decided s.judge)
+      (judging.decided (judged judging s.judge (one_more s.counts.datagrams) found)) found;
 }
 
 -- The state after the frames.
-unfoldable pub all_taken : FrameCheck → List Found → FrameCheck
-all_taken s [] = s
-all_taken s (found ∷ list) = all_taken (taken s found) list
+unfoldable pub all_taken : {S : Type 0} → Judging S → FrameCheck S → List Found → FrameCheck S
+all_taken judging s [] = s
+all_taken judging s (found ∷ list) = all_taken judging (taken judging s found) list
 
 -- What the frames count as.
 abbrev pub founds : CaptureFilter → List Frame → List Found
 founds filter frames = map (λ frame. found filter (carried frame.link frame.bytes)) frames
 
--- The state of a `CaptureCheck`: the counts, what was found, the destinations, and the lines of the files at fault.
-pub record CheckState : Type 0 where
+-- The state of a `CaptureCheck`: the counts, the judge, the destinations, and the lines of the files at fault.
+pub record CheckState (S : Type 0) : Type 0 where
   pub counts : CaptureCounts
-  pub judgement : Judgement
+  pub judge : S
   pub targets : TargetState
   pub faults : List ℕ
   pub at_fault : Bool
 
 -- Before the first file.
-abbrev pub no_captures : CheckState
-no_captures = record {
+abbrev pub no_captures : {S : Type 0} → Judging S → CheckState S
+no_captures judging = record {
   counts = no_counts;
-  judgement = no_judgement;
+  judge = judging.begins;
   targets = no_targets;
   faults = [];
   at_fault = false;
 }
 
 -- The state of the frames.
-abbrev pub frames_of : CheckState → FrameCheck
-frames_of s = record { counts = s.counts; check = s.judgement; targets = s.targets }
+abbrev pub frames_of : {S : Type 0} → CheckState S → FrameCheck S
+frames_of s = record { counts = s.counts; judge = s.judge; targets = s.targets }
 
 -- The state after one more file, with these frames and this fault.
-abbrev pub capture_taken : CheckState → FrameCheck → List ℕ → Capture → CheckState
+abbrev pub capture_taken : {S : Type 0} → CheckState S → FrameCheck S → List ℕ → Capture → CheckState S
 capture_taken s frames name capture = record {
   counts = frames.counts;
-  judgement = frames.check;
+  judge = frames.judge;
   targets = frames.targets;
   faults = s.faults ++ fault_text name capture.fault;
   at_fault = s.at_fault || is_some capture.fault;
 }
 
 -- The state after one more file, which has this name and these bytes.
-abbrev pub file_taken : CaptureFilter → CheckState → List ℕ → List ℕ → CheckState
-file_taken filter s name bytes =
-    capture_taken s (all_taken (frames_of s) (founds filter (capture_of bytes).frames)) name (capture_of bytes)
+abbrev pub file_taken : {S : Type 0} → Judging S → CaptureFilter → CheckState S → List ℕ → List ℕ → CheckState S
+file_taken judging filter s name bytes =
+    capture_taken s (all_taken judging (frames_of s) (founds filter (capture_of bytes).frames)) name (capture_of bytes)
 
 -- A file: its name and its bytes.
 pub record CaptureFile : Type 0 where
@@ -90,14 +93,15 @@ pub record CaptureFile : Type 0 where
   pub bytes : List ℕ
 
 -- The state after the files.
-unfoldable pub all_files_taken : CaptureFilter → CheckState → List CaptureFile → CheckState
-all_files_taken filter s [] = s
-all_files_taken filter s (file ∷ files) = all_files_taken filter (file_taken filter s file.name file.bytes) files
+unfoldable pub all_files_taken : {S : Type 0} → Judging S → CaptureFilter → CheckState S → List CaptureFile → CheckState S
+all_files_taken judging filter s [] = s
+all_files_taken judging filter s (file ∷ files) =
+    all_files_taken judging filter (file_taken judging filter s file.name file.bytes) files
 
--- What is printed after the last file.
-abbrev pub check_text : CheckState → List ℕ
-check_text s = (counts_text s.counts ++ s.faults) ++ judgement_text (codes "datagram") s.judgement
+-- What is printed after the last file. The judge names a datagram by its number among those that pass.
+abbrev pub check_text : {S : Type 0} → Judging S → CheckState S → List ℕ
+check_text judging s = (counts_text s.counts ++ s.faults) ++ judging.text (named_by (codes "datagram")) s.judge
 
 -- The exit status after the last file.
-abbrev pub check_status : CheckState → ℕ
-check_status s = if s.at_fault then 2 else judgement_status s.judgement
+abbrev pub check_status : {S : Type 0} → Judging S → CheckState S → ℕ
+check_status judging s = if s.at_fault then 2 else judging.status s.judge

@@ -1,7 +1,6 @@
 -- Whether the datagram that a check refuses has another destination than those before it.
-use Rattle.std.specs.Prelude.{ℕ, ◌==◌, ◌&&◌, not, Bool, false, List, Option, None, Some}
+use Rattle.std.specs.Prelude.{ℕ, ◌==◌, ◌&&◌, not, Bool, true, false, List, Option, None, Some}
 use Rattle.std.specs.Str.{bytes_eq}
-use Rattle.mold_check.specs.declared.refused_datagram.RefusedDatagram.{RefusedDatagram}
 use Rattle.mold_frame.specs.Carried.{Datagram}
 
 -- Where a datagram goes: an address and a port.
@@ -44,8 +43,9 @@ accepted s destination = record { first = Some (first_or s.first destination); o
 abbrev pub refused : TargetState → Destination → TargetState
 refused s destination = record { first = s.first; other = differs s.first destination }
 
--- After one more datagram, by what was refused before and after it. After a refusal no datagram counts.
-abbrev pub aimed : TargetState → Option RefusedDatagram → Option RefusedDatagram → Destination → TargetState
-aimed s (Some earlier) after destination = s
-aimed s None None destination = accepted s destination
-aimed s None (Some datagram) destination = refused s destination
+-- After one more datagram, given whether the judge had decided before and after it. Only a refusal decides. After it no
+-- datagram counts.
+abbrev pub aimed : TargetState → Bool → Bool → Destination → TargetState
+aimed s true after destination = s
+aimed s false false destination = accepted s destination
+aimed s false true destination = refused s destination

@@ -11,45 +11,43 @@ use crate::faults::push_fault;
 use crate::filter::CaptureFilter;
 use crate::frame_check::{FrameCheck, read_frames};
 use crate::watch::Watch;
+use mold_check::{Counted, Judge};
 use mold_devices::{CommandFault, ReadFault, Sink, Source};
 use std::alloc::Global;
 use std::marker::Model;
 
-/// The command `check --capture`: a check of the datagrams of captures, which are read one after the other.
+/// The command `check --capture`: a check of the datagrams of captures, which are read one after the other. A judge finds
+/// the outcome: `DatagramCheck` for one session, `EachCheck` for each session by itself.
 ///
-/// It keeps the messages that the checker stores, the lines of the files at fault and the destination of the first
+/// It keeps the messages that the judge stores, the lines of the files at fault and the destination of the first
 /// accepted datagram.
 #[derive(Drop)]
-pub struct CaptureCheck {
-    frames: FrameCheck,
+pub struct CaptureCheck<J> {
+    frames: FrameCheck<J>,
     // The lines of the files at fault.
     faults: Vec<u8>,
     at_fault: bool,
     alloc: Global,
 }
 
-impl Model for CaptureCheck {
-    ghost use Rattle.std.specs.Coded.{codes};
-    ghost use Rattle.mold_capture.specs.Seen.{seen_code};
+impl<J> Model for CaptureCheck<J> {
     ghost use Rattle.mold_capture_commands.specs.Checking.{CheckState};
 
-    ghost Value = { CheckState };
-
-    ghost coded = { Prim.hlevel (codes, seen_code) };
+    ghost Value = { CheckState J };
 
     ghost view = { λ c. record {
       counts = c.frames.counts;
-      judgement = c.frames.check;
+      judge = c.frames.judge;
       targets = c.frames.targets;
       faults = c.faults.items;
       at_fault = c.at_fault;
     } };
 }
 
-impl CaptureCheck {
+impl<J: Judge> CaptureCheck<J> {
     /// Returns a check of no capture. This allocates nothing.
-    pub fn new(alloc: Global) -> CaptureCheck
-        ensures { result ≡ no_captures }
+    pub fn new(alloc: Global) -> CaptureCheck<J>
+        ensures { result ≡ no_captures J.judging }
     {
         CaptureCheck {
             frames: FrameCheck::new(alloc),
@@ -72,7 +70,7 @@ impl CaptureCheck {
         watch: &mut W,
     ) -> Result<(), ReadFault>
         ensures taken { OnOk result (IfSome (S.left source.old) (λ bytes.
-            self.new ≡ file_taken filter.now self.old name.now bytes)) }
+            self.new ≡ file_taken J.judging filter.now self.old name.now bytes)) }
         ensures failures { CountsRead (S.failed source.old) (S.failed source.new) result }
     {
         if let Some(fault) = read_frames(self.alloc, filter, source, &mut self.frames, watch)? {
@@ -84,11 +82,25 @@ impl CaptureCheck {
 
     /// Returns whether the first refused datagram has another destination than the first accepted one: another address
     /// or another port. If so, the files may have several sessions, which `mold sessions` lists. It is false if no
-    /// datagram is refused, and if the first datagram is refused.
+    /// datagram is refused, if the first datagram is refused, and always with an `EachCheck`.
     pub fn sees_other_target(&self) -> bool
         ensures { result ≡ self.now.targets.other }
     {
         self.frames.targets.other()
+    }
+
+    /// Returns the judge of the datagrams so far.
+    pub fn judge(&self) -> &J
+        ensures { result.now ≡ self.now.judge }
+    {
+        &self.frames.judge
+    }
+
+    /// Returns whether a file is at fault.
+    pub fn is_at_fault(&self) -> bool
+        ensures { result ≡ self.now.at_fault }
+    {
+        self.at_fault
     }
 
     /// Writes the counts of the frames, the lines of the files at fault and the outcome of the datagrams, and returns
@@ -98,14 +110,17 @@ impl CaptureCheck {
     /// `Write` is returned only if the sink failed, `Memory` only if an allocation failed, and `Read` never.
     pub fn print<K: Sink>(&self, sink: &mut K) -> Result<u8, CommandFault>
         ensures whole { IfOk result (λ status. Appends (K.held sink.old) (K.held sink.new)
-            (check_text self.now) × (status ≡ check_status self.now)) }
-        ensures front { AppendsPrefix (K.held sink.old) (K.held sink.new) (check_text self.now) }
+            (check_text J.judging self.now) × (status ≡ check_status J.judging self.now)) }
+        ensures front { AppendsPrefix (K.held sink.old) (K.held sink.new) (check_text J.judging self.now) }
         ensures failures { CountsSink (K.failed sink.old) (K.failed sink.new) result }
     {
         let mut text = Vec::new(self.alloc);
         push_counts(&mut text, self.frames.counts)?;
         text.extend_from_slice(self.faults.as_slice())?;
-        let status = self.frames.check.print(sink, &mut text, b"datagram")?;
+        let status = self
+            .frames
+            .judge
+            .print(sink, &mut text, &Counted { word: b"datagram" })?;
         if self.at_fault {
             return Ok(2);
         }

@@ -5,7 +5,6 @@ ghost use Rattle.mold_capture_commands.specs.Targets.{accepted, aimed, destinati
 ghost use Rattle.mold_capture_commands.specs.Targets.{refused};
 ghost use Rattle.mold_frame.specs.Lent.{lent_datagram};
 
-use mold_check::RefusedDatagram;
 use mold_frame::Datagram;
 use std::alloc::{AllocError, Global};
 use std::marker::Model;
@@ -96,21 +95,21 @@ impl Targets {
         };
     }
 
-    /// Takes the next datagram, with what was refused before and after it. Only the first accepted datagram allocates,
-    /// the bytes of its address.
+    /// Takes the next datagram, given whether the judge had decided before and after it. Only the first accepted datagram
+    /// allocates, the bytes of its address.
     pub(crate) fn take(
         &mut self,
-        before: Option<RefusedDatagram>,
-        after: Option<RefusedDatagram>,
+        before: bool,
+        after: bool,
         datagram: &Datagram<'_>,
     ) -> Result<(), AllocError>
         ensures { OnOk result (self.new ≡
             aimed self.old before after (destination_of (lent_datagram datagram.now))) }
     {
         match (before, after) {
-            (Some(_), _) => Ok(()),
-            (None, None) => self.accept(datagram),
-            (None, Some(_)) => {
+            (true, _) => Ok(()),
+            (false, false) => self.accept(datagram),
+            (false, true) => {
                 self.refuse(datagram);
                 Ok(())
             }

@@ -7,7 +7,6 @@ mod datagram_check;
 mod datagrams;
 mod each_check;
 mod entry;
-mod entry_names;
 mod judge;
 pub mod laws;
 mod line_check;

@@ -2,6 +2,7 @@
 
 use crate::progress::Progress;
 use mold_capture_commands::{CaptureCheck, CaptureFilter, CaptureShow, Sessions};
+use mold_check::{DatagramCheck, Judge};
 use mold_devices::{CommandFault, FromRead, IntoWrite, Source};
 use mold_wire::Session;
 use mold_wiring::flushed;
@@ -24,7 +25,7 @@ trait CaptureCommand {
     ) -> Result<(), CommandFault>;
 }
 
-impl CaptureCommand for CaptureCheck {
+impl<J: Judge> CaptureCommand for CaptureCheck<J> {
     fn read_next<S: Source>(
         &mut self,
         name: &str,
@@ -128,7 +129,7 @@ fn read_watched<C: CaptureCommand>(
 /// Checks the datagrams of the captures, and flushes standard output once. If a request to a server may have been taken
 /// for a packet, it refers to `mold sessions` on standard error.
 pub(crate) fn check_captures(rt: &HostRuntime, order: &CaptureOrder) -> Result<u8, CommandFault> {
-    let mut check = CaptureCheck::new(rt.alloc());
+    let mut check: CaptureCheck<DatagramCheck> = CaptureCheck::new(rt.alloc());
     read_watched(rt, order, &mut check)?;
     let mut sink = IntoWrite::new(rt.stdout());
     let outcome = check.print(&mut sink);

@@ -5,6 +5,7 @@ use crate::captures::{
     BEAT, BEAT_2, BROKEN, CLASSIC, CUT, REFUSED, REFUSED_ADDRESS, REFUSED_PORT, any, capture_of,
 };
 use mold_capture_commands::{CaptureCheck, NoWatch, Watch};
+use mold_check::DatagramCheck;
 use mold_devices::{CommandFault, MemorySink, SliceSource};
 use std::alloc::Global;
 use std::process::Abort;
@@ -26,7 +27,7 @@ const CASES: &[(&[&[u8]], bool)] = &[
 
 fn sees_other(alloc: Global, packets: &[&[u8]]) -> Result<bool, CommandFault> {
     let capture = capture_of(alloc, packets)?;
-    let mut check = CaptureCheck::new(alloc);
+    let mut check: CaptureCheck<DatagramCheck> = CaptureCheck::new(alloc);
     let mut source = SliceSource::new(capture.as_slice());
     check.read(b"one.pcap", &any(alloc), &mut source, &mut NoWatch)?;
     Ok(check.sees_other_target())
@@ -66,7 +67,7 @@ fn watch_after_each_frame(rt: HostRuntime) -> Result<(), Fail> {
         bytes: 0,
         datagrams: 0,
     };
-    let mut check = CaptureCheck::new(rt.alloc());
+    let mut check: CaptureCheck<DatagramCheck> = CaptureCheck::new(rt.alloc());
     check.read(
         b"one.pcap",
         &any(rt.alloc()),
@@ -89,7 +90,7 @@ const TEXT: &[u8] = b"datagrams 3 skipped 0 partial 0 unread 0\n\
 
 fn print_check(alloc: Global, sink: &mut MemorySink) -> Result<u8, CommandFault> {
     let filter = any(alloc);
-    let mut check = CaptureCheck::new(alloc);
+    let mut check: CaptureCheck<DatagramCheck> = CaptureCheck::new(alloc);
     check.read(
         b"one.pcap",
         &filter,

@@ -11,6 +11,8 @@ mod check;
 #[cfg(test)]
 mod digests;
 #[cfg(test)]
+mod each;
+#[cfg(test)]
 mod ipv4;
 #[cfg(test)]
 mod ipv6;

@@ -5,10 +5,10 @@ use mold_devices::{CommandFault, MemorySink, MemorySource};
 use std::alloc::Global;
 use std::test::Fail;
 
-// A classic capture of IPv4 packets with eight datagrams to port 9000. Those to 239.1.2.3 are messages 5 and 6 of one
-// session, message 1 of another one, message 3 of the first one, bytes that do not encode a packet, and an end packet, a
-// heartbeat and another end packet of the first one. The second datagram, to 239.1.2.4, is a heartbeat of the first one.
-const CAPTURE: &[u8] = b"\xd4\xc3\xb2\xa1\x02\0\x04\0\0\0\0\0\0\0\0\0\xff\xff\0\0\xe4\0\0\0\
+/// A classic capture of IPv4 packets with eight datagrams to port 9000. Those to 239.1.2.3 are messages 5 and 6 of one
+/// session, message 1 of another one, message 3 of the first one, bytes that do not encode a packet, and an end packet, a
+/// heartbeat and another end packet of the first one. The second datagram, to 239.1.2.4, is a heartbeat of the first one.
+pub const CAPTURE: &[u8] = b"\xd4\xc3\xb2\xa1\x02\0\x04\0\0\0\0\0\0\0\0\0\xff\xff\0\0\xe4\0\0\0\
         \0\0\0\0\0\0\0\0\x37\0\0\0\x37\0\0\0\
         \x45\0\0\x37\0\x01\0\0\x40\x11\0\0\x0a\0\0\x01\xef\x01\x02\x03\
         \x12\x34\x23\x28\0\x23\0\0SESSION001\0\0\0\0\0\0\0\x05\0\x02\0\x01A\0\x02BC\

@@ -8,13 +8,13 @@ use Rattle.mold_capture_commands.proofs.frame_check.read_frames.Goals as goal
 pub frames-preserved : goal.frames-preserved
 frames-preserved g c = record {
   taken =
-      taken_more c.args.filter.now c.args.check.now c.frames.check c.take.new.self (g.S.Source.left c.args.source.now)
+      taken_more g.J.Judge.judging c.args.filter.now c.args.check.now c.frames.check c.take.new.self (g.S.Source.left c.args.source.now)
       (prepend_known c.frames.reader.rest (g.S.Source.left c.frames.source))
       (prepend_known c.advance.new.self.rest (g.S.Source.left c.advance.new.source)) c.frames.reader.format
       c.advance.new.self.format c.advance.new.self.frame c.frames.invariant.taken
       (rw c.in-Ok-true.field-0-test at c.in-Ok-true.ensures.frame)
       (c.in_ok-take-in-Ok-true.ensures
-      ∙ ap (taken c.frames.check)
+      ∙ ap (taken g.J.Judge.judging c.frames.check)
       (found_frame c.args.filter.now c.advance.new.self.frame _ _ _ _ c.find.ensures c.read_frame.ensures c.link.ensures
       c.frame.ensures));
   failed = c.in-Ok-true.ensures.failures ∙ c.frames.invariant.failed;
@@ -22,12 +22,12 @@ frames-preserved g c = record {
 
 pub returns-in-Ok-false-clause-taken : goal.returns-in-Ok-false-clause-taken
 returns-in-Ok-false-clause-taken g c =
-    taken_all c.args.filter.now c.args.check.now c.frames.check (g.S.Source.left c.args.source.now)
+    taken_all g.J.Judge.judging c.args.filter.now c.args.check.now c.frames.check (g.S.Source.left c.args.source.now)
     (prepend_known c.frames.reader.rest (g.S.Source.left c.frames.source)) c.frames.reader.format None
     c.frames.invariant.taken (rw c.in-Ok-false.field-0-test at c.in-Ok-false.ensures.end)
 
 pub returns-in-Err-Fault-clause-taken : goal.returns-in-Err-Fault-clause-taken
 returns-in-Err-Fault-clause-taken g c =
-    taken_all c.args.filter.now c.args.check.now c.frames.check (g.S.Source.left c.args.source.now)
+    taken_all g.J.Judge.judging c.args.filter.now c.args.check.now c.frames.check (g.S.Source.left c.args.source.now)
     (prepend_known c.frames.reader.rest (g.S.Source.left c.frames.source)) c.frames.reader.format (Some c.in-Err-Fault.fault)
     c.frames.invariant.taken (rw c.in-Err-Fault.field-0-is at c.in-Err-Fault.ensures.fault)

@@ -7,7 +7,7 @@ use Rattle.mold_capture_commands.proofs.frame_check.read_frames.Given as goal
 -- The frames so far were taken, and no device failed.
 abbrev pub invariant-frames : goal.invariant-frames
 invariant-frames g l = record {
-  taken : TakenSoFar l.fn.filter l.fn.check l.check (g.S.Source.left l.fn.source) l.reader.format
+  taken : TakenSoFar g.J.Judge.judging l.fn.filter l.fn.check l.check (g.S.Source.left l.fn.source) l.reader.format
       (prepend_known l.reader.rest (g.S.Source.left l.source));
   failed : g.S.Source.failed l.source ≡ g.S.Source.failed l.fn.source;
 }
