@@ -8,14 +8,31 @@ use Rattle.mold_words.specs.LinePorts.{Port, line_port_view}
 use Rattle.mold_words.specs.declared.capture_order.CaptureOrder.{CaptureOrder}
 use Rattle.mold_words.specs.declared.feed_times.FeedTimes.{FeedTimes}
 use Rattle.mold_words.specs.declared.line_options.LineOptions.{LineOptions}
+use Rattle.mold_words.specs.declared.listen_options.ListenOptions.{ListenOptions}
+use Rattle.mold_words.specs.declared.local_options.LocalOptions.{LocalOptions}
+use Rattle.mold_words.specs.declared.published_options.PublishedOptions.{PublishedOptions}
 use Rattle.mold_words.specs.declared.receive_order.ReceiveOrder.{ReceiveOrder}
+use Rattle.mold_words.specs.declared.receiver_options.ReceiverOptions.{ReceiverOptions}
 use Rattle.mold_words.specs.declared.request_options.RequestOptions.{RequestOptions}
 use Rattle.mold_words.specs.declared.sent_lines.SentLines.{SentLines}
+use Rattle.mold_words.specs.declared.start_options.StartOptions.{StartOptions}
 use Rattle.mold_words.specs.declared.types.Order.{Order}
 use Rattle.mold_words.specs.declared.types.Order.TheVariants.{Show, Pack, PackJournal, Sim, Check, CheckLines}
 use Rattle.mold_words.specs.declared.types.Order.TheVariants.{Publish, Serve, Listen, Receive, Record, Loop}
 use Rattle.mold_words.specs.declared.types.Order.TheVariants.{Feed, Upgrade, Dump}
 use Rattle.mold_words.specs.declared.types.Order.TheVariants.{CheckCaptures, ShowCaptures, Sessions}
+
+-- The model of the options that `sim` and `loop` share.
+pub record LocalArguments : Type 0 where
+  pub session : List ℕ
+  -- The maximum length of a datagram, in bytes.
+  pub limit : ℕ
+  -- The maximum length of a response, in bytes.
+  pub server_limit : ℕ
+  -- The window of a receiver, in messages.
+  pub window : ℕ
+  -- The maximum number of responses to a request.
+  pub burst : ℕ
 
 -- The model of a `sim` order.
 pub record SimArguments : Type 0 where
@@ -30,6 +47,16 @@ pub record SimArguments : Type 0 where
   pub receivers : ℕ
   -- The maximum number of responses to a request.
   pub burst : ℕ
+
+-- The model of the options of `publish` and `feed` about the session that they publish.
+pub record PublishedArguments : Type 0 where
+  pub session : List ℕ
+  -- The maximum length of a datagram, in bytes.
+  pub limit : ℕ
+  -- The number of heartbeats after the messages.
+  pub beats : ℕ
+  -- The number of end packets after the heartbeats.
+  pub ends : ℕ
 
 -- The model of a `publish` order.
 pub record PublishArguments : Type 0 where
@@ -111,6 +138,18 @@ pub record ServeArguments : Type 0 where
   -- Whether text is written at the end of each turn.
   pub live : Bool
 
+-- The model of the options of `listen` apart from its addresses and its output.
+pub record ListenValues : Type 0 where
+  pub session : List ℕ
+  -- The sequence number of the first message.
+  pub next : ℕ
+  -- The window of a receiver, in messages.
+  pub window : ℕ
+  -- The maximum number of responses to a request.
+  pub burst : ℕ
+  -- The maximum number of turns.
+  pub turns : ℕ
+
 -- The model of a `listen` order.
 pub record ListenArguments : Type 0 where
   pub session : List ℕ
@@ -160,6 +199,26 @@ pub record RequestArguments : Type 0 where
   pub in_flight : ℕ
   -- The number of unanswered requests after which a message is given up. With 0 none is.
   pub give_up : ℕ
+
+-- The model of the options of `receive` about the start of a session.
+pub record StartValues : Type 0 where
+  -- The session. `None` asks for that of the first packet.
+  pub session : Option (List ℕ)
+  -- The sequence number of the first message. `None` asks for that of the first packet of the session.
+  pub next : Option ℕ
+
+-- The model of the options of `receive` about the receiver and its reports.
+pub record ReceiverValues : Type 0 where
+  -- The window of a receiver, in messages.
+  pub window : ℕ
+  -- The number of delivered messages whose digests are kept.
+  pub audit : ℕ
+  -- The time without an accepted datagram after which `receive` ends, in seconds. With 0 it does not end.
+  pub quiet : ℕ
+  -- The time between two lines of statistics, in seconds. With 0 none is printed.
+  pub stats : ℕ
+  -- Whether messages are printed as message blocks.
+  pub blocks : Bool
 
 -- The model of a `receive` order.
 pub record ReceiveArguments : Type 0 where
@@ -259,6 +318,35 @@ pub data Arguments : Type 0 where
   upgrade_wanted : Text → Text → Bool → Arguments
   dump_wanted : DumpArguments → Arguments
 
+-- The model of the options of `listen` apart from its addresses and its output, as the program reads them.
+abbrev pub listen_options_view : ListenOptions → ListenValues
+listen_options_view options = record {
+  session = options.session;
+  next = options.next;
+  window = options.window;
+  burst = options.burst;
+  turns = options.turns;
+}
+
+-- The model of the options that `sim` and `loop` share, as the program reads them.
+abbrev pub local_options_view : LocalOptions → LocalArguments
+local_options_view options = record {
+  session = options.session;
+  limit = options.limits.limit;
+  server_limit = options.limits.server_limit;
+  window = options.window;
+  burst = options.burst;
+}
+
+-- The model of the options about a published session, as the program reads them.
+abbrev pub published_options_view : PublishedOptions → PublishedArguments
+published_options_view options = record {
+  session = options.session;
+  limit = options.limit;
+  beats = options.beats;
+  ends = options.ends;
+}
+
 -- The model of the options about lines, as the program reads them.
 abbrev pub line_options_view : LineOptions → LineArguments
 line_options_view options = record {
@@ -277,6 +365,20 @@ request_options_view options = record {
   requests = options.requests;
   in_flight = options.in_flight;
   give_up = options.give_up;
+}
+
+-- The model of the options about the start of a session, as the program reads them.
+abbrev pub start_options_view : StartOptions → StartValues
+start_options_view options = record { session = options.session; next = options.next }
+
+-- The model of the options about the receiver, as the program reads them.
+abbrev pub receiver_options_view : ReceiverOptions → ReceiverValues
+receiver_options_view options = record {
+  window = options.window;
+  audit = options.audit;
+  quiet = options.quiet;
+  stats = options.stats;
+  blocks = options.blocks;
 }
 
 -- The model of an order of `receive`, as the program reads it.

@@ -12,8 +12,10 @@ use Rattle.mold_words.specs.LinePorts.{Port, line_port_of}
 use Rattle.mold_words.specs.CaptureOptions.{captures_of, port_of, session_or_none}
 use Rattle.mold_words.specs.IpAddresses.{ip_of}
 use Rattle.mold_words.specs.Values.{session_of, number_of, values_of}
-use Rattle.mold_words.specs.Arguments.{Arguments, LineArguments, ReceiveArguments, RequestArguments, SentArguments}
-use Rattle.mold_words.specs.Arguments.{TimeArguments, check_lines_wanted, check_wanted, dump_wanted, feed_wanted}
+use Rattle.mold_words.specs.Arguments.{Arguments, LineArguments, ListenValues, LocalArguments, PublishedArguments}
+use Rattle.mold_words.specs.Arguments.{ReceiveArguments, ReceiverValues, RequestArguments, SentArguments}
+use Rattle.mold_words.specs.Arguments.{StartValues, TimeArguments}
+use Rattle.mold_words.specs.Arguments.{check_lines_wanted, check_wanted, dump_wanted, feed_wanted}
 use Rattle.mold_words.specs.Arguments.{listen_wanted, loop_wanted, pack_journal_wanted, pack_wanted, publish_wanted}
 use Rattle.mold_words.specs.Arguments.{receive_wanted, record_wanted, serve_wanted, show_wanted, sim_wanted}
 use Rattle.mold_words.specs.Arguments.{upgrade_wanted, CaptureArguments, check_captures_wanted, sessions_wanted}
@@ -124,6 +126,14 @@ is_no_port rows name = option_map_or (λ text. not (is_some (line_port_of text))
 abbrev pub is_no_host : List Row → Text → Bool
 is_no_host rows name = option_map_or (λ text. not (is_some (host_of text))) (first_of name rows) false
 
+-- Whether the value of an option that is an address is invalid, for all commands except `receive`.
+abbrev pub has_invalid_address : List Row → Bool
+has_invalid_address rows = list_any (is_no_address rows) (codes "a" ∷ codes "b" ∷ codes "server" ∷ codes "bind" ∷ [])
+
+-- Whether the value of an option that is the IPv4 address of an interface is invalid.
+abbrev pub has_invalid_interface : List Row → Bool
+has_invalid_interface rows = list_any (is_no_host rows) (codes "interface-a" ∷ codes "interface-b" ∷ [])
+
 -- Whether a value of `--server`, which may be given several times, is not an address.
 abbrev pub has_invalid_server : List Row → Bool
 has_invalid_server rows = list_any (λ text. not (is_some (address_of text))) (texts_in (codes "server") rows)
@@ -142,8 +152,7 @@ receives_no_address rows =
 unfoldable pub has_no_address : Text → List Row → Bool
 has_no_address name rows =
     if bytes_eq name (codes "receive") then receives_no_address rows
-    else list_any (is_no_address rows) (codes "a" ∷ codes "b" ∷ codes "server" ∷ codes "bind" ∷ [])
-    || (list_any (is_no_host rows) (codes "interface-a" ∷ codes "interface-b" ∷ []) || has_invalid_group rows)
+    else has_invalid_address rows || (has_invalid_interface rows || has_invalid_group rows)
 
 -- Whether an option or argument of this name is given.
 abbrev pub is_given : List Row → Text → Bool
@@ -193,27 +202,40 @@ pack_of rows =
     (limit_in (codes "limit") rows))
     (session_in (codes "session") rows)
 
--- What `sim` asks for with these options, if their values are valid.
-unfoldable pub sim_of : List Row → Option Arguments
-sim_of rows =
+-- The options that `sim` and `loop` share, if their values are valid.
+unfoldable pub local_in : List Row → Option LocalArguments
+local_in rows =
     option_and_then
     (λ session. option_and_then
     (λ limits. option_and_then
     (λ window. option_and_then
-    (λ receivers. option_and_then
-    (λ burst. Some (sim_wanted (record {
+    (λ burst. Some (record {
       session = session;
       limit = limits.0;
       server_limit = limits.1;
       window = window;
-      receivers = receivers;
       burst = burst;
-    })))
+    }))
     (burst_in rows))
-    (number_in (codes "receivers") 2 1 8 rows))
     (window_in rows))
     (limits_in rows))
     (session_in (codes "session") rows)
+
+-- What `sim` asks for with these options, if their values are valid.
+unfoldable pub sim_of : List Row → Option Arguments
+sim_of rows =
+    option_and_then
+    (λ local. option_and_then
+    (λ receivers. Some (sim_wanted (record {
+      session = local.session;
+      limit = local.limit;
+      server_limit = local.server_limit;
+      window = local.window;
+      receivers = receivers;
+      burst = local.burst;
+    })))
+    (number_in (codes "receivers") 2 1 8 rows))
+    (local_in rows)
 
 -- What `check` asks for with captures. It has no folder.
 abbrev pub checked_captures : List Row → Option Arguments
@@ -237,35 +259,42 @@ check_of rows = if is_given rows (codes "capture") then checked_captures rows el
 unfoldable pub sessions_of : List Row → Option Arguments
 sessions_of rows = option_map sessions_wanted (captures_in rows)
 
+-- The session that `publish` and `feed` publish, if the values are valid.
+unfoldable pub published_in : List Row → Option PublishedArguments
+published_in rows =
+    option_and_then
+    (λ session. option_and_then
+    (λ limit. option_and_then
+    (λ beats. option_and_then
+    (λ ends. Some (record { session = session; limit = limit; beats = beats; ends = ends }))
+    (number_in (codes "ends") 1 0 1000 rows))
+    (number_in (codes "beats") 1 0 1000 rows))
+    (limit_in (codes "limit") rows))
+    (session_in (codes "session") rows)
+
 -- What `publish` asks for with these options, if their values are valid.
 unfoldable pub publish_of : List Row → Option Arguments
 publish_of rows =
     option_and_then
-    (λ session. option_and_then
-    (λ limit. option_and_then
+    (λ published. option_and_then
     (λ a. option_and_then
     (λ b. option_and_then
-    (λ journal. option_and_then
-    (λ beats. option_and_then
-    (λ ends. option_and_then
-    (λ input. Some (publish_wanted (record {
-      session = session;
-      limit = limit;
+    (λ input. option_and_then
+    (λ journal. Some (publish_wanted (record {
+      session = published.session;
+      limit = published.limit;
       a = a;
       b = b;
       journal = journal;
-      beats = beats;
-      ends = ends;
+      beats = published.beats;
+      ends = published.ends;
       input = input;
     })))
-    (format_in rows))
-    (number_in (codes "ends") 1 0 1000 rows))
-    (number_in (codes "beats") 1 0 1000 rows))
     (first_of (codes "journal") rows))
+    (format_in rows))
     (address_in (codes "b") rows))
     (address_in (codes "a") rows))
-    (limit_in (codes "limit") rows))
-    (session_in (codes "session") rows)
+    (published_in rows)
 
 -- The address of a text, if it is one or there is no text.
 abbrev pub address_or_none : Option Text → Option (Option HostPort)
@@ -314,17 +343,14 @@ feed_times_in rows =
 unfoldable pub feed_of : List Row → Option Arguments
 feed_of rows =
     option_and_then
-    (λ session. option_and_then
-    (λ limit. option_and_then
+    (λ published. option_and_then
     (λ lines. option_and_then
-    (λ journal. option_and_then
     (λ bind. option_and_then
     (λ burst. option_and_then
     (λ times. option_and_then
-    (λ beats. option_and_then
-    (λ ends. Some (feed_wanted (record {
-      session = session;
-      limit = limit;
+    (λ journal. Some (feed_wanted (record {
+      session = published.session;
+      limit = published.limit;
       lines = lines;
       journal = journal;
       append = flag_in (codes "append") rows;
@@ -332,19 +358,16 @@ feed_of rows =
       burst = burst;
       times = times;
       blocks = flag_in (codes "blocks") rows;
-      beats = beats;
-      ends = ends;
+      beats = published.beats;
+      ends = published.ends;
       stays_open = flag_in (codes "open") rows;
     })))
-    (number_in (codes "ends") 1 0 1000 rows))
-    (number_in (codes "beats") 1 0 1000 rows))
+    (first_of (codes "journal") rows))
     (feed_times_in rows))
     (burst_in rows))
     (address_or_none (first_of (codes "bind") rows)))
-    (first_of (codes "journal") rows))
     (sent_lines_in rows))
-    (limit_in (codes "limit") rows))
-    (session_in (codes "session") rows)
+    (published_in rows)
 
 -- What `serve` asks for with these options, if their values are valid.
 unfoldable pub serve_of : List Row → Option Arguments
@@ -369,40 +392,47 @@ serve_of rows =
     (limit_in (codes "limit") rows))
     (first_of (codes "journal") rows)
 
--- What `listen` asks for with these options, if their values are valid.
-unfoldable pub listen_of : List Row → Option Arguments
-listen_of rows =
+-- The options of `listen` apart from its addresses and its output, if their values are valid.
+unfoldable pub listen_in : List Row → Option ListenValues
+listen_in rows =
     option_and_then
     (λ session. option_and_then
     (λ next. option_and_then
     (λ window. option_and_then
+    (λ burst. option_and_then
+    (λ turns. Some (record { session = session; next = next; window = window; burst = burst; turns = turns }))
+    (turns_in rows))
+    (burst_in rows))
+    (window_in rows))
+    (number_in (codes "next") 1 1 9223372036854775807 rows))
+    (session_in (codes "session") rows)
+
+-- What `listen` asks for with these options, if their values are valid.
+unfoldable pub listen_of : List Row → Option Arguments
+listen_of rows =
+    option_and_then
+    (λ listen. option_and_then
     (λ a. option_and_then
     (λ b. option_and_then
     (λ server. option_and_then
-    (λ burst. option_and_then
-    (λ turns. option_and_then
     (λ output. Some (listen_wanted (record {
-      session = session;
-      next = next;
-      window = window;
+      session = listen.session;
+      next = listen.next;
+      window = listen.window;
       a = a;
       b = b;
       server = server;
-      burst = burst;
-      turns = turns;
+      burst = listen.burst;
+      turns = listen.turns;
       live = live_in rows;
       report = report_in rows;
       output = output;
     })))
     (format_in rows))
-    (turns_in rows))
-    (burst_in rows))
     (address_in (codes "server") rows))
     (address_in (codes "b") rows))
     (address_in (codes "a") rows))
-    (window_in rows))
-    (number_in (codes "next") 1 1 9223372036854775807 rows))
-    (session_in (codes "session") rows)
+    (listen_in rows)
 
 -- The session that `--session` gives, or `None` if `--learn` is given. Exactly one of them must be given.
 abbrev pub session_or_learned : Option Text → Bool → Option (Option (List ℕ))
@@ -481,40 +511,63 @@ requests_in rows =
     (number_in (codes "timeout") 50 1 60000 rows))
     (number_in (codes "patience") 0 200 1000000 rows)
 
--- What `receive` asks for with these options apart from a journal, if their values are valid. Without `--patience` it is
--- 0, and adapts.
-unfoldable pub receive_in : List Row → Option ReceiveArguments
-receive_in rows =
+-- The session and the sequence number at which the options start, if their values are valid.
+unfoldable pub session_start_in : List Row → Option StartValues
+session_start_in rows =
     option_and_then
-    (λ session. option_and_then
-    (λ next. option_and_then
-    (λ lines. option_and_then
+    (λ session. option_map (λ next. record { session = session; next = next }) (start_in rows))
+    (learned_in rows)
+
+-- What the receiver keeps, when it ends and when it reports, if the numbers are valid.
+unfoldable pub receiver_in : List Row → Option ReceiverValues
+receiver_in rows =
+    option_and_then
     (λ window. option_and_then
-    (λ requests. option_and_then
     (λ audit. option_and_then
     (λ quiet. option_and_then
-    (λ stats. option_and_then
-    (λ servers. Some (record {
-      session = session;
-      next = next;
-      lines = lines;
-      servers = servers;
+    (λ stats. Some (record {
       window = window;
-      requests = requests;
       audit = audit;
       quiet = quiet;
       stats = stats;
       blocks = flag_in (codes "blocks") rows;
     }))
-    (servers_in rows))
     (number_in (codes "stats") 0 0 86400 rows))
     (number_in (codes "quiet") 0 0 86400 rows))
     (number_in (codes "audit") 65536 0 1048576 rows))
+    (number_in (codes "window") MAX_WIDE_WINDOW 1 MAX_WIDE_WINDOW rows)
+
+-- What `receive` asks for with the values of its groups of options.
+abbrev pub received : StartValues → LineArguments → RequestArguments → ReceiverValues → List HostPort
+    → ReceiveArguments
+received start lines requests receiver servers = record {
+  session = start.session;
+  next = start.next;
+  lines = lines;
+  servers = servers;
+  window = receiver.window;
+  requests = requests;
+  audit = receiver.audit;
+  quiet = receiver.quiet;
+  stats = receiver.stats;
+  blocks = receiver.blocks;
+}
+
+-- What `receive` asks for with these options apart from a journal, if their values are valid. Without `--patience` it is
+-- 0, and adapts.
+unfoldable pub receive_in : List Row → Option ReceiveArguments
+receive_in rows =
+    option_and_then
+    (λ start. option_and_then
+    (λ lines. option_and_then
+    (λ requests. option_and_then
+    (λ receiver. option_and_then
+    (λ servers. Some (received start lines requests receiver servers))
+    (servers_in rows))
+    (receiver_in rows))
     (requests_in rows))
-    (number_in (codes "window") MAX_WIDE_WINDOW 1 MAX_WIDE_WINDOW rows))
     (lines_in rows))
-    (start_in rows))
-    (learned_in rows)
+    (session_start_in rows)
 
 -- Whether a receiver starts at message 1.
 abbrev pub starts_at_1 : Option ℕ → Bool
@@ -542,19 +595,16 @@ receive_of rows =
 unfoldable pub loop_of : List Row → Option Arguments
 loop_of rows =
     option_and_then
-    (λ session. option_and_then
-    (λ limits. option_and_then
-    (λ window. option_and_then
-    (λ burst. option_and_then
+    (λ local. option_and_then
     (λ drop_a. option_and_then
     (λ drop_b. option_and_then
     (λ turns. option_and_then
     (λ format. Some (loop_wanted (record {
-      session = session;
-      limit = limits.0;
-      server_limit = limits.1;
-      window = window;
-      burst = burst;
+      session = local.session;
+      limit = local.limit;
+      server_limit = local.server_limit;
+      window = local.window;
+      burst = local.burst;
       drop_a = drop_a;
       drop_b = drop_b;
       turns = turns;
@@ -565,10 +615,7 @@ loop_of rows =
     (turns_in rows))
     (number_in (codes "drop-b") 0 0 1000 rows))
     (number_in (codes "drop-a") 0 0 1000 rows))
-    (burst_in rows))
-    (window_in rows))
-    (limits_in rows))
-    (session_in (codes "session") rows)
+    (local_in rows)
 
 -- What `upgrade` asks for with these options, if its two file names differ.
 unfoldable pub upgrade_of : List Row → Option Arguments
@@ -599,6 +646,17 @@ dump_of rows =
     (number_in (codes "from") 1 1 MAX_NUMBER rows))
     (first_of (codes "journal") rows)
 
+-- What a command over ports asks for with these options, if the command has this name and their values are valid.
+unfoldable pub port_order_at : Text → List Row → Option Arguments
+port_order_at name rows =
+    if bytes_eq name (codes "publish") then publish_of rows
+    else if bytes_eq name (codes "feed") then feed_of rows
+    else if bytes_eq name (codes "serve") then serve_of rows
+    else if bytes_eq name (codes "listen") then listen_of rows
+    else if bytes_eq name (codes "receive") then receive_of rows
+    else if bytes_eq name (codes "loop") then loop_of rows
+    else None
+
 -- What the command of this name asks for with these options, if their values are valid.
 unfoldable pub order_at : Text → List Row → Option Arguments
 order_at name rows =
@@ -607,15 +665,9 @@ order_at name rows =
     else if bytes_eq name (codes "sim") then sim_of rows
     else if bytes_eq name (codes "check") then check_of rows
     else if bytes_eq name (codes "sessions") then sessions_of rows
-    else if bytes_eq name (codes "publish") then publish_of rows
-    else if bytes_eq name (codes "feed") then feed_of rows
-    else if bytes_eq name (codes "serve") then serve_of rows
-    else if bytes_eq name (codes "listen") then listen_of rows
-    else if bytes_eq name (codes "receive") then receive_of rows
-    else if bytes_eq name (codes "loop") then loop_of rows
     else if bytes_eq name (codes "upgrade") then upgrade_of rows
     else if bytes_eq name (codes "dump") then dump_of rows
-    else None
+    else port_order_at name rows
 
 -- What a command that was found with its options asks for, if all values are valid. Without a command it is to show
 -- packets.

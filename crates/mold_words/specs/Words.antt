@@ -1,5 +1,5 @@
 -- Defines the commands and options of `mold`, and the program that they are to `clap`.
-use Rattle.std.specs.Prelude.{Bool, List, [], ◌∷◌, ◌++◌, Some, true, codes, fold}
+use Rattle.std.specs.Prelude.{Bool, List, [], ◌∷◌, Some, true, codes, fold}
 use Rattle.std.specs.List.{list_any}
 use Rattle.std.specs.Str.{bytes_eq}
 use Rattle.clap.specs.Words.{App, Rule, Text, new_app, new_rule, with_rule, with_subcommand}
@@ -7,43 +7,57 @@ use Rattle.clap.specs.declared.builder.ArgAction.TheVariants.{Append, Set, SetTr
 use Rattle.mold_words.specs.declared.table.Kind.{Kind}
 use Rattle.mold_words.specs.declared.table.Kind.TheVariants.{Flag, Optional, Repeated, Required, RequiredRepeated, Word}
 
--- The first commands, each with its options.
-abbrev pub first_commands : List (Text × List (Text × Kind))
-first_commands = (
+-- The command `show` with its options.
+abbrev pub show_command : Text × List (Text × Kind)
+show_command = (
   codes "show",
   (codes "request", Flag) ∷ (codes "capture", Repeated) ∷ (codes "port", Repeated) ∷ (codes "group", Repeated)
       ∷ (codes "session", Optional) ∷ [],
 )
-    ∷ (
-      codes "pack",
-      (codes "session", Required) ∷ (codes "limit", Optional) ∷ (codes "journal", Optional)
-          ∷ (codes "blocks", Flag) ∷ (codes "end-at-empty", Flag) ∷ [],
-    )
-    ∷ (
-      codes "sim",
-      (codes "session", Required) ∷ (codes "limit", Optional) ∷ (codes "server-limit", Optional)
-          ∷ (codes "window", Optional) ∷ (codes "receivers", Optional) ∷ (codes "burst", Optional) ∷ [],
-    )
-    ∷ (
-      codes "check",
-      (codes "folder", Word) ∷ (codes "capture", Repeated) ∷ (codes "port", Repeated) ∷ (codes "group", Repeated)
-          ∷ (codes "session", Optional) ∷ [],
-    )
-    ∷ (
-      codes "sessions",
-      (codes "capture", RequiredRepeated) ∷ (codes "port", Repeated) ∷ (codes "group", Repeated) ∷ [],
-    )
-    ∷ (
-      codes "publish",
-      (codes "session", Required) ∷ (codes "limit", Optional) ∷ (codes "a", Required) ∷ (codes "b", Required)
-          ∷ (codes "journal", Required) ∷ (codes "beats", Optional) ∷ (codes "ends", Optional)
-          ∷ (codes "blocks", Flag) ∷ (codes "end-at-empty", Flag) ∷ [],
-    )
-    ∷ []
 
--- The commands that follow the first ones, each with its options.
-abbrev pub middle_commands : List (Text × List (Text × Kind))
-middle_commands = (
+-- The command `pack` with its options.
+abbrev pub pack_command : Text × List (Text × Kind)
+pack_command = (
+  codes "pack",
+  (codes "session", Required) ∷ (codes "limit", Optional) ∷ (codes "journal", Optional)
+      ∷ (codes "blocks", Flag) ∷ (codes "end-at-empty", Flag) ∷ [],
+)
+
+-- The command `sim` with its options.
+abbrev pub sim_command : Text × List (Text × Kind)
+sim_command = (
+  codes "sim",
+  (codes "session", Required) ∷ (codes "limit", Optional) ∷ (codes "server-limit", Optional)
+      ∷ (codes "window", Optional) ∷ (codes "receivers", Optional) ∷ (codes "burst", Optional) ∷ [],
+)
+
+-- The command `check` with its options.
+abbrev pub check_command : Text × List (Text × Kind)
+check_command = (
+  codes "check",
+  (codes "folder", Word) ∷ (codes "capture", Repeated) ∷ (codes "port", Repeated) ∷ (codes "group", Repeated)
+      ∷ (codes "session", Optional) ∷ [],
+)
+
+-- The command `sessions` with its options.
+abbrev pub sessions_command : Text × List (Text × Kind)
+sessions_command = (
+  codes "sessions",
+  (codes "capture", RequiredRepeated) ∷ (codes "port", Repeated) ∷ (codes "group", Repeated) ∷ [],
+)
+
+-- The command `publish` with its options.
+abbrev pub publish_command : Text × List (Text × Kind)
+publish_command = (
+  codes "publish",
+  (codes "session", Required) ∷ (codes "limit", Optional) ∷ (codes "a", Required) ∷ (codes "b", Required)
+      ∷ (codes "journal", Required) ∷ (codes "beats", Optional) ∷ (codes "ends", Optional)
+      ∷ (codes "blocks", Flag) ∷ (codes "end-at-empty", Flag) ∷ [],
+)
+
+-- The command `feed` with its options.
+abbrev pub feed_command : Text × List (Text × Kind)
+feed_command = (
   codes "feed",
   (codes "session", Required) ∷ (codes "limit", Optional) ∷ (codes "a", Required) ∷ (codes "b", Optional)
       ∷ (codes "interface-a", Optional) ∷ (codes "interface-b", Optional) ∷ (codes "ttl", Optional)
@@ -52,23 +66,28 @@ middle_commands = (
       ∷ (codes "beats", Optional) ∷ (codes "ends", Optional) ∷ (codes "open", Flag)
       ∷ (codes "linger", Optional) ∷ (codes "blocks", Flag) ∷ [],
 )
-    ∷ (
-      codes "serve",
-      (codes "journal", Required) ∷ (codes "follow", Flag) ∷ (codes "limit", Optional) ∷ (codes "burst", Optional)
-          ∷ (codes "bind", Required) ∷ (codes "turns", Optional) ∷ (codes "live", Flag) ∷ [],
-    )
-    ∷ (
-      codes "listen",
-      (codes "session", Required) ∷ (codes "next", Optional) ∷ (codes "window", Optional)
-          ∷ (codes "a", Required) ∷ (codes "b", Required) ∷ (codes "server", Required)
-          ∷ (codes "burst", Optional) ∷ (codes "turns", Optional) ∷ (codes "live", Flag)
-          ∷ (codes "report", Flag) ∷ (codes "blocks", Flag) ∷ (codes "end-at-empty", Flag) ∷ [],
-    )
-    ∷ []
 
--- The last commands, each with its options.
-abbrev pub last_commands : List (Text × List (Text × Kind))
-last_commands = (
+-- The command `serve` with its options.
+abbrev pub serve_command : Text × List (Text × Kind)
+serve_command = (
+  codes "serve",
+  (codes "journal", Required) ∷ (codes "follow", Flag) ∷ (codes "limit", Optional) ∷ (codes "burst", Optional)
+      ∷ (codes "bind", Required) ∷ (codes "turns", Optional) ∷ (codes "live", Flag) ∷ [],
+)
+
+-- The command `listen` with its options.
+abbrev pub listen_command : Text × List (Text × Kind)
+listen_command = (
+  codes "listen",
+  (codes "session", Required) ∷ (codes "next", Optional) ∷ (codes "window", Optional) ∷ (codes "a", Required)
+      ∷ (codes "b", Required) ∷ (codes "server", Required) ∷ (codes "burst", Optional)
+      ∷ (codes "turns", Optional) ∷ (codes "live", Flag) ∷ (codes "report", Flag) ∷ (codes "blocks", Flag)
+      ∷ (codes "end-at-empty", Flag) ∷ [],
+)
+
+-- The command `receive` with its options.
+abbrev pub receive_command : Text × List (Text × Kind)
+receive_command = (
   codes "receive",
   (codes "session", Optional) ∷ (codes "learn", Flag) ∷ (codes "next", Optional) ∷ (codes "from-now", Flag)
       ∷ (codes "a", Required) ∷ (codes "b", Optional) ∷ (codes "source-a", Optional)
@@ -78,24 +97,35 @@ last_commands = (
       ∷ (codes "audit", Optional) ∷ (codes "quiet", Optional) ∷ (codes "stats", Optional)
       ∷ (codes "journal", Optional) ∷ (codes "no-sync", Flag) ∷ (codes "blocks", Flag) ∷ [],
 )
-    ∷ (
-      codes "loop",
-      (codes "session", Required) ∷ (codes "limit", Optional) ∷ (codes "server-limit", Optional)
-          ∷ (codes "window", Optional) ∷ (codes "burst", Optional) ∷ (codes "drop-a", Optional)
-          ∷ (codes "drop-b", Optional) ∷ (codes "turns", Optional) ∷ (codes "report", Flag)
-          ∷ (codes "blocks", Flag) ∷ (codes "end-at-empty", Flag) ∷ [],
-    )
-    ∷ (codes "upgrade", (codes "journal", Required) ∷ (codes "to", Required) ∷ (codes "close", Flag) ∷ [])
-    ∷ (
-      codes "dump",
-      (codes "journal", Required) ∷ (codes "follow", Flag) ∷ (codes "from", Optional) ∷ (codes "count", Optional)
-          ∷ (codes "blocks", Flag) ∷ (codes "end-at-empty", Flag) ∷ [],
-    )
-    ∷ []
 
--- The commands, each with its options.
+-- The command `loop` with its options.
+abbrev pub loop_command : Text × List (Text × Kind)
+loop_command = (
+  codes "loop",
+  (codes "session", Required) ∷ (codes "limit", Optional) ∷ (codes "server-limit", Optional)
+      ∷ (codes "window", Optional) ∷ (codes "burst", Optional) ∷ (codes "drop-a", Optional)
+      ∷ (codes "drop-b", Optional) ∷ (codes "turns", Optional) ∷ (codes "report", Flag)
+      ∷ (codes "blocks", Flag) ∷ (codes "end-at-empty", Flag) ∷ [],
+)
+
+-- The command `upgrade` with its options.
+abbrev pub upgrade_command : Text × List (Text × Kind)
+upgrade_command = (
+  codes "upgrade",
+  (codes "journal", Required) ∷ (codes "to", Required) ∷ (codes "close", Flag) ∷ [],
+)
+
+-- The command `dump` with its options.
+abbrev pub dump_command : Text × List (Text × Kind)
+dump_command = (
+  codes "dump",
+  (codes "journal", Required) ∷ (codes "follow", Flag) ∷ (codes "from", Optional) ∷ (codes "count", Optional)
+      ∷ (codes "blocks", Flag) ∷ (codes "end-at-empty", Flag) ∷ [],
+)
+
+-- The commands, each with its options, in the order in which help lists them.
 abbrev pub commands : List (Text × List (Text × Kind))
-commands = first_commands ++ (middle_commands ++ last_commands)
+commands = show_command ∷ pack_command ∷ sim_command ∷ check_command ∷ sessions_command ∷ publish_command ∷ feed_command ∷ serve_command ∷ listen_command ∷ receive_command ∷ loop_command ∷ upgrade_command ∷ dump_command ∷ []
 
 -- Whether the text is the name of a command.
 abbrev pub is_command : Text → Bool

@@ -6,8 +6,9 @@ ghost use Rattle.clap.specs.Words.{found_of, rows_of};
 ghost use Rattle.mold_words.specs.Addresses.{address_of};
 ghost use Rattle.mold_words.specs.IpAddresses.{ip_of};
 ghost use Rattle.mold_words.specs.NoOrders.{is_address};
-ghost use Rattle.mold_words.specs.Orders.{has_invalid_group, has_invalid_server, has_no_address, is_no_address};
-ghost use Rattle.mold_words.specs.Orders.{is_no_host, is_no_port, receives_no_address};
+ghost use Rattle.mold_words.specs.Orders.{has_invalid_address, has_invalid_group, has_invalid_interface};
+ghost use Rattle.mold_words.specs.Orders.{has_invalid_server, has_no_address, is_no_address, is_no_host, is_no_port};
+ghost use Rattle.mold_words.specs.Orders.{receives_no_address};
 
 use crate::addresses::{address_of, host_of};
 use crate::ip_addresses::ip_of;
@@ -133,6 +134,28 @@ fn check_received(options: &ArgMatches<'_>) -> Result<(), NoOrder>
     check_servers(options)
 }
 
+// Refuses the values of options that are not addresses.
+fn check_each_address(options: &ArgMatches<'_>) -> Result<(), NoOrder>
+    ensures { MatchResult result
+        (λ _. has_invalid_address (rows_of (found_of options.now)) ≡ false)
+        (λ none. (has_invalid_address (rows_of (found_of options.now)) ≡ true) × (is_address none ≡ true)) }
+{
+    check_address(options, "a")?;
+    check_address(options, "b")?;
+    check_address(options, "server")?;
+    check_address(options, "bind")
+}
+
+// Refuses interfaces that are not IPv4 addresses.
+fn check_interfaces(options: &ArgMatches<'_>) -> Result<(), NoOrder>
+    ensures { MatchResult result
+        (λ _. has_invalid_interface (rows_of (found_of options.now)) ≡ false)
+        (λ none. (has_invalid_interface (rows_of (found_of options.now)) ≡ true) × (is_address none ≡ true)) }
+{
+    check_host(options, "interface-a")?;
+    check_host(options, "interface-b")
+}
+
 /// Refuses values that are not addresses. The options that take addresses are known by their names.
 #[tactic(auto, unfolding(crate::specs::Orders::has_no_address))]
 pub(crate) fn check_addresses(name: &str, options: &ArgMatches<'_>) -> Result<(), NoOrder>
@@ -143,11 +166,7 @@ pub(crate) fn check_addresses(name: &str, options: &ArgMatches<'_>) -> Result<()
     if name == "receive" {
         return check_received(options);
     }
-    check_address(options, "a")?;
-    check_address(options, "b")?;
-    check_address(options, "server")?;
-    check_address(options, "bind")?;
-    check_host(options, "interface-a")?;
-    check_host(options, "interface-b")?;
+    check_each_address(options)?;
+    check_interfaces(options)?;
     check_groups(options)
 }

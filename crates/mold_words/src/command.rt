@@ -1,14 +1,16 @@
 //! Builds the `clap` command of the program from the table.
-ghost use Rattle.std.specs.Prelude.{◌≡◌, [], IfOk, Some, drop, false, fold, map, take};
-ghost use Rattle.clap.specs.Words.{app_of, rule_of};
+ghost use Rattle.std.specs.Prelude.{◌≡◌, [], IfOk, Some, false, fold, map};
+ghost use Rattle.clap.specs.Words.{app_of, new_rule, rule_of};
 ghost use Rattle.clap.specs.declared.builder.Command.TheViews.{out-Command as fields_of};
-ghost use Rattle.mold_words.specs.Words.{bare_app, command_app, first_commands, last_commands, middle_commands};
-ghost use Rattle.mold_words.specs.Words.{mold_app, rule_for, with_command, with_option};
+ghost use Rattle.mold_words.specs.Words.{bare_app, check_command, command_app, commands, dump_command, feed_command};
+ghost use Rattle.mold_words.specs.Words.{listen_command, loop_command, mold_app, pack_command, publish_command};
+ghost use Rattle.mold_words.specs.Words.{receive_command, rule_for, serve_command, sessions_command, show_command};
+ghost use Rattle.mold_words.specs.Words.{sim_command, upgrade_command, with_command, with_option};
 ghost use Rattle.mold_words.specs.Table.{command_of, option_of};
 
 use crate::table::{
-    CommandRow, FIRST_COMMANDS, Kind, LAST_COMMANDS, MIDDLE_COMMANDS, OptionRow, RECEIVE_COMMAND,
-    value_name,
+    CHECK, CommandRow, DUMP, FEED, Kind, LISTEN, LOOP, OptionRow, PACK, PUBLISH, RECEIVE, SERVE,
+    SESSIONS, SHOW, SIM, UPGRADE, value_name,
 };
 use clap::{Arg, ArgAction, Command};
 use std::alloc::{AllocError, Global};
@@ -38,15 +40,26 @@ fn is_required(kind: Kind) -> bool
     matches!(kind, Kind::Required | Kind::RequiredRepeated)
 }
 
+// Returns the `clap` argument of an option, without the text by which it is given and the name of its value.
+fn plain_argument<'a>(alloc: Global, option: OptionRow) -> Arg<'a>
+    ensures rule { rule_of result ≡ record (new_rule option.name.now) {
+      action = (rule_for [] option.kind).action;
+      required = (rule_for [] option.kind).required;
+    } }
+    ensures local { result.global ≡ false }
+{
+    Arg::new(alloc, option.name)
+        .help(option.help)
+        .action(action_of(option.kind))
+        .required(is_required(option.kind))
+}
+
 // Returns the `clap` argument of an option. `clap` reads each value as text.
 fn argument_of<'a>(alloc: Global, option: OptionRow) -> Arg<'a>
     ensures rule { rule_of result ≡ rule_for option.name.now option.kind }
     ensures local { result.global ≡ false }
 {
-    let argument = Arg::new(alloc, option.name)
-        .help(option.help)
-        .action(action_of(option.kind))
-        .required(is_required(option.kind));
+    let argument = plain_argument(alloc, option);
     match option.kind {
         Kind::Flag => argument.long(option.name),
         Kind::Word => argument.value_name(value_name(option.name)),
@@ -112,41 +125,111 @@ fn with_commands<'a>(
     Ok(program)
 }
 
-// Returns the program with its first commands.
-fn with_first_commands<'a>(alloc: Global) -> Result<Command<'a>, AllocError>
-    ensures { IfOk result (λ c. app_of c ≡ fold with_command bare_app first_commands) }
+// Each of the functions that follow returns a row of the table.
+
+fn show_row() -> CommandRow
+    ensures { command_of result ≡ show_command }
 {
-    let program = bare_command(alloc)?;
-    with_commands(alloc, program, &FIRST_COMMANDS)
+    SHOW
 }
 
-// Adds the commands that follow the first ones to the program.
-fn with_middle_commands<'a>(alloc: Global, program: Command<'a>) -> Result<Command<'a>, AllocError>
-    ensures { IfOk result (λ c. app_of c ≡ fold with_command (app_of program.entry) middle_commands) }
+fn pack_row() -> CommandRow
+    ensures { command_of result ≡ pack_command }
 {
-    with_commands(alloc, program, &MIDDLE_COMMANDS)
+    PACK
 }
 
-// Adds the command `receive` to the program.
-fn with_receive_command<'a>(alloc: Global, program: Command<'a>) -> Result<Command<'a>, AllocError>
-    ensures { IfOk result (λ c. app_of c ≡ fold with_command (app_of program.entry) (take 1 last_commands)) }
+fn sim_row() -> CommandRow
+    ensures { command_of result ≡ sim_command }
 {
-    with_commands(alloc, program, &RECEIVE_COMMAND)
+    SIM
 }
 
-// Adds the commands that follow `receive` to the program.
-fn with_last_commands<'a>(alloc: Global, program: Command<'a>) -> Result<Command<'a>, AllocError>
-    ensures { IfOk result (λ c. app_of c ≡ fold with_command (app_of program.entry) (drop 1 last_commands)) }
+fn check_row() -> CommandRow
+    ensures { command_of result ≡ check_command }
 {
-    with_commands(alloc, program, &LAST_COMMANDS)
+    CHECK
+}
+
+fn sessions_row() -> CommandRow
+    ensures { command_of result ≡ sessions_command }
+{
+    SESSIONS
+}
+
+fn publish_row() -> CommandRow
+    ensures { command_of result ≡ publish_command }
+{
+    PUBLISH
+}
+
+fn feed_row() -> CommandRow
+    ensures { command_of result ≡ feed_command }
+{
+    FEED
+}
+
+fn serve_row() -> CommandRow
+    ensures { command_of result ≡ serve_command }
+{
+    SERVE
+}
+
+fn listen_row() -> CommandRow
+    ensures { command_of result ≡ listen_command }
+{
+    LISTEN
+}
+
+fn receive_row() -> CommandRow
+    ensures { command_of result ≡ receive_command }
+{
+    RECEIVE
+}
+
+fn loop_row() -> CommandRow
+    ensures { command_of result ≡ loop_command }
+{
+    LOOP
+}
+
+fn upgrade_row() -> CommandRow
+    ensures { command_of result ≡ upgrade_command }
+{
+    UPGRADE
+}
+
+fn dump_row() -> CommandRow
+    ensures { command_of result ≡ dump_command }
+{
+    DUMP
+}
+
+// Returns the rows of the table.
+fn command_rows() -> [CommandRow; 13]
+    ensures { map command_of result ≡ commands }
+{
+    [
+        show_row(),
+        pack_row(),
+        sim_row(),
+        check_row(),
+        sessions_row(),
+        publish_row(),
+        feed_row(),
+        serve_row(),
+        listen_row(),
+        receive_row(),
+        loop_row(),
+        upgrade_row(),
+        dump_row(),
+    ]
 }
 
 /// Returns the program with its commands and options. It fails only if an allocation fails.
 pub(crate) fn mold_command<'a>(alloc: Global) -> Result<Command<'a>, AllocError>
     ensures { IfOk result (λ c. app_of c ≡ mold_app) }
 {
-    let first = with_first_commands(alloc)?;
-    let middle = with_middle_commands(alloc, first)?;
-    let receive = with_receive_command(alloc, middle)?;
-    with_last_commands(alloc, receive)
+    let program = bare_command(alloc)?;
+    with_commands(alloc, program, &command_rows())
 }

@@ -94,10 +94,29 @@ impl From<AllocError> for NoOrder {
     }
 }
 
+// Returns the text for an option that has no value.
+fn missing_value(alloc: Global, name: &'static str) -> Result<String, AllocError> {
+    let value = value_name(name);
+    format!(in alloc; "error: '--{name} <{value}>' has no value\n")
+}
+
 // Returns the text for an invalid value of an option.
 fn invalid_value(alloc: Global, name: &'static str, reason: &str) -> Result<String, AllocError> {
     let value = value_name(name);
     format!(in alloc; "error: invalid value for '--{name} <{value}>': {reason}\n")
+}
+
+// Returns the text for a value of an option that is not a number in its range.
+fn invalid_number(
+    alloc: Global,
+    name: &'static str,
+    least: u64,
+    most: u64,
+) -> Result<String, AllocError> {
+    let value = value_name(name);
+    format!(in alloc;
+        "error: invalid value for '--{name} <{value}>': not a number from {least} to {most}\n"
+    )
 }
 
 impl NoOrder {
@@ -122,19 +141,11 @@ impl NoOrder {
         ensures { self ≡ NoOrder.Memory → is_err result ≡ true }
     {
         match self {
-            NoOrder::Missing { name } => {
-                let value = value_name(name);
-                format!(in alloc; "error: '--{name} <{value}>' has no value\n")
-            }
+            NoOrder::Missing { name } => missing_value(alloc, name),
             NoOrder::Session => {
                 invalid_value(alloc, "session", "not 1 to 10 characters from space to ~")
             }
-            NoOrder::Number { name, least, most } => {
-                let value = value_name(name);
-                format!(in alloc;
-                    "error: invalid value for '--{name} <{value}>': not a number from {least} to {most}\n"
-                )
-            }
+            NoOrder::Number { name, least, most } => invalid_number(alloc, name, least, most),
             NoOrder::Address { name }
             | NoOrder::LinePort { name }
             | NoOrder::Group { name }

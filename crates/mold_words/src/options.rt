@@ -5,8 +5,10 @@ ghost use Rattle.std.specs.Prelude.{string_bytes, true};
 ghost use Rattle.std.specs.List.{list_all};
 ghost use Rattle.clap.specs.Words.{all_of, first_of, found_of, rows_of};
 ghost use Rattle.mold_words.specs.NoOrders.{LacksOrder, LacksValue};
+ghost use Rattle.mold_words.specs.Arguments.{local_options_view, published_options_view};
 ghost use Rattle.mold_words.specs.Orders.{address_in, bound_in, burst_in, flag_in, follow_in, format_in, limit_in};
-ghost use Rattle.mold_words.specs.Orders.{limits_in, live_in, number_in, report_in, session_in, turns_in, window_in};
+ghost use Rattle.mold_words.specs.Orders.{limits_in, live_in, local_in, number_in, published_in, report_in};
+ghost use Rattle.mold_words.specs.Orders.{session_in, turns_in, window_in};
 ghost use Rattle.mold_words.specs.Values.{is_character};
 ghost use Rattle.mold_words.specs.Addresses.{address_view};
 ghost use Rattle.mold_wire.specs.declared.limits.TheConstants.{MAX_BURST, MAX_WINDOW};
@@ -15,7 +17,9 @@ ghost use Rattle.mold_wire.specs.declared.limits.TheConstants.{MAX_LIMIT, MIN_LI
 use crate::address::Address;
 use crate::addresses::address_of;
 use crate::limits::Limits;
+use crate::local_options::LocalOptions;
 use crate::no_order::NoOrder;
+use crate::published_options::PublishedOptions;
 use crate::values::{number_of, session_of};
 use clap::ArgMatches;
 use mold_input::MessageFormat;
@@ -221,6 +225,44 @@ pub(crate) fn limits_in(options: &ArgMatches<'_>) -> Result<Limits, NoOrder>
     Ok(Limits {
         limit,
         server_limit,
+    })
+}
+
+/// Returns the options that `sim` and `loop` share.
+#[tactic(auto, unfolding(crate::specs::Orders::local_in))]
+pub(crate) fn local_in(options: &ArgMatches<'_>) -> Result<LocalOptions, NoOrder>
+    ensures { MatchResult result
+        (λ local. local_in (rows_of (found_of options.now)) ≡ Some (local_options_view local))
+        (LacksValue (local_in (rows_of (found_of options.now)))) }
+{
+    let session = session_in(options)?;
+    let limits = limits_in(options)?;
+    let window = window_in(options)?;
+    let burst = burst_in(options)?;
+    Ok(LocalOptions {
+        session,
+        limits,
+        window,
+        burst,
+    })
+}
+
+/// Returns the options of `publish` and `feed` about the session that they publish.
+#[tactic(auto, unfolding(crate::specs::Orders::published_in))]
+pub(crate) fn published_in(options: &ArgMatches<'_>) -> Result<PublishedOptions, NoOrder>
+    ensures { MatchResult result
+        (λ published. published_in (rows_of (found_of options.now)) ≡ Some (published_options_view published))
+        (LacksValue (published_in (rows_of (found_of options.now)))) }
+{
+    let session = session_in(options)?;
+    let limit = limit_in(options, "limit")?;
+    let beats = number_in(options, "beats", 1, 0, 1000)?;
+    let ends = number_in(options, "ends", 1, 0, 1000)?;
+    Ok(PublishedOptions {
+        session,
+        limit,
+        beats: beats as u32,
+        ends: ends as u32,
     })
 }
 

@@ -1,37 +1,47 @@
 //! Makes the order of the command that a parse found.
 
-ghost use Rattle.std.specs.Prelude.{◌≡◌, ◌⊎◌, MatchResult, None, Some, false, not, true};
+ghost use Rattle.std.specs.Prelude.{◌≡◌, ◌⊎◌, ◌≤◌, MatchResult, None, Some, false, length, map, not, true};
 ghost use Rattle.clap.specs.Words.{found_of, rows_of, subcommand_rows_of};
-ghost use Rattle.mold_words.specs.NoOrders.{LacksOrder, is_address};
+ghost use Rattle.mold_words.specs.NoOrders.{LacksOrder, LacksValue, is_address};
 ghost use Rattle.mold_words.specs.Orders.{check_of, dump_of, excludes_journal, feed_of, kept_in, lacks_address};
-ghost use Rattle.mold_words.specs.Orders.{listen_of, loop_of, order_at, order_in, pack_of, publish_of, receive_in};
-ghost use Rattle.mold_words.specs.Orders.{receive_of, serve_of, sessions_of, show_of, sim_of, upgrade_of};
-ghost use Rattle.mold_words.specs.Arguments.{receive_view, view};
+ghost use Rattle.mold_words.specs.Orders.{listen_in, listen_of, loop_of, order_at, order_in, pack_of, port_order_at};
+ghost use Rattle.mold_words.specs.Orders.{publish_of, receive_in, receive_of, received, serve_of, sessions_of};
+ghost use Rattle.mold_words.specs.Orders.{show_of, sim_of, upgrade_of};
+ghost use Rattle.mold_words.specs.Addresses.{address_view};
+ghost use Rattle.mold_words.specs.Arguments.{line_options_view, listen_options_view, receive_view};
+ghost use Rattle.mold_words.specs.Arguments.{receiver_options_view, request_options_view, start_options_view, view};
 
+use crate::address::Address;
 use crate::address_checks::check_addresses;
 use crate::capture_options::{captures_in, check_unfiltered, is_given};
 use crate::dump_order::DumpOrder;
 use crate::feed_options::{address_or_none, feed_times_in, sent_lines_in};
 use crate::feed_order::FeedOrder;
+use crate::line_options::LineOptions;
+use crate::listen_options::ListenOptions;
 use crate::listen_order::ListenOrder;
 use crate::loop_order::LoopOrder;
 use crate::no_order::NoOrder;
 use crate::options::{
-    address_in, bound_in, burst_in, flag_in, follow_in, format_in, journal_in, limit_in, limits_in,
-    live_in, number_in, report_in, required_in, session_in, text_in, turns_in, window_in,
+    address_in, bound_in, burst_in, flag_in, follow_in, format_in, journal_in, limit_in, live_in,
+    local_in, number_in, published_in, report_in, required_in, session_in, text_in, turns_in,
+    window_in,
 };
 use crate::pack_journal_order::PackJournalOrder;
 use crate::pack_order::PackOrder;
 use crate::publish_order::PublishOrder;
-use crate::receive_options::{learned_in, lines_in, requests_in, servers_in, start_in};
+use crate::receive_options::{lines_in, receiver_in, requests_in, servers_in, session_start_in};
 use crate::receive_order::ReceiveOrder;
+use crate::receiver_options::ReceiverOptions;
 use crate::record_order::RecordOrder;
+use crate::request_options::RequestOptions;
 use crate::serve_order::ServeOrder;
 use crate::sim_order::SimOrder;
+use crate::start_options::StartOptions;
 use crate::types::Order;
 use crate::upgrade_order::UpgradeOrder;
 use clap::ArgMatches;
-use mold_wire::{MAX_NUMBER, MAX_WIDE_WINDOW};
+use mold_wire::MAX_NUMBER;
 use std::alloc::Global;
 
 /// The greatest sequence number that a listener may start at.
@@ -53,6 +63,25 @@ pub(crate) fn order_from(alloc: Global, matches: &ArgMatches<'_>) -> Result<Orde
     }
 }
 
+// Returns the order of the command over ports that has this name. For the prover, this is apart from `order_at`: the cost of
+// a `match` over texts grows with the square of their number.
+#[tactic(auto, unfolding(crate::specs::Orders::port_order_at))]
+fn port_order_at(alloc: Global, name: &str, options: &ArgMatches<'_>) -> Result<Order, NoOrder>
+    ensures { MatchResult result
+        (λ order. port_order_at name.now (rows_of (found_of options.now)) ≡ Some (view order))
+        (LacksOrder (port_order_at name.now (rows_of (found_of options.now)))) }
+{
+    match name {
+        "publish" => publish_order(alloc, options),
+        "feed" => feed_order(alloc, options),
+        "serve" => serve_order(alloc, options),
+        "listen" => listen_order(options),
+        "receive" => receive_order(alloc, options),
+        "loop" => loop_order(options),
+        _ => Err(NoOrder::Command),
+    }
+}
+
 // Returns the order of the command of this name.
 #[tactic(auto, unfolding(crate::specs::Orders::order_at))]
 fn order_at(alloc: Global, name: &str, options: &ArgMatches<'_>) -> Result<Order, NoOrder>
@@ -66,15 +95,9 @@ fn order_at(alloc: Global, name: &str, options: &ArgMatches<'_>) -> Result<Order
         "sim" => sim_order(options),
         "check" => check_order(alloc, options),
         "sessions" => sessions_order(alloc, options),
-        "publish" => publish_order(alloc, options),
-        "feed" => feed_order(alloc, options),
-        "serve" => serve_order(alloc, options),
-        "listen" => listen_order(options),
-        "receive" => receive_order(alloc, options),
-        "loop" => loop_order(options),
         "upgrade" => upgrade_order(alloc, options),
         "dump" => dump_order(alloc, options),
-        _ => Err(NoOrder::Command),
+        _ => port_order_at(alloc, name, options),
     }
 }
 
@@ -164,17 +187,15 @@ fn sim_order(options: &ArgMatches<'_>) -> Result<Order, NoOrder>
         (λ order. sim_of (rows_of (found_of options.now)) ≡ Some (view order))
         (LacksOrder (sim_of (rows_of (found_of options.now)))) }
 {
-    let session = session_in(options)?;
-    let limits = limits_in(options)?;
-    let window = window_in(options)?;
+    let local = local_in(options)?;
+    let session = local.session;
     let receivers = number_in(options, "receivers", 2, 1, 8)?;
-    let burst = burst_in(options)?;
     Ok(Order::Sim(SimOrder {
         session,
-        limits,
-        window,
+        limits: local.limits,
+        window: local.window,
         receivers: receivers as usize,
-        burst,
+        burst: local.burst,
     }))
 }
 
@@ -217,22 +238,20 @@ fn publish_order(alloc: Global, options: &ArgMatches<'_>) -> Result<Order, NoOrd
         (λ order. publish_of (rows_of (found_of options.now)) ≡ Some (view order))
         (LacksOrder (publish_of (rows_of (found_of options.now)))) }
 {
-    let session = session_in(options)?;
-    let limit = limit_in(options, "limit")?;
+    let published = published_in(options)?;
+    let session = published.session;
     let a = address_in(options, "a")?;
     let b = address_in(options, "b")?;
-    let beats = number_in(options, "beats", 1, 0, 1000)?;
-    let ends = number_in(options, "ends", 1, 0, 1000)?;
     let input = format_in(options)?;
     let journal = journal_in(alloc, options)?;
     Ok(Order::Publish(PublishOrder {
         session,
-        limit,
+        limit: published.limit,
         a,
         b,
         journal,
-        beats: beats as u32,
-        ends: ends as u32,
+        beats: published.beats,
+        ends: published.ends,
         input,
     }))
 }
@@ -243,29 +262,29 @@ fn feed_order(alloc: Global, options: &ArgMatches<'_>) -> Result<Order, NoOrder>
         (λ order. feed_of (rows_of (found_of options.now)) ≡ Some (view order))
         (LacksOrder (feed_of (rows_of (found_of options.now)))) }
 {
-    let session = session_in(options)?;
-    let limit = limit_in(options, "limit")?;
+    let published = published_in(options)?;
+    let session = published.session;
     let lines = sent_lines_in(options)?;
     let bind = address_or_none(options, "bind")?;
     let burst = burst_in(options)?;
     let times = feed_times_in(options)?;
+    let append = flag_in(options, "append");
     let blocks = flag_in(options, "blocks");
-    let beats = number_in(options, "beats", 1, 0, 1000)?;
-    let ends = number_in(options, "ends", 1, 0, 1000)?;
+    let open = flag_in(options, "open");
     let journal = journal_in(alloc, options)?;
     Ok(Order::Feed(FeedOrder {
         session,
-        limit,
+        limit: published.limit,
         lines,
         journal,
-        append: flag_in(options, "append"),
+        append,
         bind,
         burst,
         times,
         blocks,
-        beats: beats as u32,
-        ends: ends as u32,
-        open: flag_in(options, "open"),
+        beats: published.beats,
+        ends: published.ends,
+        open,
     }))
 }
 
@@ -291,34 +310,86 @@ fn serve_order(alloc: Global, options: &ArgMatches<'_>) -> Result<Order, NoOrder
     }))
 }
 
+// Returns the options of `listen` apart from its addresses and its output.
+#[tactic(auto, unfolding(crate::specs::Orders::listen_in))]
+fn listen_in(options: &ArgMatches<'_>) -> Result<ListenOptions, NoOrder>
+    ensures { MatchResult result
+        (λ listen. listen_in (rows_of (found_of options.now)) ≡ Some (listen_options_view listen))
+        (LacksValue (listen_in (rows_of (found_of options.now)))) }
+{
+    let session = session_in(options)?;
+    let next = number_in(options, "next", 1, 1, MAX_NEXT)?;
+    let window = window_in(options)?;
+    let burst = burst_in(options)?;
+    let turns = turns_in(options)?;
+    Ok(ListenOptions {
+        session,
+        next,
+        window,
+        burst,
+        turns,
+    })
+}
+
 #[tactic(auto, unfolding(crate::specs::Orders::listen_of))]
 fn listen_order(options: &ArgMatches<'_>) -> Result<Order, NoOrder>
     ensures { MatchResult result
         (λ order. listen_of (rows_of (found_of options.now)) ≡ Some (view order))
         (LacksOrder (listen_of (rows_of (found_of options.now)))) }
 {
-    let session = session_in(options)?;
-    let next = number_in(options, "next", 1, 1, MAX_NEXT)?;
-    let window = window_in(options)?;
+    let listen = listen_in(options)?;
+    let session = listen.session;
     let a = address_in(options, "a")?;
     let b = address_in(options, "b")?;
     let server = address_in(options, "server")?;
-    let burst = burst_in(options)?;
-    let turns = turns_in(options)?;
     let format = format_in(options)?;
     Ok(Order::Listen(ListenOrder {
         session,
-        next,
-        window,
+        next: listen.next,
+        window: listen.window,
         a,
         b,
         server,
-        burst,
-        turns,
+        burst: listen.burst,
+        turns: listen.turns,
         live: live_in(options),
         report: report_in(options),
         output: format,
     }))
+}
+
+// Returns the order of `receive` with the values of its groups of options.
+fn received(
+    start: StartOptions,
+    lines: LineOptions,
+    requests: RequestOptions,
+    receiver: ReceiverOptions,
+    servers: Vec<Address>,
+) -> ReceiveOrder
+    requires { length servers.items ≤ 8 }
+    ensures { receive_view result ≡ received (start_options_view start) (line_options_view lines)
+        (request_options_view requests) (receiver_options_view receiver) (map address_view servers.items) }
+{
+    ReceiveOrder {
+        session: start.session,
+        next: start.next,
+        a: lines.a,
+        b: lines.b,
+        source_a: lines.source_a,
+        source_b: lines.source_b,
+        servers,
+        window: receiver.window,
+        patience: requests.patience,
+        timeout: requests.timeout,
+        ceiling: requests.ceiling,
+        requests: requests.requests,
+        in_flight: requests.in_flight,
+        give_up: requests.give_up,
+        audit: receiver.audit,
+        quiet: receiver.quiet,
+        stats: receiver.stats,
+        blocks: receiver.blocks,
+    }
 }
 
 // Returns how `receive` receives, apart from a journal.
@@ -328,36 +399,12 @@ fn receive_in(alloc: Global, options: &ArgMatches<'_>) -> Result<ReceiveOrder, N
         (λ order. receive_in (rows_of (found_of options.now)) ≡ Some (receive_view order))
         (LacksOrder (receive_in (rows_of (found_of options.now)))) }
 {
-    let session = learned_in(options)?;
-    let next = start_in(options)?;
+    let start = session_start_in(options)?;
     let lines = lines_in(options)?;
-    let widest = u64::from(MAX_WIDE_WINDOW);
-    let window = number_in(options, "window", widest, 1, widest)?;
     let requests = requests_in(options)?;
-    let audit = number_in(options, "audit", 65_536, 0, 1_048_576)?;
-    let quiet = number_in(options, "quiet", 0, 0, 86_400)?;
-    let stats = number_in(options, "stats", 0, 0, 86_400)?;
+    let receiver = receiver_in(options)?;
     let servers = servers_in(alloc, options)?;
-    Ok(ReceiveOrder {
-        session,
-        next,
-        a: lines.a,
-        b: lines.b,
-        source_a: lines.source_a,
-        source_b: lines.source_b,
-        servers,
-        window: window as u32,
-        patience: requests.patience,
-        timeout: requests.timeout,
-        ceiling: requests.ceiling,
-        requests: requests.requests,
-        in_flight: requests.in_flight,
-        give_up: requests.give_up,
-        audit: audit as u32,
-        quiet: quiet as u32,
-        stats: stats as u32,
-        blocks: flag_in(options, "blocks"),
-    })
+    Ok(received(start, lines, requests, receiver, servers))
 }
 
 // Checks that a receiver with these options can keep a journal.
@@ -430,19 +477,17 @@ fn loop_order(options: &ArgMatches<'_>) -> Result<Order, NoOrder>
         (λ order. loop_of (rows_of (found_of options.now)) ≡ Some (view order))
         (LacksOrder (loop_of (rows_of (found_of options.now)))) }
 {
-    let session = session_in(options)?;
-    let limits = limits_in(options)?;
-    let window = window_in(options)?;
-    let burst = burst_in(options)?;
+    let local = local_in(options)?;
+    let session = local.session;
     let drop_a = number_in(options, "drop-a", 0, 0, 1000)?;
     let drop_b = number_in(options, "drop-b", 0, 0, 1000)?;
     let turns = turns_in(options)?;
     let format = format_in(options)?;
     Ok(Order::Loop(LoopOrder {
         session,
-        limits,
-        window,
-        burst,
+        limits: local.limits,
+        window: local.window,
+        burst: local.burst,
         drop_a: drop_a as u32,
         drop_b: drop_b as u32,
         turns,

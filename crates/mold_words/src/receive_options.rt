@@ -5,11 +5,11 @@ ghost use Rattle.std.specs.Prelude.{true};
 ghost use Rattle.std.specs.List.{list_all};
 ghost use Rattle.clap.specs.Words.{first_of, found_of, rows_of};
 ghost use Rattle.mold_words.specs.Addresses.{address_of, address_view};
-ghost use Rattle.mold_words.specs.Arguments.{line_options_view, request_options_view};
+ghost use Rattle.mold_words.specs.Arguments.{line_options_view, receiver_options_view, request_options_view, start_options_view};
 ghost use Rattle.mold_words.specs.LinePorts.{is_line_port, line_port_of, line_port_view};
 ghost use Rattle.mold_words.specs.NoOrders.{LacksOrder, LacksValue};
 ghost use Rattle.mold_words.specs.Orders.{host_or_none, learned_in, lines_in, number_in, port_or_none};
-ghost use Rattle.mold_words.specs.Orders.{requests_in, servers_in, start_in};
+ghost use Rattle.mold_words.specs.Orders.{receiver_in, requests_in, servers_in, session_start_in, start_in};
 ghost use Rattle.mold_words.specs.Values.{is_character, values_of};
 ghost use Rattle.std.specs.Option.{option_and_then};
 
@@ -20,9 +20,12 @@ use crate::line_port::LinePort;
 use crate::line_ports::line_port_of;
 use crate::no_order::NoOrder;
 use crate::options::{flag_in, number_in, session_in, text_in, texts_in};
+use crate::receiver_options::ReceiverOptions;
 use crate::request_options::RequestOptions;
+use crate::start_options::StartOptions;
 use crate::values::number_of;
 use clap::ArgMatches;
+use mold_wire::MAX_WIDE_WINDOW;
 use std::alloc::{AllocError, Global};
 
 // The greatest number of servers.
@@ -36,9 +39,9 @@ const MIN_PATIENCE: u64 = 200;
 
 const MAX_PATIENCE: u64 = 1_000_000;
 
-/// Returns the session of `--session`, or `None` if `--learn` is given.
+// Returns the session of `--session`, or `None` if `--learn` is given.
 #[tactic(auto, unfolding(crate::specs::Orders::learned_in))]
-pub(crate) fn learned_in(options: &ArgMatches<'_>) -> Result<Option<[u8; 10]>, NoOrder>
+fn learned_in(options: &ArgMatches<'_>) -> Result<Option<[u8; 10]>, NoOrder>
     ensures value { MatchResult result
         (λ session. learned_in (rows_of (found_of options.now)) ≡ Some session)
         (LacksValue (learned_in (rows_of (found_of options.now)))) }
@@ -55,9 +58,9 @@ pub(crate) fn learned_in(options: &ArgMatches<'_>) -> Result<Option<[u8; 10]>, N
     }
 }
 
-/// Returns the sequence number to start at, or `None` if `--from-now` is given.
+// Returns the sequence number to start at, or `None` if `--from-now` is given.
 #[tactic(auto, unfolding(crate::specs::Orders::start_in))]
-pub(crate) fn start_in(options: &ArgMatches<'_>) -> Result<Option<u64>, NoOrder>
+fn start_in(options: &ArgMatches<'_>) -> Result<Option<u64>, NoOrder>
     ensures value { MatchResult result
         (λ start. start_in (rows_of (found_of options.now)) ≡ Some start)
         (LacksValue (start_in (rows_of (found_of options.now)))) }
@@ -195,6 +198,39 @@ fn patience_in(options: &ArgMatches<'_>) -> Result<u32, NoOrder>
             }),
         },
     }
+}
+
+/// Returns the session and the sequence number to start at.
+#[tactic(auto, unfolding(crate::specs::Orders::session_start_in))]
+pub(crate) fn session_start_in(options: &ArgMatches<'_>) -> Result<StartOptions, NoOrder>
+    ensures { MatchResult result
+        (λ start. session_start_in (rows_of (found_of options.now)) ≡ Some (start_options_view start))
+        (LacksValue (session_start_in (rows_of (found_of options.now)))) }
+{
+    let session = learned_in(options)?;
+    let next = start_in(options)?;
+    Ok(StartOptions { session, next })
+}
+
+/// Returns what the receiver keeps, when it ends and when it reports.
+#[tactic(auto, unfolding(crate::specs::Orders::receiver_in))]
+pub(crate) fn receiver_in(options: &ArgMatches<'_>) -> Result<ReceiverOptions, NoOrder>
+    ensures { MatchResult result
+        (λ receiver. receiver_in (rows_of (found_of options.now)) ≡ Some (receiver_options_view receiver))
+        (LacksValue (receiver_in (rows_of (found_of options.now)))) }
+{
+    let widest = u64::from(MAX_WIDE_WINDOW);
+    let window = number_in(options, "window", widest, 1, widest)?;
+    let audit = number_in(options, "audit", 65_536, 0, 1_048_576)?;
+    let quiet = number_in(options, "quiet", 0, 0, 86_400)?;
+    let stats = number_in(options, "stats", 0, 0, 86_400)?;
+    Ok(ReceiverOptions {
+        window: window as u32,
+        audit: audit as u32,
+        quiet: quiet as u32,
+        stats: stats as u32,
+        blocks: flag_in(options, "blocks"),
+    })
 }
 
 /// Returns when and how often messages are requested.

@@ -48,13 +48,32 @@ pub(crate) fn value_name(option: &str) -> &'static str {
         "a" | "b" | "server" | "bind" => "ADDRESS",
         "journal" | "to" | "capture" => "FILE",
         "folder" => "FOLDER",
+        _ => ip_name(option),
+    }
+}
+
+// For the prover, the functions that follow are apart from `value_name`: the cost of a `match` over texts grows with the
+// square of their number.
+
+// Returns the name of an option's value that is an address without a port.
+fn ip_name(option: &str) -> &'static str {
+    match option {
         "source-a" | "source-b" | "interface-a" | "interface-b" | "group" => "IP",
+        _ => time_name(option),
+    }
+}
+
+// Returns the name of an option's value that is a time.
+fn time_name(option: &str) -> &'static str {
+    match option {
+        "patience" => "US",
+        "timeout" | "ceiling" | "idle" | "linger" => "MS",
+        "quiet" | "stats" => "SECONDS",
         _ => number_name(option),
     }
 }
 
-// Returns the name of an option's value that is a number. For the prover, this is apart from `value_name`: the cost of a
-// `match` over texts grows with the square of their number.
+// Returns the name of an option's value that is another number.
 fn number_name(option: &str) -> &'static str {
     match option {
         "limit" | "server-limit" => "BYTES",
@@ -62,10 +81,7 @@ fn number_name(option: &str) -> &'static str {
         "burst" => "PACKETS",
         "next" | "from" => "NUMBER",
         "port" => "PORT",
-        "patience" => "US",
-        "timeout" | "ceiling" | "idle" | "linger" => "MS",
         "ttl" => "HOPS",
-        "quiet" | "stats" => "SECONDS",
         _ => "COUNT",
     }
 }
@@ -206,295 +222,305 @@ const SESSION_OF_CAPTURE: OptionRow = OptionRow {
     help: "Read only datagrams of this session, 1 to 10 characters from space to ~",
 };
 
-// For the prover, the commands are in four lists: the cost of a function that names a list grows with the square of the
-// number of texts in it.
+// The commands, in the order in which help lists them. For the prover, each one is a static: the cost of a function that
+// names a static grows with the square of the number of texts in it.
 
-/// The first commands, in the order in which help lists them.
-pub static FIRST_COMMANDS: [CommandRow; 6] = [
-    CommandRow {
-        name: "show",
-        about: "Print packets given as lines of hexadecimal digits on standard input or in captures",
-        options: &[
-            OptionRow {
-                name: "request",
-                kind: Kind::Flag,
-                help: "Read each line as a request packet",
-            },
-            CAPTURE,
-            PORT,
-            GROUP,
-            SESSION_OF_CAPTURE,
-        ],
-        example: "Example:\n  echo 53455353494f4e30303100000000000000010002000241420000 | mold show\
+/// The command `show`.
+pub static SHOW: CommandRow = CommandRow {
+    name: "show",
+    about: "Print packets given as lines of hexadecimal digits on standard input or in captures",
+    options: &[
+        OptionRow {
+            name: "request",
+            kind: Kind::Flag,
+            help: "Read each line as a request packet",
+        },
+        CAPTURE,
+        PORT,
+        GROUP,
+        SESSION_OF_CAPTURE,
+    ],
+    example: "Example:\n  echo 53455353494f4e30303100000000000000010002000241420000 | mold show\
             \n  mold show --capture day.pcap --port 26477",
-    },
-    CommandRow {
-        name: "pack",
-        about: "Pack messages from standard input and print the packets",
-        options: &[
-            SESSION,
-            LIMIT,
-            OptionRow {
-                name: "journal",
-                kind: Kind::Optional,
-                help: "The file to save a journal in instead of printing packets",
-            },
-            BLOCKS,
-            END_AT_EMPTY,
-        ],
-        example: "Example:\n  printf '4142\\n4344\\n' | mold pack --session SESSION001",
-    },
-    CommandRow {
-        name: "sim",
-        about: "Run a script of events from standard input and print what each event does",
-        options: &[
-            SESSION,
-            LIMIT,
-            SERVER_LIMIT,
-            WINDOW,
-            OptionRow {
-                name: "receivers",
-                kind: Kind::Optional,
-                help: "The number of receivers, 1 to 8 [default: 2]",
-            },
-            BURST,
-        ],
-        example: "Example:\n  printf '%s\\n' 'publish 41' datagram 'deliver 0 a 0' | mold sim --session SESSION001",
-    },
-    CommandRow {
-        name: "check",
-        about: "Report whether captured datagrams are one whole session",
-        options: &[
-            OptionRow {
-                name: "folder",
-                kind: Kind::Word,
-                help: "The folder; each of its files whose name ends in .pkt is a datagram\n\
+};
+
+/// The command `pack`.
+pub static PACK: CommandRow = CommandRow {
+    name: "pack",
+    about: "Pack messages from standard input and print the packets",
+    options: &[
+        SESSION,
+        LIMIT,
+        OptionRow {
+            name: "journal",
+            kind: Kind::Optional,
+            help: "The file to save a journal in instead of printing packets",
+        },
+        BLOCKS,
+        END_AT_EMPTY,
+    ],
+    example: "Example:\n  printf '4142\\n4344\\n' | mold pack --session SESSION001",
+};
+
+/// The command `sim`.
+pub static SIM: CommandRow = CommandRow {
+    name: "sim",
+    about: "Run a script of events from standard input and print what each event does",
+    options: &[
+        SESSION,
+        LIMIT,
+        SERVER_LIMIT,
+        WINDOW,
+        OptionRow {
+            name: "receivers",
+            kind: Kind::Optional,
+            help: "The number of receivers, 1 to 8 [default: 2]",
+        },
+        BURST,
+    ],
+    example: "Example:\n  printf '%s\\n' 'publish 41' datagram 'deliver 0 a 0' | mold sim --session SESSION001",
+};
+
+/// The command `check`.
+pub static CHECK: CommandRow = CommandRow {
+    name: "check",
+    about: "Report whether captured datagrams are one whole session",
+    options: &[
+        OptionRow {
+            name: "folder",
+            kind: Kind::Word,
+            help: "The folder; each of its files whose name ends in .pkt is a datagram\n\
                     - reads datagrams as lines of hexadecimal digits on standard input\n\
                     Required unless --capture is given",
-            },
-            CAPTURE,
-            PORT,
-            GROUP,
-            SESSION_OF_CAPTURE,
-        ],
-        example: "Example:\n  mold check captures\
+        },
+        CAPTURE,
+        PORT,
+        GROUP,
+        SESSION_OF_CAPTURE,
+    ],
+    example: "Example:\n  mold check captures\
             \n  mold check --capture day.pcap --group 239.192.1.1 --port 26477",
-    },
-    CommandRow {
-        name: "sessions",
-        about: "List the destinations and the sessions of the datagrams in captures",
-        options: &[
-            OptionRow {
-                name: "capture",
-                kind: Kind::RequiredRepeated,
-                help: CAPTURE_HELP,
-            },
-            PORT,
-            GROUP,
-        ],
-        example: "Example:\n  mold sessions --capture day.pcap",
-    },
-    CommandRow {
-        name: "publish",
-        about: "Publish messages from standard input on two lines",
-        options: &[
-            SESSION,
-            LIMIT,
-            OptionRow {
-                name: "a",
-                kind: Kind::Required,
-                help: "The address that line A is sent to, such as 127.0.0.1:9000",
-            },
-            OptionRow {
-                name: "b",
-                kind: Kind::Required,
-                help: "The address that line B is sent to",
-            },
-            OptionRow {
-                name: "journal",
-                kind: Kind::Required,
-                help: "The file to save the journal in",
-            },
-            OptionRow {
-                name: "beats",
-                kind: Kind::Optional,
-                help: "The number of heartbeats after the messages, 0 to 1000 [default: 1]",
-            },
-            OptionRow {
-                name: "ends",
-                kind: Kind::Optional,
-                help: "The number of end packets after the heartbeats, 0 to 1000 [default: 1]",
-            },
-            BLOCKS,
-            END_AT_EMPTY,
-        ],
-        example: "Example:\n  mold publish --session SESSION001 --a 127.0.0.1:9001 --b 127.0.0.1:9002 \\\
-            \n    --journal day.journal < messages",
-    },
-];
+};
 
-/// The commands that follow the first ones in help.
-pub static MIDDLE_COMMANDS: [CommandRow; 3] = [
-    CommandRow {
-        name: "feed",
-        about: "Publish messages from standard input as they come, and serve requests",
-        options: &[
-            SESSION,
-            LIMIT,
-            OptionRow {
-                name: "a",
-                kind: Kind::Required,
-                help: "The address that line A is sent to, such as 239.192.1.1:26477",
-            },
-            OptionRow {
-                name: "b",
-                kind: Kind::Optional,
-                help: "The same for line B, if there is one",
-            },
-            OptionRow {
-                name: "interface-a",
-                kind: Kind::Optional,
-                help: "The IPv4 address of this machine that line A is sent from\n\
+/// The command `sessions`.
+pub static SESSIONS: CommandRow = CommandRow {
+    name: "sessions",
+    about: "List the destinations and the sessions of the datagrams in captures",
+    options: &[
+        OptionRow {
+            name: "capture",
+            kind: Kind::RequiredRepeated,
+            help: CAPTURE_HELP,
+        },
+        PORT,
+        GROUP,
+    ],
+    example: "Example:\n  mold sessions --capture day.pcap",
+};
+
+/// The command `publish`.
+pub static PUBLISH: CommandRow = CommandRow {
+    name: "publish",
+    about: "Publish messages from standard input on two lines",
+    options: &[
+        SESSION,
+        LIMIT,
+        OptionRow {
+            name: "a",
+            kind: Kind::Required,
+            help: "The address that line A is sent to, such as 127.0.0.1:9000",
+        },
+        OptionRow {
+            name: "b",
+            kind: Kind::Required,
+            help: "The address that line B is sent to",
+        },
+        OptionRow {
+            name: "journal",
+            kind: Kind::Required,
+            help: "The file to save the journal in",
+        },
+        OptionRow {
+            name: "beats",
+            kind: Kind::Optional,
+            help: "The number of heartbeats after the messages, 0 to 1000 [default: 1]",
+        },
+        OptionRow {
+            name: "ends",
+            kind: Kind::Optional,
+            help: "The number of end packets after the heartbeats, 0 to 1000 [default: 1]",
+        },
+        BLOCKS,
+        END_AT_EMPTY,
+    ],
+    example: "Example:\n  mold publish --session SESSION001 --a 127.0.0.1:9001 --b 127.0.0.1:9002 \\\
+            \n    --journal day.journal < messages",
+};
+
+/// The command `feed`.
+pub static FEED: CommandRow = CommandRow {
+    name: "feed",
+    about: "Publish messages from standard input as they come, and serve requests",
+    options: &[
+        SESSION,
+        LIMIT,
+        OptionRow {
+            name: "a",
+            kind: Kind::Required,
+            help: "The address that line A is sent to, such as 239.192.1.1:26477",
+        },
+        OptionRow {
+            name: "b",
+            kind: Kind::Optional,
+            help: "The same for line B, if there is one",
+        },
+        OptionRow {
+            name: "interface-a",
+            kind: Kind::Optional,
+            help: "The IPv4 address of this machine that line A is sent from\n\
                     [default: 0.0.0.0, the system chooses one]",
-            },
-            OptionRow {
-                name: "interface-b",
-                kind: Kind::Optional,
-                help: "The same for line B",
-            },
-            OptionRow {
-                name: "ttl",
-                kind: Kind::Optional,
-                help: "The TTL of datagrams to multicast groups, 0 to 255 [default: 1]",
-            },
-            OptionRow {
-                name: "journal",
-                kind: Kind::Required,
-                help: "The file to keep the session in. If it exists, the session is continued",
-            },
-            OptionRow {
-                name: "append",
-                kind: Kind::Flag,
-                help: "Read only new messages. Without --append the input begins with the\n\
+        },
+        OptionRow {
+            name: "interface-b",
+            kind: Kind::Optional,
+            help: "The same for line B",
+        },
+        OptionRow {
+            name: "ttl",
+            kind: Kind::Optional,
+            help: "The TTL of datagrams to multicast groups, 0 to 255 [default: 1]",
+        },
+        OptionRow {
+            name: "journal",
+            kind: Kind::Required,
+            help: "The file to keep the session in. If it exists, the session is continued",
+        },
+        OptionRow {
+            name: "append",
+            kind: Kind::Flag,
+            help: "Read only new messages. Without --append the input begins with the\n\
                     messages that an existing file has",
-            },
-            OptionRow {
-                name: "bind",
-                kind: Kind::Optional,
-                help: "The address to receive requests on, such as 127.0.0.1:9000",
-            },
-            BURST,
-            OptionRow {
-                name: "rate",
-                kind: Kind::Optional,
-                help: "The maximum number of messages in a second, 0 to 10000000 [default: 0]\n\
+        },
+        OptionRow {
+            name: "bind",
+            kind: Kind::Optional,
+            help: "The address to receive requests on, such as 127.0.0.1:9000",
+        },
+        BURST,
+        OptionRow {
+            name: "rate",
+            kind: Kind::Optional,
+            help: "The maximum number of messages in a second, 0 to 10000000 [default: 0]\n\
                     0 sets no maximum",
-            },
-            OptionRow {
-                name: "idle",
-                kind: Kind::Optional,
-                help: "The time without a datagram after which a heartbeat is sent, in\n\
+        },
+        OptionRow {
+            name: "idle",
+            kind: Kind::Optional,
+            help: "The time without a datagram after which a heartbeat is sent, in\n\
                     milliseconds, 0 to 60000 [default: 1000]. 0 sends none",
-            },
-            OptionRow {
-                name: "beats",
-                kind: Kind::Optional,
-                help: "The number of heartbeats after the messages, 0 to 1000 [default: 1]",
-            },
-            OptionRow {
-                name: "ends",
-                kind: Kind::Optional,
-                help: "The number of end packets after the heartbeats, 0 to 1000 [default: 1]",
-            },
-            OptionRow {
-                name: "open",
-                kind: Kind::Flag,
-                help: "Leave the session open at the end of the input, and send no end packets",
-            },
-            OptionRow {
-                name: "linger",
-                kind: Kind::Optional,
-                help: "How long requests are served after the end of the input, in\n\
+        },
+        OptionRow {
+            name: "beats",
+            kind: Kind::Optional,
+            help: "The number of heartbeats after the messages, 0 to 1000 [default: 1]",
+        },
+        OptionRow {
+            name: "ends",
+            kind: Kind::Optional,
+            help: "The number of end packets after the heartbeats, 0 to 1000 [default: 1]",
+        },
+        OptionRow {
+            name: "open",
+            kind: Kind::Flag,
+            help: "Leave the session open at the end of the input, and send no end packets",
+        },
+        OptionRow {
+            name: "linger",
+            kind: Kind::Optional,
+            help: "How long requests are served after the end of the input, in\n\
                     milliseconds, 0 to 86400000 [default: 10000 with --bind, otherwise 0]",
-            },
-            BLOCKS,
-        ],
-        example: "Example:\n  mold feed --session SESSION001 --a 127.0.0.1:9001 --b 127.0.0.1:9002 \\\
+        },
+        BLOCKS,
+    ],
+    example: "Example:\n  mold feed --session SESSION001 --a 127.0.0.1:9001 --b 127.0.0.1:9002 \\\
             \n    --journal day.journal --bind 127.0.0.1:9003 < messages",
-    },
-    CommandRow {
-        name: "serve",
-        about: "Serve requests for messages of a journal file",
-        options: &[
-            OptionRow {
-                name: "journal",
-                kind: Kind::Required,
-                help: "The journal file",
-            },
-            FOLLOW,
-            LIMIT,
-            BURST,
-            OptionRow {
-                name: "bind",
-                kind: Kind::Required,
-                help: "The address to receive requests on, such as 127.0.0.1:9000",
-            },
-            OptionRow {
-                name: "turns",
-                kind: Kind::Optional,
-                help: "The number of turns, 1 to 1000000 [default: 1000, with --follow no bound]\n\
+};
+
+/// The command `serve`.
+pub static SERVE: CommandRow = CommandRow {
+    name: "serve",
+    about: "Serve requests for messages of a journal file",
+    options: &[
+        OptionRow {
+            name: "journal",
+            kind: Kind::Required,
+            help: "The journal file",
+        },
+        FOLLOW,
+        LIMIT,
+        BURST,
+        OptionRow {
+            name: "bind",
+            kind: Kind::Required,
+            help: "The address to receive requests on, such as 127.0.0.1:9000",
+        },
+        OptionRow {
+            name: "turns",
+            kind: Kind::Optional,
+            help: "The number of turns, 1 to 1000000 [default: 1000, with --follow no bound]\n\
                     A turn is one receive, which waits at most 100 ms",
-            },
-            LIVE,
-        ],
-        example: "Example:\n  mold serve --journal day.journal --bind 127.0.0.1:9003 --turns 1000000",
-    },
-    CommandRow {
-        name: "listen",
-        about: "Receive a session on two lines, request what is missing, and print the messages",
-        options: &[
-            SESSION,
-            OptionRow {
-                name: "next",
-                kind: Kind::Optional,
-                help: "The sequence number to start at, 1 to 9223372036854775807 [default: 1]",
-            },
-            WINDOW,
-            OptionRow {
-                name: "a",
-                kind: Kind::Required,
-                help: "The address to receive line A on, such as 127.0.0.1:9000",
-            },
-            OptionRow {
-                name: "b",
-                kind: Kind::Required,
-                help: "The address to receive line B on",
-            },
-            OptionRow {
-                name: "server",
-                kind: Kind::Required,
-                help: "The address that requests are sent to",
-            },
-            BURST,
-            OptionRow {
-                name: "turns",
-                kind: Kind::Optional,
-                help: "The maximum number of turns, 1 to 1000000 [default: 1000]\n\
+        },
+        LIVE,
+    ],
+    example: "Example:\n  mold serve --journal day.journal --bind 127.0.0.1:9003 --turns 1000000",
+};
+
+/// The command `listen`.
+pub static LISTEN: CommandRow = CommandRow {
+    name: "listen",
+    about: "Receive a session on two lines, request what is missing, and print the messages",
+    options: &[
+        SESSION,
+        OptionRow {
+            name: "next",
+            kind: Kind::Optional,
+            help: "The sequence number to start at, 1 to 9223372036854775807 [default: 1]",
+        },
+        WINDOW,
+        OptionRow {
+            name: "a",
+            kind: Kind::Required,
+            help: "The address to receive line A on, such as 127.0.0.1:9000",
+        },
+        OptionRow {
+            name: "b",
+            kind: Kind::Required,
+            help: "The address to receive line B on",
+        },
+        OptionRow {
+            name: "server",
+            kind: Kind::Required,
+            help: "The address that requests are sent to",
+        },
+        BURST,
+        OptionRow {
+            name: "turns",
+            kind: Kind::Optional,
+            help: "The maximum number of turns, 1 to 1000000 [default: 1000]\n\
                     A turn makes one receive on A and one on B, and sends one request if\n\
                     messages are missing; each receive waits at most 100 ms",
-            },
-            LIVE,
-            REPORT,
-            BLOCKS_OUT,
-            END_AT_EMPTY_OUT,
-        ],
-        example: "Example:\n  mold listen --session SESSION001 --a 127.0.0.1:9001 --b 127.0.0.1:9002 \\\
+        },
+        LIVE,
+        REPORT,
+        BLOCKS_OUT,
+        END_AT_EMPTY_OUT,
+    ],
+    example: "Example:\n  mold listen --session SESSION001 --a 127.0.0.1:9001 --b 127.0.0.1:9002 \\\
             \n    --server 127.0.0.1:9003 --turns 1000000 > received",
-    },
-];
+};
 
-/// The command that follows the middle ones in help.
-pub static RECEIVE_COMMAND: [CommandRow; 1] = [CommandRow {
+/// The command `receive`.
+pub static RECEIVE: CommandRow = CommandRow {
     name: "receive",
     about: "Receive a session on one or two lines, repair its gaps, and print the messages",
     options: &[
@@ -621,98 +647,100 @@ pub static RECEIVE_COMMAND: [CommandRow; 1] = [CommandRow {
     ],
     example: "Example:\n  mold receive --session SESSION001 --a 127.0.0.1:9001 --b 127.0.0.1:9002 \\\
             \n    --server 127.0.0.1:9003 > received",
-}];
+};
 
-/// The commands that help lists last.
-pub static LAST_COMMANDS: [CommandRow; 3] = [
-    CommandRow {
-        name: "loop",
-        about: "Publish, serve and listen in one process over ports of 127.0.0.1",
-        options: &[
-            SESSION,
-            LIMIT,
-            SERVER_LIMIT,
-            WINDOW,
-            BURST,
-            OptionRow {
-                name: "drop-a",
-                kind: Kind::Optional,
-                help: "Drop every COUNT-th data packet on line A, 0 to 1000 [default: 0]\n\
+/// The command `loop`.
+pub static LOOP: CommandRow = CommandRow {
+    name: "loop",
+    about: "Publish, serve and listen in one process over ports of 127.0.0.1",
+    options: &[
+        SESSION,
+        LIMIT,
+        SERVER_LIMIT,
+        WINDOW,
+        BURST,
+        OptionRow {
+            name: "drop-a",
+            kind: Kind::Optional,
+            help: "Drop every COUNT-th data packet on line A, 0 to 1000 [default: 0]\n\
                     0 drops none",
-            },
-            OptionRow {
-                name: "drop-b",
-                kind: Kind::Optional,
-                help: "Drop every COUNT-th data packet on line B, 0 to 1000 [default: 0]\n\
+        },
+        OptionRow {
+            name: "drop-b",
+            kind: Kind::Optional,
+            help: "Drop every COUNT-th data packet on line B, 0 to 1000 [default: 0]\n\
                     0 drops none",
-            },
-            OptionRow {
-                name: "turns",
-                kind: Kind::Optional,
-                help: "The maximum number of rounds of requests, 1 to 1000000 [default: 1000]",
-            },
-            REPORT,
-            BLOCKS_BOTH,
-            END_AT_EMPTY_BOTH,
-        ],
-        example: "Example:\n  printf '4142\\n4344\\n' | mold loop --session SESSION001 --drop-a 1 --drop-b 1",
-    },
-    CommandRow {
-        name: "upgrade",
-        about: "Write a journal file anew, in version 2 of the format",
-        options: &[
-            OptionRow {
-                name: "journal",
-                kind: Kind::Required,
-                help: "The file to read",
-            },
-            OptionRow {
-                name: "to",
-                kind: Kind::Required,
-                help: "The file to write, which is created or replaced",
-            },
-            OptionRow {
-                name: "close",
-                kind: Kind::Flag,
-                help: "Close the journal",
-            },
-        ],
-        example: "Example:\n  mold upgrade --journal old.journal --to new.journal",
-    },
-    CommandRow {
-        name: "dump",
-        about: "Print the messages of a journal file",
-        options: &[
-            OptionRow {
-                name: "journal",
-                kind: Kind::Required,
-                help: "The journal file",
-            },
-            FOLLOW,
-            OptionRow {
-                name: "from",
-                kind: Kind::Optional,
-                help: "The number of the first message, 1 to 18446744073709551615 [default: 1]",
-            },
-            OptionRow {
-                name: "count",
-                kind: Kind::Optional,
-                help: "The maximum number of messages, 0 to 18446744073709551615 [default: all]",
-            },
-            OptionRow {
-                name: "blocks",
-                kind: Kind::Flag,
-                help: "Print message blocks (BinaryFILE) instead of lines of hexadecimal digits,\n\
+        },
+        OptionRow {
+            name: "turns",
+            kind: Kind::Optional,
+            help: "The maximum number of rounds of requests, 1 to 1000000 [default: 1000]",
+        },
+        REPORT,
+        BLOCKS_BOTH,
+        END_AT_EMPTY_BOTH,
+    ],
+    example: "Example:\n  printf '4142\\n4344\\n' | mold loop --session SESSION001 --drop-a 1 --drop-b 1",
+};
+
+/// The command `upgrade`.
+pub static UPGRADE: CommandRow = CommandRow {
+    name: "upgrade",
+    about: "Write a journal file anew, in version 2 of the format",
+    options: &[
+        OptionRow {
+            name: "journal",
+            kind: Kind::Required,
+            help: "The file to read",
+        },
+        OptionRow {
+            name: "to",
+            kind: Kind::Required,
+            help: "The file to write, which is created or replaced",
+        },
+        OptionRow {
+            name: "close",
+            kind: Kind::Flag,
+            help: "Close the journal",
+        },
+    ],
+    example: "Example:\n  mold upgrade --journal old.journal --to new.journal",
+};
+
+/// The command `dump`.
+pub static DUMP: CommandRow = CommandRow {
+    name: "dump",
+    about: "Print the messages of a journal file",
+    options: &[
+        OptionRow {
+            name: "journal",
+            kind: Kind::Required,
+            help: "The journal file",
+        },
+        FOLLOW,
+        OptionRow {
+            name: "from",
+            kind: Kind::Optional,
+            help: "The number of the first message, 1 to 18446744073709551615 [default: 1]",
+        },
+        OptionRow {
+            name: "count",
+            kind: Kind::Optional,
+            help: "The maximum number of messages, 0 to 18446744073709551615 [default: all]",
+        },
+        OptionRow {
+            name: "blocks",
+            kind: Kind::Flag,
+            help: "Print message blocks (BinaryFILE) instead of lines of hexadecimal digits,\n\
                     and refusals on standard error",
-            },
-            OptionRow {
-                name: "end-at-empty",
-                kind: Kind::Flag,
-                help: "End the output of --blocks with an empty block if the journal is closed and\n\
+        },
+        OptionRow {
+            name: "end-at-empty",
+            kind: Kind::Flag,
+            help: "End the output of --blocks with an empty block if the journal is closed and\n\
                     printed to its end; refuse an empty message",
-            },
-        ],
-        example: "Example:\n  mold dump --journal day.journal | mold publish --session SESSION001 \\\
+        },
+    ],
+    example: "Example:\n  mold dump --journal day.journal | mold publish --session SESSION001 \\\
             \n    --a 127.0.0.1:9001 --b 127.0.0.1:9002 --journal new.journal",
-    },
-];
+};

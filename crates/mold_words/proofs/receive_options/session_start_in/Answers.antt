@@ -1,4 +1,4 @@
-use Rattle.mold_words.proofs.orders.receive_in.Goals as goal
+use Rattle.mold_words.proofs.receive_options.session_start_in.Goals as goal
 
 pub invariant_of-result-clause-named : goal.invariant_of-result-clause-named
 invariant_of-result-clause-named c = c.in_ok-session.ensures.named

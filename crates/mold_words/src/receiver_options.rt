@@ -1,0 +1,17 @@
+//! The options of `mold receive` about the receiver and its reports.
+
+ghost use Rattle.std.specs.Prelude.{◌≤◌};
+ghost use Rattle.mold_wire.specs.declared.limits.TheConstants.{MAX_WIDE_WINDOW};
+
+/// What the receiver keeps, when it ends and when it reports, as the fields of `ReceiveOrder` with these names.
+#[derive(Clone, Copy)]
+pub(crate) struct ReceiverOptions {
+    pub window: u32,
+    pub audit: u32,
+    pub quiet: u32,
+    pub stats: u32,
+    pub blocks: bool,
+    ghost windowed: { (1 ≤ window) × (window ≤ MAX_WIDE_WINDOW) },
+    ghost audited: { audit ≤ 1048576 },
+    ghost daily: { (quiet ≤ 86400) × (stats ≤ 86400) },
+}
