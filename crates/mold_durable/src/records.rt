@@ -1,6 +1,6 @@
 //! Reads the records of bytes in memory.
 
-ghost use Rattle.std.specs.Prelude.{◌<◌, ◌≤◌, ◌∷◌, false, length, drop, IfOk, IfErr, IfSome, OnOk};
+ghost use Rattle.std.specs.Prelude.{◌≡◌, ◌<◌, ◌≤◌, ◌∷◌, true, false, length, drop, IfOk, IfErr, IfSome, OnOk};
 ghost use Rattle.mold_wire.specs.declared.limits.TheConstants.{MAX_NUMBER};
 ghost use Rattle.mold_session.specs.Checking.{HasBlock, HasRecord};
 ghost use Rattle.mold_session.specs.FileFault.{RecordFault};
@@ -68,18 +68,20 @@ fn block_length(most: u16, count: u64, body: &[u8]) -> Result<usize, OpenError>
     Ok(LENGTH_BYTES + len)
 }
 
-// Returns the length of the record at the start of the bytes if it is the whole record of a message.
+// Returns the length of the record at the start of the bytes if it is the whole record of a message, and as many bytes
+// follow its head as the longest message has.
 fn whole_record(most: u16, rest: &[u8]) -> Option<usize>
     ensures some { IfSome result (λ len. (0 < len) × (len ≤ length rest.now)) }
     ensures record { IfSome result (λ len. HasRecord most rest.now (drop len rest.now)) }
 {
-    if rest.len() < RECORD_HEAD {
+    // For the optimizer: one comparison with the longest record suffices for all but the last records of a piece.
+    if rest.len() < RECORD_HEAD + usize::from(most) {
         return None;
     }
-    let (head, body) = rest.split_at(RECORD_HEAD);
+    let (head, _) = rest.split_at(RECORD_HEAD);
     // For the optimizer: the number of another record wraps around to more than any length, so one comparison suffices.
     let len = BigEndian::read_u32(head).wrapping_sub(EMPTY_RECORD);
-    if len > u32::from(most) || body.len() < len as usize {
+    if len > u32::from(most) {
         return None;
     }
     Some(RECORD_HEAD + len as usize)
@@ -116,19 +118,42 @@ fn checked_record(most: u16, count: u64, rest: &[u8]) -> Result<NextRecord, Open
     Ok(NextRecord::End { closed: true })
 }
 
-/// Reads the record at the start of the bytes. `count` messages precede it.
+// Reads the record at the start of the bytes. `count` messages precede it, fewer than a journal may have.
 // For the optimizer: most records are whole records of messages, which need fewer checks.
+fn next_of_few(most: u16, count: u64, rest: &[u8]) -> Result<NextRecord, OpenError>
+    requires { count < MAX_MESSAGES }
+    ensures next { IfOk result (IsNextRecord most count rest.now) }
+    ensures refused { IfErr result (λ error. RecordFault most count rest.now (file_error error)) }
+{
+    if let Some(len) = whole_record(most, rest) {
+        return Ok(NextRecord::Message { len });
+    }
+    checked_record(most, count, rest)
+}
+
+/// Reads the record at the start of the bytes. `count` messages precede it.
 pub fn next_record(most: u16, count: u64, rest: &[u8]) -> Result<NextRecord, OpenError>
     requires { count < MAX_NUMBER }
     ensures next { IfOk result (IsNextRecord most count rest.now) }
     ensures refused { IfErr result (λ error. RecordFault most count rest.now (file_error error)) }
 {
     if count < MAX_MESSAGES {
-        if let Some(len) = whole_record(most, rest) {
-            return Ok(NextRecord::Message { len });
-        }
+        return next_of_few(most, count, rest);
     }
     checked_record(most, count, rest)
+}
+
+// Reads the record at the start of the bytes. `count` messages precede it. With `are_few`, a journal may have more.
+fn next_among(most: u16, count: u64, rest: &[u8], are_few: bool) -> Result<NextRecord, OpenError>
+    requires few { count < MAX_NUMBER }
+    requires fewer { are_few ≡ true → count < MAX_MESSAGES }
+    ensures next { IfOk result (IsNextRecord most count rest.now) }
+    ensures refused { IfErr result (λ error. RecordFault most count rest.now (file_error error)) }
+{
+    if are_few {
+        return next_of_few(most, count, rest);
+    }
+    next_record(most, count, rest)
 }
 
 /// Reads the whole records at the start of the bytes, and what follows them. Passes their messages to the taker. `start`
@@ -144,11 +169,13 @@ pub fn skip_records<T: MessageTaker>(
     ensures { IfOk result
         (SkipsRecords (HasTaken T.holds false taker.old taker.new) most start bytes.now) }
 {
+    // For the optimizer: the number of messages is compared with its limit once, and not for each record.
+    let are_few = start.saturating_add(bytes.len() as u64) < MAX_MESSAGES;
     let mut count = start;
     let mut at = 0;
     'records: loop {
         let (_, rest) = bytes.split_at(at);
-        match next_record(most, count, rest) {
+        match next_among(most, count, rest, are_few) {
             Ok(NextRecord::Message { len }) => {
                 taker.take(&rest[RECORD_HEAD..len])?;
                 at += len;
