@@ -7,7 +7,8 @@ _mold_options() {
     show) printf '%s ' --request --capture --port --group --session ;;
     pack) printf '%s ' --session --limit --journal --blocks --end-at-empty ;;
     sim) printf '%s ' --session --limit --server-limit --window --receivers --burst ;;
-    check) printf '%s ' --capture --port --group --session ;;
+    check) printf '%s ' --capture --port --group --session --journal --each --digest ;;
+    extract) printf '%s ' --capture --port --group --session --to --blocks --lines --from --count ;;
     sessions) printf '%s ' --capture --port --group ;;
     publish) printf '%s ' --session --limit --a --b --journal --beats --ends --blocks --end-at-empty ;;
     feed) printf '%s ' --session --limit --a --b --interface-a --interface-b --ttl --journal --append --bind --burst \
@@ -26,7 +27,7 @@ _mold_options() {
     printf '%s' --help
 }
 
-_mold_commands='show pack sim check sessions publish feed serve listen receive loop upgrade dump help'
+_mold_commands='show pack sim check extract sessions publish feed serve listen receive loop upgrade dump help'
 
 # Completes a file name with -f, or the name of a folder with -d.
 _mold_files() {
@@ -61,13 +62,13 @@ _mold() {
         _mold_words '127.0.0.1: 0.0.0.0:' "$word"
         ;;
     show:--request | upgrade:--close | *:--live | *:--follow | *:--report | *:--learn | *:--from-now | \
-        *:--no-sync | feed:--append | feed:--open)
+        *:--no-sync | feed:--append | feed:--open | *:--each | *:--digest | extract:--blocks | extract:--lines)
         _mold_words "$(_mold_options "$command")" "$word"
         ;;
     *:--help) ;;
     *:--*) ;;
-    check:*) case $word in
-        -*) _mold_words "$(_mold_options check)" "$word" ;;
+    check:* | extract:*) case $word in
+        -*) _mold_words "$(_mold_options "$command")" "$word" ;;
         *) _mold_files -d "$word" ;;
         esac ;;
     *) _mold_words "$(_mold_options "$command")" "$word" ;;

@@ -19,7 +19,10 @@ use mold_sockets::{
     unless_locked,
 };
 use mold_wiring::{ProgramFault, exit_code, flushed, print_fault};
-use mold_words::{DumpOrder, Order, PackJournalOrder, UpgradeOrder, UsageFault, read_words};
+use mold_words::{
+    CheckOrder, DumpOrder, InputOrder, Judging, Order, PackJournalOrder, UpgradeOrder, UsageFault,
+    read_words,
+};
 use progress::Progress;
 use std::fs::File;
 use std::io::{ErrorKind, Write};
@@ -161,9 +164,26 @@ fn run(rt: &HostRuntime, order: &Order) -> Result<u8, ProgramFault> {
         Order::Pack(_) => Ok(run_streamed(rt, order)?),
         Order::PackJournal(order) => pack_file(rt, order),
         Order::Sim(_) => Ok(run_streamed(rt, order)?),
-        Order::Check { folder } => Ok(run_check(rt, folder.as_str())?),
-        Order::CheckLines => Ok(run_check_lines(rt, order)?),
-        Order::CheckCaptures(order) => Ok(check_captures(rt, order)?),
+        Order::Check(
+            CheckOrder {
+                input: InputOrder::Folder(folder),
+                judging: Judging::Whole { digest: false },
+            },
+        ) => Ok(run_check(rt, folder.as_str())?),
+        Order::Check(
+            CheckOrder {
+                input: InputOrder::Lines,
+                judging: Judging::Whole { digest: false },
+            },
+        ) => Ok(run_check_lines(rt, order)?),
+        Order::Check(
+            CheckOrder {
+                input: InputOrder::Captures(captures),
+                judging: Judging::Whole { digest: false },
+            },
+        ) => Ok(check_captures(rt, captures)?),
+        // STUB: other checks and `extract` read nothing yet.
+        Order::Check(_) | Order::Extract(_) => Err(ProgramFault::Command(CommandFault::Read)),
         Order::ShowCaptures(order) => Ok(show_captures(rt, order)?),
         Order::Sessions(order) => Ok(list_sessions(rt, order)?),
         Order::Publish(order) => run_publish(rt, order),

@@ -14,7 +14,7 @@ use mold_input::{BlocksToEmpty, HexLines, MessageBlocks, MessageFormat};
 use mold_show::{Pack, PackOptions, Show};
 use mold_sim::Sim;
 use mold_wire::Session;
-use mold_words::{Order, PackOrder, SimOrder};
+use mold_words::{CheckOrder, InputOrder, Judging, Order, PackOrder, SimOrder};
 use std::alloc::{AllocError, Global};
 
 /// Runs an order that reads a source (`IsStreamed`) over the whole input of the source, and returns the status.
@@ -44,11 +44,16 @@ pub fn run_command<S: Source, K: Sink>(
         }
         Order::Pack(order) => run_pack(alloc, order, source, sink),
         Order::Sim(order) => run_lines(alloc, &mut sim_of(alloc, order)?, source, sink),
-        Order::CheckLines => check_lines(alloc, source, sink),
+        Order::Check(
+            CheckOrder {
+                input: InputOrder::Lines,
+                judging: Judging::Whole { digest: false },
+            },
+        ) => check_lines(alloc, source, sink),
         // The contract requires an order that reads the source.
         Order::PackJournal(_)
-        | Order::Check { folder: _ }
-        | Order::CheckCaptures(_)
+        | Order::Check(_)
+        | Order::Extract(_)
         | Order::ShowCaptures(_)
         | Order::Sessions(_)
         | Order::Publish(_)

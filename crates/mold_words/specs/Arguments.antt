@@ -6,7 +6,12 @@ use Rattle.mold_input.specs.declared.message_format.MessageFormat.{MessageFormat
 use Rattle.mold_words.specs.Addresses.{HostPort, address_view}
 use Rattle.mold_words.specs.LinePorts.{Port, line_port_view}
 use Rattle.mold_words.specs.declared.capture_order.CaptureOrder.{CaptureOrder}
+use Rattle.mold_words.specs.declared.extract_form.ExtractForm.{ExtractForm}
 use Rattle.mold_words.specs.declared.feed_times.FeedTimes.{FeedTimes}
+use Rattle.mold_words.specs.declared.input_order.InputOrder.{InputOrder}
+use Rattle.mold_words.specs.declared.input_order.InputOrder.TheVariants.{Folder, Lines, Captures}
+use Rattle.mold_words.specs.declared.judging.Judging.{Judging}
+use Rattle.mold_words.specs.declared.judging.Judging.TheVariants.{Whole, Each, Save}
 use Rattle.mold_words.specs.declared.line_options.LineOptions.{LineOptions}
 use Rattle.mold_words.specs.declared.listen_options.ListenOptions.{ListenOptions}
 use Rattle.mold_words.specs.declared.local_options.LocalOptions.{LocalOptions}
@@ -17,10 +22,10 @@ use Rattle.mold_words.specs.declared.request_options.RequestOptions.{RequestOpti
 use Rattle.mold_words.specs.declared.sent_lines.SentLines.{SentLines}
 use Rattle.mold_words.specs.declared.start_options.StartOptions.{StartOptions}
 use Rattle.mold_words.specs.declared.types.Order.{Order}
-use Rattle.mold_words.specs.declared.types.Order.TheVariants.{Show, Pack, PackJournal, Sim, Check, CheckLines}
+use Rattle.mold_words.specs.declared.types.Order.TheVariants.{Show, Pack, PackJournal, Sim, Check, Extract}
 use Rattle.mold_words.specs.declared.types.Order.TheVariants.{Publish, Serve, Listen, Receive, Record, Loop}
 use Rattle.mold_words.specs.declared.types.Order.TheVariants.{Feed, Upgrade, Dump}
-use Rattle.mold_words.specs.declared.types.Order.TheVariants.{CheckCaptures, ShowCaptures, Sessions}
+use Rattle.mold_words.specs.declared.types.Order.TheVariants.{ShowCaptures, Sessions}
 
 -- The model of the options that `sim` and `loop` share.
 pub record LocalArguments : Type 0 where
@@ -295,6 +300,38 @@ pub record CaptureArguments : Type 0 where
   -- The session that passes. With `None` every session passes.
   pub session : Option (List ℕ)
 
+-- The model of where datagrams are read.
+pub data InputArguments : Type 0 where
+  -- The name of a folder.
+  from_folder : Text → InputArguments
+  from_lines : InputArguments
+  from_captures : CaptureArguments → InputArguments
+
+-- The model of how datagrams are judged.
+pub data JudgingArguments : Type 0 where
+  -- As one session, and whether digests are kept.
+  whole_judged : Bool → JudgingArguments
+  -- Each session by itself, and whether digests are kept.
+  each_judged : Bool → JudgingArguments
+  -- As one session, and the name of the file that a journal is saved in.
+  saved_judged : Text → JudgingArguments
+
+-- The model of a `check` order.
+pub record CheckArguments : Type 0 where
+  pub input : InputArguments
+  pub judging : JudgingArguments
+
+-- The model of an `extract` order.
+pub record ExtractArguments : Type 0 where
+  pub input : InputArguments
+  -- The name of the file that is written.
+  pub to : Text
+  pub form : ExtractForm
+  -- The sequence number of the first message.
+  pub from : ℕ
+  -- The maximum number of messages.
+  pub count : ℕ
+
 -- The model of an order: the command and the values of its options. `pack` has a session, the maximum datagram
 -- length, how its input encodes the messages, and the journal file if there is one. `upgrade` has the two files and
 -- whether the journal is closed.
@@ -303,9 +340,8 @@ pub data Arguments : Type 0 where
   pack_wanted : List ℕ → ℕ → MessageFormat → Arguments
   pack_journal_wanted : List ℕ → ℕ → MessageFormat → Text → Arguments
   sim_wanted : SimArguments → Arguments
-  check_wanted : Text → Arguments
-  check_lines_wanted : Arguments
-  check_captures_wanted : CaptureArguments → Arguments
+  check_wanted : CheckArguments → Arguments
+  extract_wanted : ExtractArguments → Arguments
   show_captures_wanted : CaptureArguments → Arguments
   sessions_wanted : CaptureArguments → Arguments
   publish_wanted : PublishArguments → Arguments
@@ -431,6 +467,18 @@ capture_view order = record {
   session = order.session;
 }
 
+-- The model of where datagrams are read, as the program reads it.
+abbrev pub input_view : InputOrder → InputArguments
+input_view (Folder name) = from_folder (string_bytes name)
+input_view Lines = from_lines
+input_view (Captures order) = from_captures (capture_view order)
+
+-- The model of how datagrams are judged, as the program reads it.
+abbrev pub judging_view : Judging → JudgingArguments
+judging_view (Whole digest) = whole_judged digest
+judging_view (Each digest) = each_judged digest
+judging_view (Save journal) = saved_judged (string_bytes journal)
+
 -- The model of the program's `Order`: its command and the values of its options.
 abbrev pub view : Order → Arguments
 view (Show request) = show_wanted request
@@ -445,9 +493,14 @@ view (Sim order) = sim_wanted (record {
   receivers = order.receivers;
   burst = order.burst;
 })
-view (Check folder) = check_wanted (string_bytes folder)
-view CheckLines = check_lines_wanted
-view (CheckCaptures order) = check_captures_wanted (capture_view order)
+view (Check order) = check_wanted (record { input = input_view order.input; judging = judging_view order.judging })
+view (Extract order) = extract_wanted (record {
+  input = input_view order.input;
+  to = string_bytes order.to;
+  form = order.form;
+  from = order.from;
+  count = order.count;
+})
 view (ShowCaptures order) = show_captures_wanted (capture_view order)
 view (Sessions order) = sessions_wanted (capture_view order)
 view (Publish order) = publish_wanted (record {

@@ -15,12 +15,16 @@ use Rattle.mold_words.specs.Values.{session_of, number_of, values_of}
 use Rattle.mold_words.specs.Arguments.{Arguments, LineArguments, ListenValues, LocalArguments, PublishedArguments}
 use Rattle.mold_words.specs.Arguments.{ReceiveArguments, ReceiverValues, RequestArguments, SentArguments}
 use Rattle.mold_words.specs.Arguments.{StartValues, TimeArguments}
-use Rattle.mold_words.specs.Arguments.{check_lines_wanted, check_wanted, dump_wanted, feed_wanted}
+use Rattle.mold_words.specs.Arguments.{InputArguments, from_captures, from_folder, from_lines}
+use Rattle.mold_words.specs.Arguments.{JudgingArguments, each_judged, saved_judged, whole_judged}
+use Rattle.mold_words.specs.Arguments.{check_wanted, dump_wanted, extract_wanted, feed_wanted}
 use Rattle.mold_words.specs.Arguments.{listen_wanted, loop_wanted, pack_journal_wanted, pack_wanted, publish_wanted}
 use Rattle.mold_words.specs.Arguments.{receive_wanted, record_wanted, serve_wanted, show_wanted, sim_wanted}
-use Rattle.mold_words.specs.Arguments.{upgrade_wanted, CaptureArguments, check_captures_wanted, sessions_wanted}
+use Rattle.mold_words.specs.Arguments.{upgrade_wanted, CaptureArguments, sessions_wanted}
 use Rattle.mold_words.specs.Arguments.{show_captures_wanted}
 use Rattle.mold_words.specs.Words.{mold_app}
+use Rattle.mold_words.specs.declared.extract_form.ExtractForm.{ExtractForm}
+use Rattle.mold_words.specs.declared.extract_form.ExtractForm.TheVariants.{Blocks as as_blocks, Lines as as_lines}
 use Rattle.mold_words.specs.declared.options.TheConstants.{MAX_TURNS}
 use Rattle.mold_wire.specs.declared.limits.TheConstants.{MAX_BURST, MAX_WIDE_WINDOW, MAX_WINDOW}
 use Rattle.mold_words.specs.declared.options.TheConstants.{DEFAULT_LIMIT, DEFAULT_TURNS, DEFAULT_WINDOW}
@@ -68,6 +72,15 @@ burst_in rows = number_in (codes "burst") 1 1 MAX_BURST rows
 -- The number of turns. The default is 1,000.
 abbrev pub turns_in : List Row → Option ℕ
 turns_in rows = number_in (codes "turns") DEFAULT_TURNS 1 MAX_TURNS rows
+
+-- The sequence number of the first message. The default is 1.
+abbrev pub from_in : List Row → Option ℕ
+from_in rows = number_in (codes "from") 1 1 MAX_NUMBER rows
+
+-- The maximum number of messages. Without `--count` it is `MAX_NUMBER`, and no journal and no session has more
+-- messages.
+abbrev pub count_in : List Row → Option ℕ
+count_in rows = number_in (codes "count") MAX_NUMBER 0 MAX_NUMBER rows
 
 -- Whether new records of the journal file are read while the command runs.
 abbrev pub follow_in : List Row → Bool
@@ -237,23 +250,69 @@ sim_of rows =
     (number_in (codes "receivers") 2 1 8 rows))
     (local_in rows)
 
--- What `check` asks for with captures. It has no folder.
-abbrev pub checked_captures : List Row → Option Arguments
-checked_captures rows =
-    if is_given rows (codes "folder") then None else option_map check_captures_wanted (captures_in rows)
+-- The captures that `check` and `extract` read, if they have no folder.
+abbrev pub captured_input : List Row → Option InputArguments
+captured_input rows = if is_given rows (codes "folder") then None else option_map from_captures (captures_in rows)
 
--- What `check` asks for without captures. It has a folder and no filter. `-` asks to check lines on standard input, and
--- any other text names a folder.
-abbrev pub checked_folder : List Row → Option Arguments
-checked_folder rows =
+-- The input of `check` and `extract` without captures. It has a folder and no filter. `-` asks to read lines on
+-- standard input, and any other text names a folder.
+abbrev pub folder_input : List Row → Option InputArguments
+folder_input rows =
     if has_filter rows then None
     else option_map
-    (λ folder. if bytes_eq folder (codes "-") then check_lines_wanted else check_wanted folder)
+    (λ folder. if bytes_eq folder (codes "-") then from_lines else from_folder folder)
     (first_of (codes "folder") rows)
+
+-- Where `check` and `extract` read datagrams, if the values are valid.
+unfoldable pub input_in : List Row → Option InputArguments
+input_in rows = if is_given rows (codes "capture") then captured_input rows else folder_input rows
+
+-- How `check` judges datagrams with this journal or none, and the flags `--each` and `--digest`. A journal excludes
+-- both flags.
+abbrev pub judging_of : Option Text → Bool → Bool → Option JudgingArguments
+judging_of None false digest = Some (whole_judged digest)
+judging_of None true digest = Some (each_judged digest)
+judging_of (Some journal) false false = Some (saved_judged journal)
+judging_of (Some journal) false true = None
+judging_of (Some journal) true digest = None
+
+-- How `check` judges datagrams, if the options are valid together.
+unfoldable pub judging_in : List Row → Option JudgingArguments
+judging_in rows =
+    judging_of (first_of (codes "journal") rows) (flag_in (codes "each") rows) (flag_in (codes "digest") rows)
 
 -- What `check` asks for with its argument and options, if their values are valid.
 unfoldable pub check_of : List Row → Option Arguments
-check_of rows = if is_given rows (codes "capture") then checked_captures rows else checked_folder rows
+check_of rows =
+    option_and_then
+    (λ judging. option_map (λ input. check_wanted (record { input = input; judging = judging })) (input_in rows))
+    (judging_in rows)
+
+-- The form that the flags `--blocks` and `--lines` choose. Exactly one of them must be given.
+abbrev pub form_of : Bool → Bool → Option ExtractForm
+form_of true false = Some as_blocks
+form_of false true = Some as_lines
+form_of true true = None
+form_of false false = None
+
+-- The form in which `extract` writes messages, if the flags are valid together.
+unfoldable pub form_in : List Row → Option ExtractForm
+form_in rows = form_of (flag_in (codes "blocks") rows) (flag_in (codes "lines") rows)
+
+-- What `extract` asks for with its argument and options, if their values are valid.
+unfoldable pub extract_of : List Row → Option Arguments
+extract_of rows =
+    option_and_then
+    (λ from. option_and_then
+    (λ count. option_and_then
+    (λ form. option_and_then
+    (λ to. option_map
+    (λ input. extract_wanted (record { input = input; to = to; form = form; from = from; count = count }))
+    (input_in rows))
+    (first_of (codes "to") rows))
+    (form_in rows))
+    (count_in rows))
+    (from_in rows)
 
 -- What `sessions` asks for with these options, if their values are valid.
 unfoldable pub sessions_of : List Row → Option Arguments
@@ -626,8 +685,7 @@ upgrade_of rows =
     (first_of (codes "to") rows))
     (first_of (codes "journal") rows)
 
--- What `dump` asks for with these options, if their values are valid. Without `--count` the count is `MAX_NUMBER`, and
--- no journal has more messages.
+-- What `dump` asks for with these options, if their values are valid.
 unfoldable pub dump_of : List Row → Option Arguments
 dump_of rows =
     option_and_then
@@ -642,8 +700,8 @@ dump_of rows =
       output = output;
     })))
     (format_in rows))
-    (number_in (codes "count") MAX_NUMBER 0 MAX_NUMBER rows))
-    (number_in (codes "from") 1 1 MAX_NUMBER rows))
+    (count_in rows))
+    (from_in rows))
     (first_of (codes "journal") rows)
 
 -- What a command over ports asks for with these options, if the command has this name and their values are valid.
@@ -664,6 +722,7 @@ order_at name rows =
     else if bytes_eq name (codes "pack") then pack_of rows
     else if bytes_eq name (codes "sim") then sim_of rows
     else if bytes_eq name (codes "check") then check_of rows
+    else if bytes_eq name (codes "extract") then extract_of rows
     else if bytes_eq name (codes "sessions") then sessions_of rows
     else if bytes_eq name (codes "upgrade") then upgrade_of rows
     else if bytes_eq name (codes "dump") then dump_of rows

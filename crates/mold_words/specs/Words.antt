@@ -36,7 +36,16 @@ abbrev pub check_command : Text × List (Text × Kind)
 check_command = (
   codes "check",
   (codes "folder", Word) ∷ (codes "capture", Repeated) ∷ (codes "port", Repeated) ∷ (codes "group", Repeated)
-      ∷ (codes "session", Optional) ∷ [],
+      ∷ (codes "session", Optional) ∷ (codes "journal", Optional) ∷ (codes "each", Flag) ∷ (codes "digest", Flag) ∷ [],
+)
+
+-- The command `extract` with its options.
+abbrev pub extract_command : Text × List (Text × Kind)
+extract_command = (
+  codes "extract",
+  (codes "folder", Word) ∷ (codes "capture", Repeated) ∷ (codes "port", Repeated) ∷ (codes "group", Repeated)
+      ∷ (codes "session", Optional) ∷ (codes "to", Required) ∷ (codes "blocks", Flag) ∷ (codes "lines", Flag)
+      ∷ (codes "from", Optional) ∷ (codes "count", Optional) ∷ [],
 )
 
 -- The command `sessions` with its options.
@@ -125,7 +134,9 @@ dump_command = (
 
 -- The commands, each with its options, in the order in which help lists them.
 abbrev pub commands : List (Text × List (Text × Kind))
-commands = show_command ∷ pack_command ∷ sim_command ∷ check_command ∷ sessions_command ∷ publish_command ∷ feed_command ∷ serve_command ∷ listen_command ∷ receive_command ∷ loop_command ∷ upgrade_command ∷ dump_command ∷ []
+commands = show_command ∷ pack_command ∷ sim_command ∷ check_command ∷ extract_command ∷ sessions_command
+    ∷ publish_command ∷ feed_command ∷ serve_command ∷ listen_command ∷ receive_command ∷ loop_command
+    ∷ upgrade_command ∷ dump_command ∷ []
 
 -- Whether the text is the name of a command.
 abbrev pub is_command : Text → Bool

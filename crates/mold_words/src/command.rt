@@ -2,15 +2,15 @@
 ghost use Rattle.std.specs.Prelude.{◌≡◌, [], IfOk, Some, false, fold, map};
 ghost use Rattle.clap.specs.Words.{app_of, new_rule, rule_of};
 ghost use Rattle.clap.specs.declared.builder.Command.TheViews.{out-Command as fields_of};
-ghost use Rattle.mold_words.specs.Words.{bare_app, check_command, command_app, commands, dump_command, feed_command};
-ghost use Rattle.mold_words.specs.Words.{listen_command, loop_command, mold_app, pack_command, publish_command};
-ghost use Rattle.mold_words.specs.Words.{receive_command, rule_for, serve_command, sessions_command, show_command};
-ghost use Rattle.mold_words.specs.Words.{sim_command, upgrade_command, with_command, with_option};
+ghost use Rattle.mold_words.specs.Words.{bare_app, check_command, command_app, commands, dump_command, extract_command};
+ghost use Rattle.mold_words.specs.Words.{feed_command, listen_command, loop_command, mold_app, pack_command};
+ghost use Rattle.mold_words.specs.Words.{publish_command, receive_command, rule_for, serve_command, sessions_command};
+ghost use Rattle.mold_words.specs.Words.{show_command, sim_command, upgrade_command, with_command, with_option};
 ghost use Rattle.mold_words.specs.Table.{command_of, option_of};
 
 use crate::table::{
-    CHECK, CommandRow, DUMP, FEED, Kind, LISTEN, LOOP, OptionRow, PACK, PUBLISH, RECEIVE, SERVE,
-    SESSIONS, SHOW, SIM, UPGRADE, value_name,
+    CHECK, CommandRow, DUMP, EXTRACT, FEED, Kind, LISTEN, LOOP, OptionRow, PACK, PUBLISH, RECEIVE,
+    SERVE, SESSIONS, SHOW, SIM, UPGRADE, value_name,
 };
 use clap::{Arg, ArgAction, Command};
 use std::alloc::{AllocError, Global};
@@ -151,6 +151,12 @@ fn check_row() -> CommandRow
     CHECK
 }
 
+fn extract_row() -> CommandRow
+    ensures { command_of result ≡ extract_command }
+{
+    EXTRACT
+}
+
 fn sessions_row() -> CommandRow
     ensures { command_of result ≡ sessions_command }
 {
@@ -206,7 +212,7 @@ fn dump_row() -> CommandRow
 }
 
 // Returns the rows of the table.
-fn command_rows() -> [CommandRow; 13]
+fn command_rows() -> [CommandRow; 14]
     ensures { map command_of result ≡ commands }
 {
     [
@@ -214,6 +220,7 @@ fn command_rows() -> [CommandRow; 13]
         pack_row(),
         sim_row(),
         check_row(),
+        extract_row(),
         sessions_row(),
         publish_row(),
         feed_row(),

@@ -8,9 +8,11 @@ ghost use Rattle.clap.specs.declared.error.kind.ErrorKind.TheVariants.{MissingRe
 ghost use Rattle.mold_frame.specs.declared.ip_address.IpAddress.TheVariants.{V4, V6};
 ghost use Rattle.mold_input.specs.declared.message_format.MessageFormat.TheVariants.{Lines, Blocks, BlocksToEmpty};
 ghost use Rattle.mold_words.specs.Orders.{AreTaken, Say, order_of};
-ghost use Rattle.mold_words.specs.Arguments.{check_lines_wanted, check_wanted, dump_wanted, feed_wanted};
-ghost use Rattle.mold_words.specs.Arguments.{check_captures_wanted, listen_wanted, loop_wanted, sessions_wanted};
-ghost use Rattle.mold_words.specs.Arguments.{show_captures_wanted};
+ghost use Rattle.mold_words.specs.declared.extract_form.ExtractForm.TheVariants.{Blocks as blocks_written};
+ghost use Rattle.mold_words.specs.declared.extract_form.ExtractForm.TheVariants.{Lines as lines_written};
+ghost use Rattle.mold_words.specs.Arguments.{check_wanted, dump_wanted, each_judged, extract_wanted, feed_wanted};
+ghost use Rattle.mold_words.specs.Arguments.{from_captures, from_folder, from_lines, saved_judged, whole_judged};
+ghost use Rattle.mold_words.specs.Arguments.{listen_wanted, loop_wanted, sessions_wanted, show_captures_wanted};
 ghost use Rattle.mold_words.specs.IpAddresses.{ipv6_of};
 ghost use Rattle.mold_words.specs.Arguments.{pack_journal_wanted, pack_wanted, publish_wanted, receive_wanted};
 ghost use Rattle.mold_words.specs.Arguments.{record_wanted, serve_wanted, show_wanted, sim_wanted, upgrade_wanted};
@@ -98,39 +100,136 @@ pub fn sim_taken_law()
         (codes "sim" ∷ codes "--session" ∷ codes "MKT" ∷ codes "--limit" ∷ codes "1401" ∷ []) ≡ None }
 {}
 
-/// `check DIR` is accepted, and asks to check the folder `DIR`. `check -` asks to check lines, and `check ./-` to
-/// check the folder of that name. `check --capture F` asks to check the capture `F`, and `--port` and `--group` to check
-/// the datagrams that are sent to this port and this address. Each of these options may be given several times. Refused
-/// are a command without a folder and a capture, both of them together, `--port` without a capture, and the port 0.
+/// `check DIR` is accepted, and asks to check the folder `DIR` as one session. `check -` asks to check lines, and
+/// `check ./-` to check the folder of that name. `check --capture F` asks to check the capture `F`, and `--port` and
+/// `--group` to check the datagrams that are sent to this port and this address. Each of these options may be given
+/// several times. Refused are a command without a folder and a capture, both of them together, `--port` without a
+/// capture, and the port 0.
 pub fn check_taken_law()
-    ensures folder { Say (codes "check" ∷ codes "DIR" ∷ []) (check_wanted (codes "DIR")) }
-    ensures lines { Say (codes "check" ∷ codes "-" ∷ []) check_lines_wanted }
-    ensures dash { Say (codes "check" ∷ codes "./-" ∷ []) (check_wanted (codes "./-")) }
+    ensures folder { Say (codes "check" ∷ codes "DIR" ∷ [])
+        (check_wanted (record { input = from_folder (codes "DIR"); judging = whole_judged false })) }
+    ensures lines { Say (codes "check" ∷ codes "-" ∷ [])
+        (check_wanted (record { input = from_lines; judging = whole_judged false })) }
+    ensures dash { Say (codes "check" ∷ codes "./-" ∷ [])
+        (check_wanted (record { input = from_folder (codes "./-"); judging = whole_judged false })) }
     ensures captures { Say
         (codes "check" ∷ codes "--capture" ∷ codes "F" ∷ codes "--port" ∷ codes "26477" ∷ codes "--group"
         ∷ codes "239.192.1.1" ∷ [])
-        (check_captures_wanted (record {
-          captures = codes "F" ∷ [];
-          ports = 26477 ∷ [];
-          groups = V4 (239 ∷ 192 ∷ 1 ∷ 1 ∷ []) ∷ [];
-          session = None;
+        (check_wanted (record {
+          input = from_captures (record {
+            captures = codes "F" ∷ [];
+            ports = 26477 ∷ [];
+            groups = V4 (239 ∷ 192 ∷ 1 ∷ 1 ∷ []) ∷ [];
+            session = None;
+          });
+          judging = whole_judged false;
         })) }
     ensures several { Say
         (codes "check" ∷ codes "--group" ∷ codes "ff02::1" ∷ codes "--capture" ∷ codes "F" ∷ codes "--port" ∷ codes "1"
         ∷ codes "--capture" ∷ codes "-" ∷ codes "--port" ∷ codes "65535" ∷ codes "--session" ∷ codes "MKT"
         ∷ codes "--group" ∷ codes "10.0.0.1" ∷ [])
-        (check_captures_wanted (record {
-          captures = codes "F" ∷ codes "-" ∷ [];
-          ports = 1 ∷ 65535 ∷ [];
-          groups = V6 (255 ∷ 2 ∷ 0 ∷ 0 ∷ 0 ∷ 0 ∷ 0 ∷ 0 ∷ 0 ∷ 0 ∷ 0 ∷ 0 ∷ 0 ∷ 0 ∷ 0 ∷ 1 ∷ [])
-              ∷ V4 (10 ∷ 0 ∷ 0 ∷ 1 ∷ []) ∷ [];
-          session = Some (codes "MKT       ");
+        (check_wanted (record {
+          input = from_captures (record {
+            captures = codes "F" ∷ codes "-" ∷ [];
+            ports = 1 ∷ 65535 ∷ [];
+            groups = V6 (255 ∷ 2 ∷ 0 ∷ 0 ∷ 0 ∷ 0 ∷ 0 ∷ 0 ∷ 0 ∷ 0 ∷ 0 ∷ 0 ∷ 0 ∷ 0 ∷ 0 ∷ 1 ∷ [])
+                ∷ V4 (10 ∷ 0 ∷ 0 ∷ 1 ∷ []) ∷ [];
+            session = Some (codes "MKT       ");
+          });
+          judging = whole_judged false;
         })) }
     ensures no_input { order_of (codes "check" ∷ []) ≡ None }
     ensures both { order_of (codes "check" ∷ codes "DIR" ∷ codes "--capture" ∷ codes "F" ∷ []) ≡ None }
     ensures filter { order_of (codes "check" ∷ codes "--port" ∷ codes "1" ∷ codes "DIR" ∷ []) ≡ None }
     ensures zero { order_of
         (codes "check" ∷ codes "--capture" ∷ codes "F" ∷ codes "--port" ∷ codes "0" ∷ []) ≡ None }
+{}
+
+/// `check --journal J` is accepted with a folder, lines or captures, and asks to save the messages as a journal in
+/// `J`. `--each` asks to check each session by itself, and `--digest` to keep digests of messages. They may be given
+/// together, and together with `--session`. `--journal` with `--each` is refused, and so is `--journal` with
+/// `--digest`.
+pub fn judging_taken_law()
+    ensures saved { Say (codes "check" ∷ codes "DIR" ∷ codes "--journal" ∷ codes "J" ∷ [])
+        (check_wanted (record { input = from_folder (codes "DIR"); judging = saved_judged (codes "J") })) }
+    ensures saved_lines { Say (codes "check" ∷ codes "--journal" ∷ codes "J" ∷ codes "-" ∷ [])
+        (check_wanted (record { input = from_lines; judging = saved_judged (codes "J") })) }
+    ensures saved_captures { Say
+        (codes "check" ∷ codes "--journal" ∷ codes "J" ∷ codes "--capture" ∷ codes "F" ∷ [])
+        (check_wanted (record {
+          input = from_captures (record { captures = codes "F" ∷ []; ports = []; groups = []; session = None });
+          judging = saved_judged (codes "J");
+        })) }
+    ensures each { Say (codes "check" ∷ codes "--each" ∷ codes "-" ∷ [])
+        (check_wanted (record { input = from_lines; judging = each_judged false })) }
+    ensures digest { Say (codes "check" ∷ codes "DIR" ∷ codes "--digest" ∷ [])
+        (check_wanted (record { input = from_folder (codes "DIR"); judging = whole_judged true })) }
+    ensures each_digest { Say
+        (codes "check" ∷ codes "--digest" ∷ codes "--capture" ∷ codes "F" ∷ codes "--session" ∷ codes "MKT"
+        ∷ codes "--each" ∷ [])
+        (check_wanted (record {
+          input = from_captures (record {
+            captures = codes "F" ∷ [];
+            ports = [];
+            groups = [];
+            session = Some (codes "MKT       ");
+          });
+          judging = each_judged true;
+        })) }
+    ensures journal_each { order_of
+        (codes "check" ∷ codes "DIR" ∷ codes "--journal" ∷ codes "J" ∷ codes "--each" ∷ []) ≡ None }
+    ensures journal_digest { order_of
+        (codes "check" ∷ codes "DIR" ∷ codes "--digest" ∷ codes "--journal" ∷ codes "J" ∷ []) ≡ None }
+{}
+
+/// `extract DIR --to M --blocks` is accepted, and asks to write all messages of the datagrams in the folder `DIR` to
+/// the file `M`, as blocks. `--lines` asks to write lines. The input may also be lines or captures, as for `check`.
+/// `--from` sets another first message, and `--count` a maximum number, each without the other too. `--to` is
+/// required, and exactly one of `--blocks` and `--lines`. Refused are `--from 0`, a count that does not fit 64 bits,
+/// and a command without a folder and a capture. There is no `--journal`.
+pub fn extract_taken_law()
+    ensures blocks { Say (codes "extract" ∷ codes "DIR" ∷ codes "--to" ∷ codes "M" ∷ codes "--blocks" ∷ [])
+        (extract_wanted (record {
+          input = from_folder (codes "DIR");
+          to = codes "M";
+          form = blocks_written;
+          from = 1;
+          count = 18446744073709551615;
+        })) }
+    ensures lines { Say
+        (codes "extract" ∷ codes "--lines" ∷ codes "--count" ∷ codes "0" ∷ codes "--to" ∷ codes "M" ∷ codes "-" ∷ [])
+        (extract_wanted (record {
+          input = from_lines;
+          to = codes "M";
+          form = lines_written;
+          from = 1;
+          count = 0;
+        })) }
+    ensures captures { Say
+        (codes "extract" ∷ codes "--capture" ∷ codes "F" ∷ codes "--port" ∷ codes "26477" ∷ codes "--from"
+        ∷ codes "18446744073709551615" ∷ codes "--to" ∷ codes "M" ∷ codes "--blocks" ∷ [])
+        (extract_wanted (record {
+          input = from_captures (record { captures = codes "F" ∷ []; ports = 26477 ∷ []; groups = []; session = None });
+          to = codes "M";
+          form = blocks_written;
+          from = 18446744073709551615;
+          count = 18446744073709551615;
+        })) }
+    ensures no_form { order_of (codes "extract" ∷ codes "DIR" ∷ codes "--to" ∷ codes "M" ∷ []) ≡ None }
+    ensures both_forms { order_of
+        (codes "extract" ∷ codes "DIR" ∷ codes "--to" ∷ codes "M" ∷ codes "--blocks" ∷ codes "--lines" ∷ []) ≡ None }
+    ensures zero { order_of
+        (codes "extract" ∷ codes "DIR" ∷ codes "--to" ∷ codes "M" ∷ codes "--lines" ∷ codes "--from" ∷ codes "0" ∷ [])
+        ≡ None }
+    ensures above { order_of
+        (codes "extract" ∷ codes "DIR" ∷ codes "--to" ∷ codes "M" ∷ codes "--lines" ∷ codes "--count"
+        ∷ codes "18446744073709551616" ∷ []) ≡ None }
+    ensures no_input { order_of (codes "extract" ∷ codes "--to" ∷ codes "M" ∷ codes "--blocks" ∷ []) ≡ None }
+    ensures no_file { fault_of mold_app (codes "extract" ∷ codes "DIR" ∷ codes "--blocks" ∷ [])
+        ≡ MissingRequiredArgument ∷ [] }
+    ensures journal { fault_of mold_app
+        (codes "extract" ∷ codes "DIR" ∷ codes "--to" ∷ codes "M" ∷ codes "--blocks" ∷ codes "--journal" ∷ codes "J"
+        ∷ []) ≡ UnknownArgument ∷ [] }
 {}
 
 /// `sessions --capture F` is accepted, and asks to list the sessions of the capture `F`. `--capture` is required, and

@@ -71,6 +71,8 @@ pub(crate) enum NoOrder {
     GiveUpWithJournal,
     /// Neither a folder nor `--capture` is given.
     NoFolder,
+    /// Neither `--blocks` nor `--lines` is given.
+    NoForm,
     /// Both a folder and `--capture` are given.
     FolderWithCapture,
     /// This option is given without `--capture`.
@@ -171,6 +173,7 @@ impl NoOrder {
             | NoOrder::NextWithJournal
             | NoOrder::GiveUpWithJournal
             | NoOrder::NoFolder
+            | NoOrder::NoForm
             | NoOrder::FolderWithCapture
             | NoOrder::InputTwice => String::from_str(alloc, self.fixed_text()),
         }
@@ -209,6 +212,7 @@ impl NoOrder {
                 "error: '--give-up' above 0 and '--journal' exclude each other\n"
             }
             NoOrder::NoFolder => "error: '<FOLDER>' or '--capture' is required\n",
+            NoOrder::NoForm => "error: '--blocks' or '--lines' is required\n",
             NoOrder::FolderWithCapture => "error: '<FOLDER>' and '--capture' exclude each other\n",
             NoOrder::InputTwice => "error: '--capture -' is given more than once\n",
             _ => "",

@@ -6,13 +6,14 @@ ghost use Rattle.std.specs.List.{list_all};
 ghost use Rattle.clap.specs.Words.{all_of, first_of, found_of, rows_of};
 ghost use Rattle.mold_words.specs.NoOrders.{LacksOrder, LacksValue};
 ghost use Rattle.mold_words.specs.Arguments.{local_options_view, published_options_view};
-ghost use Rattle.mold_words.specs.Orders.{address_in, bound_in, burst_in, flag_in, follow_in, format_in, limit_in};
-ghost use Rattle.mold_words.specs.Orders.{limits_in, live_in, local_in, number_in, published_in, report_in};
+ghost use Rattle.mold_words.specs.Orders.{address_in, bound_in, burst_in, count_in, flag_in, follow_in, format_in};
+ghost use Rattle.mold_words.specs.Orders.{from_in, limit_in, limits_in, live_in, local_in, number_in};
+ghost use Rattle.mold_words.specs.Orders.{published_in, report_in};
 ghost use Rattle.mold_words.specs.Orders.{session_in, turns_in, window_in};
 ghost use Rattle.mold_words.specs.Values.{is_character};
 ghost use Rattle.mold_words.specs.Addresses.{address_view};
 ghost use Rattle.mold_wire.specs.declared.limits.TheConstants.{MAX_BURST, MAX_WINDOW};
-ghost use Rattle.mold_wire.specs.declared.limits.TheConstants.{MAX_LIMIT, MIN_LIMIT};
+ghost use Rattle.mold_wire.specs.declared.limits.TheConstants.{MAX_LIMIT, MAX_NUMBER, MIN_LIMIT};
 
 use crate::address::Address;
 use crate::addresses::address_of;
@@ -23,7 +24,7 @@ use crate::published_options::PublishedOptions;
 use crate::values::{number_of, session_of};
 use clap::ArgMatches;
 use mold_input::MessageFormat;
-use mold_wire::{MAX_BURST, MAX_LIMIT, MAX_WINDOW, MIN_LIMIT};
+use mold_wire::{MAX_BURST, MAX_LIMIT, MAX_NUMBER, MAX_WINDOW, MIN_LIMIT};
 use std::alloc::Global;
 
 // The values of options that are not given.
@@ -48,14 +49,27 @@ pub(crate) fn required_in<'a>(
     text_in(options, name).ok_or(NoOrder::Missing { name })
 }
 
+/// Returns the name of a file that must be given, as a string that an order keeps.
+pub(crate) fn file_in(
+    alloc: Global,
+    options: &ArgMatches<'_>,
+    name: &'static str,
+) -> Result<String, NoOrder>
+    ensures { MatchResult result
+        (λ text. first_of name.now (rows_of (found_of options.now)) ≡ Some (string_bytes text))
+        (LacksOrder (first_of name.now (rows_of (found_of options.now)))) }
+{
+    let text = required_in(options, name)?;
+    Ok(String::from_str(alloc, text)?)
+}
+
 /// Returns the name of the journal file, as a string that an order keeps.
 pub(crate) fn journal_in(alloc: Global, options: &ArgMatches<'_>) -> Result<String, NoOrder>
     ensures { MatchResult result
         (λ text. first_of (codes "journal") (rows_of (found_of options.now)) ≡ Some (string_bytes text))
         (LacksOrder (first_of (codes "journal") (rows_of (found_of options.now)))) }
 {
-    let text = required_in(options, "journal")?;
-    Ok(String::from_str(alloc, text)?)
+    file_in(alloc, options, "journal")
 }
 
 /// Whether the flag is given.
@@ -148,6 +162,25 @@ pub(crate) fn burst_in(options: &ArgMatches<'_>) -> Result<u16, NoOrder>
     ensures within { IfOk result (λ number. (1 ≤ number) × (number ≤ MAX_BURST)) }
 {
     Ok(number_in(options, "burst", 1, 1, u64::from(MAX_BURST))? as u16)
+}
+
+/// Returns the sequence number of the first message.
+pub(crate) fn from_in(options: &ArgMatches<'_>) -> Result<u64, NoOrder>
+    ensures value { MatchResult result
+        (λ number. from_in (rows_of (found_of options.now)) ≡ Some number)
+        (LacksValue (from_in (rows_of (found_of options.now)))) }
+    ensures within { IfOk result (λ number. (1 ≤ number) × (number ≤ MAX_NUMBER)) }
+{
+    number_in(options, "from", 1, 1, MAX_NUMBER)
+}
+
+/// Returns the maximum number of messages. It is `MAX_NUMBER` if the option is not given.
+pub(crate) fn count_in(options: &ArgMatches<'_>) -> Result<u64, NoOrder>
+    ensures { MatchResult result
+        (λ number. count_in (rows_of (found_of options.now)) ≡ Some number)
+        (LacksValue (count_in (rows_of (found_of options.now)))) }
+{
+    number_in(options, "count", MAX_NUMBER, 0, MAX_NUMBER)
 }
 
 /// Returns the number of turns.

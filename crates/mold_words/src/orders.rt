@@ -3,10 +3,10 @@
 ghost use Rattle.std.specs.Prelude.{◌≡◌, ◌⊎◌, ◌≤◌, MatchResult, None, Some, false, length, map, not, true};
 ghost use Rattle.clap.specs.Words.{found_of, rows_of, subcommand_rows_of};
 ghost use Rattle.mold_words.specs.NoOrders.{LacksOrder, LacksValue, is_address};
-ghost use Rattle.mold_words.specs.Orders.{check_of, dump_of, excludes_journal, feed_of, kept_in, lacks_address};
-ghost use Rattle.mold_words.specs.Orders.{listen_in, listen_of, loop_of, order_at, order_in, pack_of, port_order_at};
-ghost use Rattle.mold_words.specs.Orders.{publish_of, receive_in, receive_of, received, serve_of, sessions_of};
-ghost use Rattle.mold_words.specs.Orders.{show_of, sim_of, upgrade_of};
+ghost use Rattle.mold_words.specs.Orders.{check_of, dump_of, excludes_journal, extract_of, feed_of, kept_in};
+ghost use Rattle.mold_words.specs.Orders.{lacks_address, listen_in, listen_of, loop_of, order_at, order_in, pack_of};
+ghost use Rattle.mold_words.specs.Orders.{port_order_at, publish_of, receive_in, receive_of, received, serve_of};
+ghost use Rattle.mold_words.specs.Orders.{sessions_of, show_of, sim_of, upgrade_of};
 ghost use Rattle.mold_words.specs.Addresses.{address_view};
 ghost use Rattle.mold_words.specs.Arguments.{line_options_view, listen_options_view, receive_view};
 ghost use Rattle.mold_words.specs.Arguments.{receiver_options_view, request_options_view, start_options_view, view};
@@ -14,18 +14,21 @@ ghost use Rattle.mold_words.specs.Arguments.{receiver_options_view, request_opti
 use crate::address::Address;
 use crate::address_checks::check_addresses;
 use crate::capture_options::{captures_in, check_unfiltered, is_given};
+use crate::check_order::CheckOrder;
 use crate::dump_order::DumpOrder;
+use crate::extract_order::ExtractOrder;
 use crate::feed_options::{address_or_none, feed_times_in, sent_lines_in};
 use crate::feed_order::FeedOrder;
+use crate::input_options::{form_in, input_in, judging_in};
 use crate::line_options::LineOptions;
 use crate::listen_options::ListenOptions;
 use crate::listen_order::ListenOrder;
 use crate::loop_order::LoopOrder;
 use crate::no_order::NoOrder;
 use crate::options::{
-    address_in, bound_in, burst_in, flag_in, follow_in, format_in, journal_in, limit_in, live_in,
-    local_in, number_in, published_in, report_in, required_in, session_in, text_in, turns_in,
-    window_in,
+    address_in, bound_in, burst_in, count_in, file_in, flag_in, follow_in, format_in, from_in,
+    journal_in, limit_in, live_in, local_in, number_in, published_in, report_in, required_in,
+    session_in, text_in, turns_in, window_in,
 };
 use crate::pack_journal_order::PackJournalOrder;
 use crate::pack_order::PackOrder;
@@ -41,7 +44,6 @@ use crate::start_options::StartOptions;
 use crate::types::Order;
 use crate::upgrade_order::UpgradeOrder;
 use clap::ArgMatches;
-use mold_wire::MAX_NUMBER;
 use std::alloc::Global;
 
 /// The greatest sequence number that a listener may start at.
@@ -63,8 +65,8 @@ pub(crate) fn order_from(alloc: Global, matches: &ArgMatches<'_>) -> Result<Orde
     }
 }
 
-// Returns the order of the command over ports that has this name. For the prover, this is apart from `order_at`: the cost of
-// a `match` over texts grows with the square of their number.
+// Returns the order of the command over ports that has this name. For the prover, this is apart from `order_at`: the
+// cost of a `match` over texts grows with the square of their number.
 #[tactic(auto, unfolding(crate::specs::Orders::port_order_at))]
 fn port_order_at(alloc: Global, name: &str, options: &ArgMatches<'_>) -> Result<Order, NoOrder>
     ensures { MatchResult result
@@ -94,6 +96,7 @@ fn order_at(alloc: Global, name: &str, options: &ArgMatches<'_>) -> Result<Order
         "pack" => pack_order(alloc, options),
         "sim" => sim_order(options),
         "check" => check_order(alloc, options),
+        "extract" => extract_order(alloc, options),
         "sessions" => sessions_order(alloc, options),
         "upgrade" => upgrade_order(alloc, options),
         "dump" => dump_order(alloc, options),
@@ -168,8 +171,8 @@ fn dump_order(alloc: Global, options: &ArgMatches<'_>) -> Result<Order, NoOrder>
         (λ order. dump_of (rows_of (found_of options.now)) ≡ Some (view order))
         (LacksOrder (dump_of (rows_of (found_of options.now)))) }
 {
-    let from = number_in(options, "from", 1, 1, MAX_NUMBER)?;
-    let count = number_in(options, "count", MAX_NUMBER, 0, MAX_NUMBER)?;
+    let from = from_in(options)?;
+    let count = count_in(options)?;
     let output = format_in(options)?;
     let journal = journal_in(alloc, options)?;
     Ok(Order::Dump(DumpOrder {
@@ -205,22 +208,29 @@ fn check_order(alloc: Global, options: &ArgMatches<'_>) -> Result<Order, NoOrder
         (λ order. check_of (rows_of (found_of options.now)) ≡ Some (view order))
         (LacksOrder (check_of (rows_of (found_of options.now)))) }
 {
-    if is_given(options, "capture") {
-        if is_given(options, "folder") {
-            return Err(NoOrder::FolderWithCapture);
-        }
-        return Ok(Order::CheckCaptures(captures_in(alloc, options)?));
-    }
-    check_unfiltered(options)?;
-    let Some(folder) = text_in(options, "folder") else {
-        return Err(NoOrder::NoFolder);
-    };
-    if folder == "-" {
-        return Ok(Order::CheckLines);
-    }
-    Ok(Order::Check {
-        folder: String::from_str(alloc, folder)?,
-    })
+    let judging = judging_in(alloc, options)?;
+    let input = input_in(alloc, options)?;
+    Ok(Order::Check(CheckOrder { input, judging }))
+}
+
+#[tactic(auto, unfolding(crate::specs::Orders::extract_of))]
+fn extract_order(alloc: Global, options: &ArgMatches<'_>) -> Result<Order, NoOrder>
+    ensures { MatchResult result
+        (λ order. extract_of (rows_of (found_of options.now)) ≡ Some (view order))
+        (LacksOrder (extract_of (rows_of (found_of options.now)))) }
+{
+    let from = from_in(options)?;
+    let count = count_in(options)?;
+    let form = form_in(options)?;
+    let to = file_in(alloc, options, "to")?;
+    let input = input_in(alloc, options)?;
+    Ok(Order::Extract(ExtractOrder {
+        input,
+        to,
+        form,
+        from,
+        count,
+    }))
 }
 
 #[tactic(auto, unfolding(crate::specs::Orders::sessions_of))]

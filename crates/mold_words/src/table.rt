@@ -52,8 +52,8 @@ pub(crate) fn value_name(option: &str) -> &'static str {
     }
 }
 
-// For the prover, the functions that follow are apart from `value_name`: the cost of a `match` over texts grows with the
-// square of their number.
+// For the prover, the functions that follow are apart from `value_name`: the cost of a `match` over texts grows with
+// the square of their number.
 
 // Returns the name of an option's value that is an address without a port.
 fn ip_name(option: &str) -> &'static str {
@@ -215,6 +215,29 @@ const GROUP: OptionRow = OptionRow {
         given several times",
 };
 
+// Reads a folder, or lines, in place of captures.
+const FOLDER: OptionRow = OptionRow {
+    name: "folder",
+    kind: Kind::Word,
+    help: "The folder; each of its files whose name ends in .pkt is a datagram\n\
+        - reads datagrams as lines of hexadecimal digits on standard input\n\
+        Required unless --capture is given",
+};
+
+// The sequence number of the first message.
+const FROM: OptionRow = OptionRow {
+    name: "from",
+    kind: Kind::Optional,
+    help: "The number of the first message, 1 to 18446744073709551615 [default: 1]",
+};
+
+// The maximum number of messages.
+const COUNT: OptionRow = OptionRow {
+    name: "count",
+    kind: Kind::Optional,
+    help: "The maximum number of messages, 0 to 18446744073709551615 [default: all]",
+};
+
 // Filters the datagrams of captures by their session.
 const SESSION_OF_CAPTURE: OptionRow = OptionRow {
     name: "session",
@@ -222,8 +245,8 @@ const SESSION_OF_CAPTURE: OptionRow = OptionRow {
     help: "Read only datagrams of this session, 1 to 10 characters from space to ~",
 };
 
-// The commands, in the order in which help lists them. For the prover, each one is a static: the cost of a function that
-// names a static grows with the square of the number of texts in it.
+// The commands, in the order in which help lists them. For the prover, each one is a static: the cost of a function
+// that names a static grows with the square of the number of texts in it.
 
 /// The command `show`.
 pub static SHOW: CommandRow = CommandRow {
@@ -286,20 +309,63 @@ pub static CHECK: CommandRow = CommandRow {
     name: "check",
     about: "Report whether captured datagrams are one whole session",
     options: &[
-        OptionRow {
-            name: "folder",
-            kind: Kind::Word,
-            help: "The folder; each of its files whose name ends in .pkt is a datagram\n\
-                    - reads datagrams as lines of hexadecimal digits on standard input\n\
-                    Required unless --capture is given",
-        },
+        FOLDER,
         CAPTURE,
         PORT,
         GROUP,
         SESSION_OF_CAPTURE,
+        OptionRow {
+            name: "journal",
+            kind: Kind::Optional,
+            help: "Write the messages of a whole session to a new journal",
+        },
+        OptionRow {
+            name: "each",
+            kind: Kind::Flag,
+            help: "Check every session by itself",
+        },
+        OptionRow {
+            name: "digest",
+            kind: Kind::Flag,
+            help: "Keep a digest of 16 bytes for each message, not the message",
+        },
     ],
     example: "Example:\n  mold check captures\
             \n  mold check --capture day.pcap --group 239.192.1.1 --port 26477",
+};
+
+/// The command `extract`.
+pub static EXTRACT: CommandRow = CommandRow {
+    name: "extract",
+    about: "Write the messages of captured datagrams to a file",
+    options: &[
+        FOLDER,
+        CAPTURE,
+        PORT,
+        GROUP,
+        SESSION_OF_CAPTURE,
+        OptionRow {
+            name: "to",
+            kind: Kind::Required,
+            help: "The file to write, which is created or replaced",
+        },
+        OptionRow {
+            name: "blocks",
+            kind: Kind::Flag,
+            help: "Write message blocks (BinaryFILE). No message may be missing between\n\
+                    the first and the last one",
+        },
+        OptionRow {
+            name: "lines",
+            kind: Kind::Flag,
+            help: "Write each message as a line: its number, and its bytes in hexadecimal\n\
+                    digits. One of --blocks and --lines is required",
+        },
+        FROM,
+        COUNT,
+    ],
+    example: "Example:\n  mold extract --capture day.pcap --group 239.192.1.1 --port 26477 \\\
+            \n    --to messages --blocks",
 };
 
 /// The command `sessions`.
@@ -718,16 +784,8 @@ pub static DUMP: CommandRow = CommandRow {
             help: "The journal file",
         },
         FOLLOW,
-        OptionRow {
-            name: "from",
-            kind: Kind::Optional,
-            help: "The number of the first message, 1 to 18446744073709551615 [default: 1]",
-        },
-        OptionRow {
-            name: "count",
-            kind: Kind::Optional,
-            help: "The maximum number of messages, 0 to 18446744073709551615 [default: all]",
-        },
+        FROM,
+        COUNT,
         OptionRow {
             name: "blocks",
             kind: Kind::Flag,

@@ -1,7 +1,9 @@
 //! The order: the parsed command line.
 
 use crate::capture_order::CaptureOrder;
+use crate::check_order::CheckOrder;
 use crate::dump_order::DumpOrder;
+use crate::extract_order::ExtractOrder;
 use crate::feed_order::FeedOrder;
 use crate::listen_order::ListenOrder;
 use crate::loop_order::LoopOrder;
@@ -14,8 +16,7 @@ use crate::serve_order::ServeOrder;
 use crate::sim_order::SimOrder;
 use crate::upgrade_order::UpgradeOrder;
 
-/// The parsed command line. There is one variant for each command, two for `show`, `pack` and `receive`, and three for
-/// `check`.
+/// The parsed command line. There is one variant for each command, and two for `show`, `pack` and `receive`.
 #[derive(Drop)]
 pub enum Order {
     /// Prints the packets on standard input, each given as a line of hexadecimal digits.
@@ -29,15 +30,10 @@ pub enum Order {
     PackJournal(PackJournalOrder),
     /// Runs a script of events from standard input, and prints the result of each event.
     Sim(SimOrder),
-    /// Checks whether the datagrams in a folder are those of one complete session.
-    Check {
-        /// The name of the folder.
-        folder: String,
-    },
-    /// Checks the same for datagrams on standard input, each given as a line of hexadecimal digits.
-    CheckLines,
-    /// Checks the same for the datagrams of captures.
-    CheckCaptures(CaptureOrder),
+    /// Checks whether datagrams are those of complete sessions.
+    Check(CheckOrder),
+    /// Writes the messages of such datagrams to a file.
+    Extract(ExtractOrder),
     /// Prints the packets of the datagrams of captures.
     ShowCaptures(CaptureOrder),
     /// Prints the sessions of the datagrams of captures, with their destinations.
