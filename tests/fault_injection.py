@@ -129,6 +129,7 @@ def calls_of_files():
         Call("check", ["check", "@"], files=folder, status=1),
         Call("check, whole", ["check", "@"], files={"b.pkt": end, "a.pkt": heartbeat}),
         Call("check, refused", ["check", "@"], files=conflict, status=2),
+        Call("check --each of a folder", ["check", "@", "--each"], files=folder, status=1),
         Call("pack --journal", pack, LINES, made=("new",)),
         Call("pack --journal over a file", pack, LINES, files={"new": b"old content"}, made=("new",)),
         Call("pack --journal, refused", pack, MESSAGES + b"4\n", made=("new",), status=2),
@@ -156,6 +157,13 @@ def calls_of_captures():
         # The datagram that is refused has another destination, so there is a line on standard error.
         Call("check of captures, refused", ["check", *both], files=files, status=2),
         Call("check of captures, at fault", ["check", "--capture", "-", *filters], cut, status=2),
+        Call("check --each of captures", ["check", *both, "--each"], files=files, status=1),
+        Call("check --journal of captures", ["check", *both, *filters, "--journal", "@new"], files=files,
+             made=("new",)),
+        Call("extract of captures", ["extract", *both, *filters, "--blocks", "--to", "@new"], files=files,
+             made=("new",)),
+        Call("extract of captures, at fault", ["extract", "--capture", "-", *filters, "--lines", "--to", "@new"], cut,
+             made=("new",), status=2),
         Call("show of captures", ["show", *both, *filters], files=files),
         Call("show of captures, at fault", ["show", "--capture", "-", "--capture", "@a"], cut, {"a": file}, status=2),
         Call("sessions", ["sessions", *both], files=files),
@@ -200,6 +208,7 @@ def all_calls():
     packets, script = (processes.content_of(os.path.join(examples, it)) for it in ("packets.hex", "two-receivers.sim"))
     pack = ["pack", "--session", "SESSION001", "--limit", "64"]
     sim = ["sim", "--session", "SESSION001", "--limit", "64", "--server-limit", "64", "--window", "4"]
+    whole = HEX + b"0000000000000001000100024142\n" + HEX + b"0000000000000002ffff\n"
     captured = HEX + b"0000000000000001000100024142\n\n" + HEX + b"0000000000000005ffff\n"
     return [
         Call("show", ["show"], packets, status=2),
@@ -213,6 +222,14 @@ def all_calls():
         Call("pack, refused", pack, MESSAGES + b"4\n", status=2),
         Call("sim", sim, script, status=2),
         Call("check of lines", ["check", "-"], captured, status=1),
+        Call("check --each of lines", ["check", "-", "--each"], captured, status=1),
+        Call("check --journal of lines", ["check", "-", "--journal", "@new"], whole, made=("new",)),
+        Call("check --journal over a file", ["check", "-", "--journal", "@new"], whole, {"new": b"old content"},
+             made=("new",)),
+        Call("extract of lines", ["extract", "-", "--lines", "--to", "@new"], captured, made=("new",)),
+        Call("extract of no lines", ["extract", "-", "--lines", "--to", "@new"], made=("new",)),
+        Call("extract of blocks with holes", ["extract", "-", "--blocks", "--to", "@new"], captured, made=("new",),
+             status=1),
         Call("check of lines, refused", ["check", "-"], b"\n" + HEX + b"\n", status=2),
         *calls_of_files(),
         *calls_of_captures(),

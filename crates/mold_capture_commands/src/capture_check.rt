@@ -3,6 +3,7 @@
 ghost use Rattle.std.specs.Prelude.{◌≡◌, ◌++◌, IfOk, IfSome, OnOk};
 ghost use Rattle.std.specs.Io.KnownBytes.{Appends};
 ghost use Rattle.mold_capture_commands.specs.Checking.{check_status, check_text, file_taken, no_captures};
+ghost use Rattle.mold_capture_commands.specs.Counts.{counts_text};
 ghost use Rattle.mold_devices.specs.Devices.{AppendsPrefix};
 ghost use Rattle.mold_devices.specs.Faults.{CountsRead, CountsSink};
 
@@ -12,7 +13,7 @@ use crate::filter::CaptureFilter;
 use crate::frame_check::{FrameCheck, read_frames};
 use crate::watch::Watch;
 use mold_check::{Counted, Judge};
-use mold_devices::{CommandFault, ReadFault, Sink, Source};
+use mold_devices::{CommandFault, ReadFault, Sink, Source, send};
 use std::alloc::Global;
 use std::marker::Model;
 
@@ -101,6 +102,21 @@ impl<J: Judge> CaptureCheck<J> {
         ensures { result ≡ self.now.at_fault }
     {
         self.at_fault
+    }
+
+    /// Writes the counts of the frames and the lines of the files at fault. After a fault, a prefix of this was written.
+    /// `Write` is returned only if the sink failed, `Memory` only if an allocation failed, and `Read` never.
+    pub fn print_counts<K: Sink>(&self, sink: &mut K) -> Result<(), CommandFault>
+        ensures whole { OnOk result (Appends (K.held sink.old) (K.held sink.new)
+            (counts_text self.now.counts ++ self.now.faults)) }
+        ensures front { AppendsPrefix (K.held sink.old) (K.held sink.new)
+            (counts_text self.now.counts ++ self.now.faults) }
+        ensures failures { CountsSink (K.failed sink.old) (K.failed sink.new) result }
+    {
+        let mut text = Vec::new(self.alloc);
+        push_counts(&mut text, self.frames.counts)?;
+        text.extend_from_slice(self.faults.as_slice())?;
+        send(sink, &mut text)
     }
 
     /// Writes the counts of the frames, the lines of the files at fault and the outcome of the datagrams, and returns

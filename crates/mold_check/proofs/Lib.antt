@@ -10,3 +10,4 @@ pub mod GroupLemmas
 pub mod EachLemmas
 pub mod SessionLemmas
 pub mod LawLemmas
+pub mod EntryLemmas

@@ -8,3 +8,4 @@ pub mod Checking
 pub mod Groups
 pub mod EachCheck
 pub mod EachLines
+pub mod EntryCheck

@@ -87,6 +87,18 @@ impl<J: Judge> LineCheck<J> {
         self.not_hex
     }
 
+    /// Writes the number of datagrams so far. After a fault, a prefix of this was written. `Write` is returned only if the
+    /// sink failed, `Memory` only if an allocation failed, and `Read` never.
+    pub fn print_counts<K: Sink>(&self, alloc: Global, sink: &mut K) -> Result<(), CommandFault>
+        ensures whole { OnOk result (Appends (K.held sink.old) (K.held sink.new) (count_line self.now.datagrams)) }
+        ensures front { AppendsPrefix (K.held sink.old) (K.held sink.new) (count_line self.now.datagrams) }
+        ensures failures { CountsSink (K.failed sink.old) (K.failed sink.new) result }
+    {
+        let mut text = Vec::new(alloc);
+        push_count(&mut text, self.datagrams)?;
+        send(sink, &mut text)
+    }
+
     /// Writes the number of datagrams and the outcome of the lines so far, and returns the exit status. After a fault,
     /// a prefix of the text was written. `Write` is returned only if the sink failed, `Memory` only if an allocation
     /// failed, and `Read` never.

@@ -22,7 +22,13 @@ use mold_devices::{CommandFault, Sink, end_with, send, send_large};
 use mold_text::{Word, push_line, push_refusal};
 use std::alloc::{AllocError, Global};
 
-fn push_counts(text: &mut Vec<u8>, files: usize, skipped: usize) -> Result<(), AllocError>
+/// Appends the line with the number of datagrams and the number of other entries. If an allocation fails, a part of the
+/// line may follow the text.
+pub(crate) fn push_counts(
+    text: &mut Vec<u8>,
+    files: usize,
+    skipped: usize,
+) -> Result<(), AllocError>
     ensures { OnOk result (text.new.items ≡ text.old.items ++ counts_line files skipped) }
 {
     push_line(

@@ -126,17 +126,31 @@ fn read_watched<C: CaptureCommand>(
     outcome
 }
 
-/// Checks the datagrams of the captures, and flushes standard output once. If a request to a server may have been taken
-/// for a packet, it refers to `mold sessions` on standard error.
-pub(crate) fn check_captures(rt: &HostRuntime, order: &CaptureOrder) -> Result<u8, CommandFault> {
-    let mut check: CaptureCheck<DatagramCheck> = CaptureCheck::new(rt.alloc());
+/// Reads the captures of the order into a check.
+pub(crate) fn read_capture_check<J: Judge>(
+    rt: &HostRuntime,
+    order: &CaptureOrder,
+) -> Result<CaptureCheck<J>, CommandFault> {
+    let mut check = CaptureCheck::new(rt.alloc());
     read_watched(rt, order, &mut check)?;
-    let mut sink = IntoWrite::new(rt.stdout());
-    let outcome = check.print(&mut sink);
-    let status = flushed(outcome, sink.into_inner().flush())?;
+    Ok(check)
+}
+
+/// Refers to `mold sessions` on standard error if a request to a server may have been taken for a packet.
+pub(crate) fn refer_to_sessions<J: Judge>(rt: &HostRuntime, check: &CaptureCheck<J>) {
     if check.sees_other_target() {
         let _ = rt.eprint(SEE_SESSIONS);
     }
+}
+
+/// Checks the datagrams of the captures, and flushes standard output once. If a request to a server may have been taken
+/// for a packet, it refers to `mold sessions` on standard error.
+pub(crate) fn check_captures(rt: &HostRuntime, order: &CaptureOrder) -> Result<u8, CommandFault> {
+    let check: CaptureCheck<DatagramCheck> = read_capture_check(rt, order)?;
+    let mut sink = IntoWrite::new(rt.stdout());
+    let outcome = check.print(&mut sink);
+    let status = flushed(outcome, sink.into_inner().flush())?;
+    refer_to_sessions(rt, &check);
     Ok(status)
 }
 

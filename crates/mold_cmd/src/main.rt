@@ -4,10 +4,13 @@
 ghost use Rattle.mold_commands.specs.Command.{IsStreamed};
 
 mod captures;
+mod checks;
+mod input_check;
 mod progress;
 mod watched_lines;
 
 use captures::{check_captures, list_sessions, show_captures};
+use checks::{check_and_save, check_each, run_extract};
 use mold_commands::{
     DumpOptions, check_folder, dump_file, run_command, run_pack_journal, run_upgrade,
 };
@@ -182,8 +185,21 @@ fn run(rt: &HostRuntime, order: &Order) -> Result<u8, ProgramFault> {
                 judging: Judging::Whole { digest: false },
             },
         ) => Ok(check_captures(rt, captures)?),
-        // STUB: other checks and `extract` read nothing yet.
-        Order::Check(_) | Order::Extract(_) => Err(ProgramFault::Command(CommandFault::Read)),
+        Order::Check(
+            CheckOrder {
+                input,
+                judging: Judging::Each { digest: false },
+            },
+        ) => Ok(check_each(rt, input)?),
+        Order::Check(
+            CheckOrder {
+                input,
+                judging: Judging::Save { journal },
+            },
+        ) => check_and_save(rt, input, journal.as_str()),
+        // STUB: a check by digests reads nothing yet.
+        Order::Check(_) => Err(ProgramFault::Command(CommandFault::Read)),
+        Order::Extract(order) => run_extract(rt, order),
         Order::ShowCaptures(order) => Ok(show_captures(rt, order)?),
         Order::Sessions(order) => Ok(list_sessions(rt, order)?),
         Order::Publish(order) => run_publish(rt, order),

@@ -4,7 +4,6 @@ use Rattle.mold_check.specs.CheckLines.{check_status, check_text}
 use Rattle.mold_show.specs.Pack.{pack_text, pack_status}
 use Rattle.mold_show.specs.Show.{show_text, show_status}
 use Rattle.mold_sim.specs.Sim.{SimState, sim_beginning, sim_status, sim_text}
-use Rattle.mold_words.specs.declared.check_order.CheckOrder.{CheckOrder}
 use Rattle.mold_words.specs.declared.input_order.InputOrder.{InputOrder}
 use Rattle.mold_words.specs.declared.input_order.InputOrder.TheVariants.{Lines}
 use Rattle.mold_words.specs.declared.judging.Judging.{Judging}

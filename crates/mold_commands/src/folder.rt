@@ -104,6 +104,23 @@ fn check_read<K: Sink>(
     }
 }
 
+/// Reads the entries of the folder. Of those that are not datagrams, only the names are read. The contract does not
+/// specify which entries the folder has: the system lists them. `watch` is called after each entry.
+///
+/// `Read` is returned if the folder or a datagram in it can't be read, or if the name of any entry is not UTF-8.
+pub fn read_folder<R: Files + AllocGlobal + Clone + Drop, W: Watch>(
+    rt: &R,
+    folder: &str,
+    watch: &mut W,
+) -> Result<Vec<Entry>, CommandFault>
+    ensures { IfErr result (λ fault. fault ≡ CommandFault.Write → ⊥) }
+{
+    match read_entries(rt, folder, watch) {
+        Ok(entries) => Ok(entries),
+        Err(error) => Err(fault_of(&error)),
+    }
+}
+
 /// Reads the folder, writes the report of `check_entries` to the sink, and returns the status of that function.
 ///
 /// `Read` is returned if the folder or a datagram in it can't be read, or if the name of any entry is not UTF-8.

@@ -1,0 +1,139 @@
+//! Runs `mold check` with `--each` and `--journal`, and `mold extract`.
+
+use crate::input_check::{InputCheck, read_check, read_entries};
+use mold_check::{DatagramCheck, EachCheck};
+use mold_devices::{CommandFault, DeviceFault, IntoWrite, Sink, send};
+use mold_extract::{Extracted, NumberRange, extract_blocks, extract_lines, save_journal};
+use mold_sockets::{open_replaced, unless_locked};
+use mold_text::{Word, push_line};
+use mold_wiring::{ProgramFault, flushed};
+use mold_words::{ExtractForm, ExtractOrder, InputOrder};
+use std::alloc::Global;
+use std::io::Write;
+
+/// Checks each session of the input by itself, and flushes standard output once.
+pub(crate) fn check_each(rt: &HostRuntime, input: &InputOrder) -> Result<u8, CommandFault> {
+    let entries = read_entries(rt, input)?;
+    let check: InputCheck<'_, EachCheck<DatagramCheck>> = read_check(
+        rt,
+        input,
+        entries.as_slice(),
+    )?;
+    let mut sink = IntoWrite::new(rt.stdout());
+    let outcome = check.print(rt.alloc(), &mut sink);
+    flushed(outcome, sink.into_inner().flush())
+}
+
+// Returns the outcome of writing to a file.
+fn written<T>(outcome: Result<T, DeviceFault>) -> Result<T, CommandFault> {
+    match outcome {
+        Ok(value) => Ok(value),
+        Err(_) => Err(CommandFault::Write),
+    }
+}
+
+// Writes a line of a word and a number of messages.
+fn print_messages<K: Sink>(
+    alloc: Global,
+    word: &[u8],
+    messages: u64,
+    sink: &mut K,
+) -> Result<(), CommandFault> {
+    let mut text = Vec::new(alloc);
+    push_line(&mut text, &[Word::Text(word), Word::Number(messages)])?;
+    send(sink, &mut text)
+}
+
+// Writes the journal of the session to the file, if the session is whole and no capture is at fault. Then writes the
+// report, and the number of messages if they were saved.
+fn save<J: Sink, K: Sink>(
+    alloc: Global,
+    check: &InputCheck<'_, DatagramCheck>,
+    file: &mut J,
+    sink: &mut K,
+) -> Result<u8, CommandFault> {
+    let saved = match check.accepted() {
+        Some(checker) if !check.is_at_fault() => written(save_journal(checker, file))?,
+        _ => Extracted::Holes,
+    };
+    let status = check.print(alloc, sink)?;
+    if let Extracted::All { messages } = saved {
+        print_messages(alloc, b"saved", messages, sink)?;
+    }
+    Ok(status)
+}
+
+/// Checks the input. If its session is whole and no capture is at fault, saves it as a journal, whose file is created at
+/// its first write. Flushes standard output once.
+pub(crate) fn check_and_save(
+    rt: &HostRuntime,
+    input: &InputOrder,
+    journal: &str,
+) -> Result<u8, ProgramFault> {
+    let mut file = open_replaced(rt, journal)?;
+    let entries = read_entries(rt, input)?;
+    let check = read_check(rt, input, entries.as_slice())?;
+    let mut sink = IntoWrite::new(rt.stdout());
+    let outcome = save(rt.alloc(), &check, &mut file, &mut sink);
+    let status = unless_locked(flushed(outcome, sink.into_inner().flush()), file)?;
+    check.refer_to_sessions(rt);
+    Ok(status)
+}
+
+// Writes the messages in the range to the file. If there are none, the file is empty.
+fn write_messages<J: Sink>(
+    alloc: Global,
+    check: &InputCheck<'_, DatagramCheck>,
+    order: &ExtractOrder,
+    file: &mut J,
+) -> Result<Extracted, CommandFault> {
+    let Some(checker) = check.accepted() else {
+        return Ok(Extracted::Holes);
+    };
+    let range = NumberRange {
+        from: order.from,
+        count: order.count,
+    };
+    let extracted = match order.form {
+        ExtractForm::Lines => Extracted::All {
+            messages: extract_lines(alloc, checker, range, file)?,
+        },
+        ExtractForm::Blocks => written(extract_blocks(checker, range, file))?,
+    };
+    if let Extracted::All { messages: 0 } = extracted {
+        written(file.write(b""))?;
+    }
+    Ok(extracted)
+}
+
+// Writes the messages to the file, and then what was written. If a datagram is refused or a message of the blocks is
+// missing, writes the report of the check only.
+fn extract<J: Sink, K: Sink>(
+    alloc: Global,
+    check: &InputCheck<'_, DatagramCheck>,
+    order: &ExtractOrder,
+    file: &mut J,
+    sink: &mut K,
+) -> Result<u8, CommandFault> {
+    let Extracted::All { messages } = write_messages(alloc, check, order, file)? else {
+        return check.print(alloc, sink);
+    };
+    check.print_counts(alloc, sink)?;
+    print_messages(alloc, b"extracted", messages, sink)?;
+    if check.is_at_fault() {
+        return Ok(2);
+    }
+    Ok(0)
+}
+
+/// Extracts messages of the input to a file, which is created at its first write. Flushes standard output once.
+pub(crate) fn run_extract(rt: &HostRuntime, order: &ExtractOrder) -> Result<u8, ProgramFault> {
+    let mut file = open_replaced(rt, order.to.as_str())?;
+    let entries = read_entries(rt, &order.input)?;
+    let check = read_check(rt, &order.input, entries.as_slice())?;
+    let mut sink = IntoWrite::new(rt.stdout());
+    let outcome = extract(rt.alloc(), &check, order, &mut file, &mut sink);
+    let status = unless_locked(flushed(outcome, sink.into_inner().flush()), file)?;
+    check.refer_to_sessions(rt);
+    Ok(status)
+}
