@@ -67,7 +67,7 @@ told word number seen None list =
 abbrev told_after : List ℕ → ℕ → Judgement → List (List ℕ) → List ℕ × ℕ
 told_after word number j list = told word number j.seen j.refused list
 
-told_end : (word : List ℕ) (number : ℕ) (seen : Seen) (end : Option ℕ) →
+pub told_end : (word : List ℕ) (number : ℕ) (seen : Seen) (end : Option ℕ) →
     ◌≡◌ {A = List ℕ × ℕ} (outcome_text [] (outcome_at seen end), outcome_status (outcome_at seen end))
     (numbered_text word number (outcome_at seen end), outcome_status (outcome_at seen end))
 told_end word number seen None = refl
@@ -97,11 +97,11 @@ told_nothing word number seen None = told_end word number seen seen.ended
 next_number : (number index most : ℕ) → min (min (number + 1) most + index) most ≡ min (number + suc index) most
 next_number number index most = omega arith
 
-this_number : (number most : ℕ) → number ≤ most → number ≡ min (number + 0) most
+pub this_number : (number most : ℕ) → number ≤ most → number ≡ min (number + 0) most
 this_number number most small = omega arith
 
 -- An accepted datagram before the others raises the index of the refused one.
-told_raised : (word : List ℕ) (number : ℕ) (outcome : Outcome) →
+pub told_raised : (word : List ℕ) (number : ℕ) (outcome : Outcome) →
     ◌≡◌ {A = List ℕ × ℕ} (numbered_text word (one_more number) outcome, outcome_status outcome)
     (numbered_text word number (index_raised outcome), outcome_status (index_raised outcome))
 told_raised word number (whole messages) = refl
@@ -131,7 +131,7 @@ told_datagram word number seen (Some datagram) bytes list small = refl
 told_datagram word number seen None bytes list small =
     told_judged word number seen bytes list (refusal seen bytes) small
 
-next_small : (number : ℕ) → one_more number ≤ 2 ^ 64 - 1
+pub next_small : (number : ℕ) → one_more number ≤ 2 ^ 64 - 1
 next_small number = omega arith
 
 told_all : (word : List ℕ) (number : ℕ) (j : Judgement) (list : List (List ℕ)) → number ≤ 2 ^ 64 - 1 →

@@ -11,3 +11,4 @@ pub mod EachLemmas
 pub mod SessionLemmas
 pub mod LawLemmas
 pub mod EntryLemmas
+pub mod DigestLemmas

@@ -16,9 +16,13 @@ pub record Checking (S : Type 0) : Type 0 where
   pub judge : S
   pub not_hex : Option ℕ
 
--- The state before the first line.
+-- The state before the first line, over a judge in this state.
+abbrev pub beginning_over : {S : Type 0} → S → Checking S
+beginning_over judge = record { next = 1; datagrams = 0; judge = judge; not_hex = None }
+
+-- The state before the first line, over a new judge.
 abbrev pub beginning : {S : Type 0} → Judging S → Checking S
-beginning judging = record { next = 1; datagrams = 0; judge = judging.begins; not_hex = None }
+beginning judging = beginning_over judging.begins
 
 -- The judge after the next line, given its decoded bytes, and the number of the line if it is not hexadecimal.
 abbrev pub judged_digits : {S : Type 0} → Judging S → S → ℕ → Result (List ℕ) FromHexError → S × Option ℕ

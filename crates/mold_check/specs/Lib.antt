@@ -9,3 +9,5 @@ pub mod Groups
 pub mod EachCheck
 pub mod EachLines
 pub mod EntryCheck
+pub mod DigestCheck
+pub mod Digested

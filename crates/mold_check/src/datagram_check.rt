@@ -7,6 +7,7 @@ ghost use Rattle.mold_check.specs.Report.{Keeps};
 ghost use Rattle.mold_devices.specs.Devices.{AppendsPrefix};
 ghost use Rattle.mold_devices.specs.Faults.{CountsSink};
 
+use crate::fresh_judge::FreshJudge;
 use crate::judge::Judge;
 use crate::naming::Naming;
 use crate::refused_datagram::RefusedDatagram;
@@ -52,17 +53,19 @@ impl DatagramCheck {
     }
 }
 
-impl Judge for DatagramCheck {
-    ghost use Rattle.mold_check.specs.Judgement.{datagram_judging};
-
-    ghost judging = { datagram_judging };
-
+impl FreshJudge for DatagramCheck {
     fn new(alloc: Global) -> DatagramCheck {
         DatagramCheck {
             checker: Checker::new(alloc),
             refused: None,
         }
     }
+}
+
+impl Judge for DatagramCheck {
+    ghost use Rattle.mold_check.specs.Judgement.{datagram_judging};
+
+    ghost judging = { datagram_judging };
 
     // After a refusal it does nothing.
     fn add(&mut self, number: u64, bytes: &[u8]) -> Result<(), AllocError> {
@@ -109,9 +112,9 @@ impl Judge for DatagramCheck {
     }
 }
 
-// Writes the text and the reason why the datagram is refused, and returns the exit status. If an allocation fails,
-// writes the text.
-fn print_refused<K: Sink, N: Naming>(
+/// Writes the text and the reason why the datagram is refused, and returns the exit status. If an allocation fails,
+/// writes the text.
+pub(crate) fn print_refused<K: Sink, N: Naming>(
     sink: &mut K,
     text: &mut Vec<u8>,
     naming: &N,

@@ -1,5 +1,6 @@
 //! Checks several sessions, each by itself.
 
+use crate::fresh_judge::FreshJudge;
 use crate::judge::Judge;
 use crate::naming::Naming;
 use crate::session_key::session_key;
@@ -29,17 +30,19 @@ impl<J> Model for EachCheck<J> {
     ghost view = { λ c. record { entries = c.table; refused = c.refused } };
 }
 
-impl<J: Judge> Judge for EachCheck<J> {
-    ghost use Rattle.mold_check.specs.EachCheck.{each_judging};
-
-    ghost judging = { each_judging J.judging };
-
+impl<J: FreshJudge> FreshJudge for EachCheck<J> {
     fn new(alloc: Global) -> EachCheck<J> {
         EachCheck {
             table: SessionTable::new(alloc),
             refused: 0,
         }
     }
+}
+
+impl<J: FreshJudge> Judge for EachCheck<J> {
+    ghost use Rattle.mold_check.specs.EachCheck.{each_judging};
+
+    ghost judging = { each_judging J.judging };
 
     fn add(&mut self, number: u64, bytes: &[u8]) -> Result<(), AllocError> {
         let key = session_key(bytes);

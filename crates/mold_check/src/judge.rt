@@ -9,16 +9,12 @@ ghost use Rattle.mold_devices.specs.Writing.{Moves};
 
 use crate::naming::Naming;
 use mold_devices::{CommandFault, Sink};
-use std::alloc::{AllocError, Global};
+use std::alloc::AllocError;
 
 /// Judges the datagrams of an input one by one, and prints the outcome after the last one.
 pub trait Judge: Drop {
     // What it finds and prints.
     ghost judging: { Judging Self };
-
-    /// Returns a judge of no datagram. This allocates nothing.
-    fn new(alloc: Global) -> Self
-        ensures { result ≡ judging.begins };
 
     /// Adds the next datagram, which has this number in the report. It returns an error if an allocation fails.
     fn add(&mut self, number: u64, bytes: &[u8]) -> Result<(), AllocError>

@@ -4,11 +4,13 @@ ghost use Rattle.std.specs.Prelude.{◌≡◌, ◌++◌, None, length, take, IfE
 ghost use Rattle.std.specs.Io.KnownBytes.{Appends};
 ghost use Rattle.hex.specs.Hex.{decode_of};
 ghost use Rattle.mold_check.specs.CheckLines.{count_line};
-ghost use Rattle.mold_check.specs.Checking.{beginning, checking_status, checking_text, judged_digits, not_hex_text, taken};
+ghost use Rattle.mold_check.specs.Checking.{beginning, beginning_over, checking_status, checking_text};
+ghost use Rattle.mold_check.specs.Checking.{judged_digits, not_hex_text, taken};
 ghost use Rattle.mold_check.specs.Report.{Keeps};
 ghost use Rattle.mold_devices.specs.Devices.{AppendsPrefix};
 ghost use Rattle.mold_devices.specs.Faults.{CountsSink};
 
+use crate::fresh_judge::FreshJudge;
 use crate::judge::Judge;
 use crate::naming::Counted;
 use mold_devices::{CommandFault, Sink, end_with, send};
@@ -42,13 +44,22 @@ impl<J> Model for LineCheck<J> {
     } };
 }
 
-impl<J: Judge> LineCheck<J> {
-    /// Returns a check that has taken no line. This allocates nothing.
+impl<J: FreshJudge> LineCheck<J> {
+    /// Returns a check that has taken no line, with a new judge. This allocates nothing.
     pub fn new(alloc: Global) -> LineCheck<J>
         ensures { result ≡ beginning J.judging }
     {
+        LineCheck::over(alloc, J::new(alloc))
+    }
+}
+
+impl<J: Judge> LineCheck<J> {
+    /// Returns a check that has taken no line and adds its datagrams to this judge. This allocates nothing.
+    pub fn over(alloc: Global, judge: J) -> LineCheck<J>
+        ensures { result ≡ beginning_over judge }
+    {
         LineCheck {
-            judge: J::new(alloc),
+            judge,
             bytes: Vec::new(alloc),
             next: 1,
             datagrams: 0,

@@ -3,21 +3,42 @@
 ghost use Rattle.std.specs.Prelude.{◌≡◌, IfOk, IfSome};
 ghost use Rattle.std.specs.Io.KnownBytes.{Appends};
 ghost use Rattle.mold_check.specs.CheckLines.{check_status, check_text};
-ghost use Rattle.mold_check.specs.Checking.{all_taken, beginning};
+ghost use Rattle.mold_check.specs.Checking.{all_taken, beginning, beginning_over};
 ghost use Rattle.mold_devices.specs.Devices.{AppendsPrefix};
 ghost use Rattle.mold_devices.specs.Faults.{CountsCommand, CountsRead};
 ghost use Rattle.mold_devices.specs.Lines.{lines_of};
 
 use crate::datagram_check::DatagramCheck;
+use crate::fresh_judge::FreshJudge;
 use crate::judge::Judge;
 use crate::line_check::LineCheck;
 use mold_devices::{CommandFault, Lines, ReadFault, Sink, Source};
 use std::alloc::Global;
 
-/// Reads all lines of the source into a check, which can then be printed.
+/// Reads all lines of the source into a check with this judge. The check can then be printed.
 ///
 /// `Read` is returned only if the source failed, `Memory` only if an allocation failed.
-pub fn read_lines<J: Judge, S: Source>(
+pub fn read_lines_over<J: Judge, S: Source>(
+    alloc: Global,
+    source: &mut S,
+    judge: J,
+) -> Result<LineCheck<J>, ReadFault>
+    ensures taken { IfOk result (λ check. IfSome (S.left source.old) (λ input.
+        check ≡ all_taken J.judging (beginning_over judge) (lines_of input))) }
+    ensures failures { CountsRead (S.failed source.old) (S.failed source.new) result }
+{
+    let mut lines = Lines::new(alloc)?;
+    let mut check = LineCheck::over(alloc, judge);
+    'lines: loop {
+        if !lines.advance(source)? {
+            return Ok(check);
+        }
+        check.take(lines.line())?;
+    }
+}
+
+/// Reads all lines of the source into a check with a new judge, as `read_lines_over` does.
+pub fn read_lines<J: FreshJudge, S: Source>(
     alloc: Global,
     source: &mut S,
 ) -> Result<LineCheck<J>, ReadFault>
@@ -25,14 +46,7 @@ pub fn read_lines<J: Judge, S: Source>(
         check ≡ all_taken J.judging (beginning J.judging) (lines_of input))) }
     ensures failures { CountsRead (S.failed source.old) (S.failed source.new) result }
 {
-    let mut lines = Lines::new(alloc)?;
-    let mut check = LineCheck::new(alloc);
-    'lines: loop {
-        if !lines.advance(source)? {
-            return Ok(check);
-        }
-        check.take(lines.line())?;
-    }
+    read_lines_over(alloc, source, J::new(alloc))
 }
 
 /// Checks the datagrams that the lines of the source encode as hexadecimal digits, in their order. It writes the

@@ -10,6 +10,7 @@ ghost use Rattle.mold_devices.specs.Devices.{AppendsPrefix};
 ghost use Rattle.mold_devices.specs.Faults.{CountsSink};
 ghost use Rattle.mold_devices.specs.Writing.{Moves};
 
+use crate::fresh_judge::FreshJudge;
 use crate::judge::Judge;
 use crate::naming::Naming;
 use crate::session_key::SessionKey;
@@ -39,7 +40,7 @@ impl<J> Model for SessionTable<J> {
     ghost view = { λ c. c.map.entries };
 }
 
-impl<J: Judge> SessionTable<J> {
+impl<J: FreshJudge> SessionTable<J> {
     /// Returns a table of no session. This allocates nothing.
     pub(crate) fn new(alloc: Global) -> SessionTable<J>
         ensures { result ≡ [] }

@@ -1,10 +1,10 @@
 use Rattle.std.proofs.Common.{refl, ◌∙◌}
 use Rattle.mold_check.proofs.LineLemmas.{taken_none, taken_more, taken_all}
-use Rattle.mold_check.proofs.lines.read_lines.Goals as goal
+use Rattle.mold_check.proofs.lines.read_lines_over.Goals as goal
 
 pub lines-init : goal.lines-init
 lines-init g c = record {
-  taken = taken_none g.J.Judge.judging _ _ _ _ c.in_ok-lines.ensures c.new-check.ensures;
+  taken = taken_none g.J.Judge.judging _ _ _ _ c.in_ok-lines.ensures c.over-check.ensures;
   failed = refl;
 }
 
