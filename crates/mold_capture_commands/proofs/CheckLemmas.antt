@@ -137,9 +137,9 @@ counts_folded judging s [] = refl
 counts_folded judging s (first ∷ list) = counts_folded judging (taken judging s first) list
 
 counts_are : {S : Type 0} (judging : Judging S) (list : List Found) →
-    (all_taken judging (beginning judging) list).counts ≡ counts_of list
+    (all_taken judging (beginning judging.begins) list).counts ≡ counts_of list
 counts_are judging list =
-    counts_folded judging (beginning judging) list
+    counts_folded judging (beginning judging.begins) list
     ∙ ap (λ (n : ℕ). record { datagrams = n; skipped = folded is_skipped 0 list; partial = folded is_partial 0 list; unread = folded is_unread 0 list })
     (folded_all is_passed list)
     ∙ ap (λ (n : ℕ). record { datagrams = number_of is_passed list; skipped = n; partial = folded is_partial 0 list; unread = folded is_unread 0 list })
@@ -239,14 +239,14 @@ judgement_all : (filter : CaptureFilter) (files : List CaptureFile) →
     (after_files datagram_judging filter files).judge ≡ all_added no_judgement 1 (payloads (founds_of filter files))
 judgement_all filter files =
     ap (λ (f : FrameCheck Judgement). f.judge) (frames_are datagram_judging filter (no_captures datagram_judging) files)
-    ∙ judgement_is (beginning datagram_judging) (founds_of filter files)
+    ∙ judgement_is (beginning datagram_judging.begins) (founds_of filter files)
 
 judge_all : {S : Type 0} (judging : Judging S) (filter : CaptureFilter) (files : List CaptureFile) →
     (after_files judging filter files).judge
     ≡ all_judged judging judging.begins (with_numbers 1 (payloads (founds_of filter files)))
 judge_all {S} judging filter files =
     ap (λ (f : FrameCheck S). f.judge) (frames_are judging filter (no_captures judging) files)
-    ∙ judge_is judging (beginning judging) (founds_of filter files)
+    ∙ judge_is judging (beginning judging.begins) (founds_of filter files)
 
 -- The text, given what the judge prints.
 text_with : {S : Type 0} (judging : Judging S) (filter : CaptureFilter) (files : List CaptureFile) (text : List ℕ) →

@@ -115,7 +115,7 @@ pub other_target_is : (filter : CaptureFilter) (files : List CaptureFile) →
     ≡ captures_refuse_other filter files
 other_target_is filter files =
     ap (λ (f : FrameCheck Judgement). f.targets.other) (frames_are datagram_judging filter (no_captures datagram_judging) files)
-    ∙ other_is (beginning datagram_judging).counts (seen_of []) None (founds_of filter files)
+    ∙ other_is (beginning datagram_judging.begins).counts (seen_of []) None (founds_of filter files)
 
 -- ---- each session by itself
 
@@ -138,4 +138,4 @@ pub each_other_is : (filter : CaptureFilter) (files : List CaptureFile) →
 each_other_is filter files =
     let judging = each_judging datagram_judging in
     ap (λ (f : FrameCheck State). f.targets.other) (frames_are judging filter (no_captures judging) files)
-    ∙ none_other (beginning judging) (founds_of filter files)
+    ∙ none_other (beginning judging.begins) (founds_of filter files)

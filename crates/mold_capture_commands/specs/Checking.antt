@@ -13,9 +13,9 @@ use Rattle.mold_capture_commands.specs.declared.counts.CaptureCounts.{CaptureCou
 use Rattle.mold_capture_commands.specs.declared.filter.CaptureFilter.{CaptureFilter}
 use Rattle.mold_capture_commands.specs.declared.frame_check.FrameCheck.{FrameCheck}
 
--- Before the first frame.
-abbrev pub beginning : {S : Type 0} → Judging S → FrameCheck S
-beginning judging = record { counts = no_counts; judge = judging.begins; targets = no_targets }
+-- Before the first frame, over a judge in this state.
+abbrev pub beginning : {S : Type 0} → S → FrameCheck S
+beginning judge = record { counts = no_counts; judge = judge; targets = no_targets }
 
 -- The judge after one more frame. A datagram that passes has the number of such datagrams so far.
 abbrev pub judged : {S : Type 0} → Judging S → S → ℕ → Found → S
@@ -58,15 +58,19 @@ pub record CheckState (S : Type 0) : Type 0 where
   pub faults : List ℕ
   pub at_fault : Bool
 
--- Before the first file.
-abbrev pub no_captures : {S : Type 0} → Judging S → CheckState S
-no_captures judging = record {
+-- Before the first file, over a judge in this state.
+abbrev pub no_captures_over : {S : Type 0} → S → CheckState S
+no_captures_over judge = record {
   counts = no_counts;
-  judge = judging.begins;
+  judge = judge;
   targets = no_targets;
   faults = [];
   at_fault = false;
 }
+
+-- Before the first file, over a new judge.
+abbrev pub no_captures : {S : Type 0} → Judging S → CheckState S
+no_captures judging = no_captures_over judging.begins
 
 -- The state of the frames.
 abbrev pub frames_of : {S : Type 0} → CheckState S → FrameCheck S

@@ -1,6 +1,6 @@
 -- The destinations and sessions of datagrams, and what is counted for each pair of them.
 use Rattle.std.specs.Prelude.{ℕ, ◌+◌, ◌==◌, ◌&&◌, min, max, Bool, true, false, not, List, [], ◌∷◌, map, length}
-use Rattle.std.specs.Prelude.{Option, None, Some, Result, Ok, Err, if◌then◌else◌}
+use Rattle.std.specs.Prelude.{Option, None, Some, Result, Ok, Err}
 use Rattle.std.specs.List.{filter, flat_map}
 use Rattle.std.specs.Str.{bytes_eq}
 use Rattle.mold_frame.specs.Carried.{Datagram}

@@ -2,7 +2,8 @@
 
 ghost use Rattle.std.specs.Prelude.{◌≡◌, ◌++◌, IfOk, IfSome, OnOk};
 ghost use Rattle.std.specs.Io.KnownBytes.{Appends};
-ghost use Rattle.mold_capture_commands.specs.Checking.{check_status, check_text, file_taken, no_captures};
+ghost use Rattle.mold_capture_commands.specs.Checking.{check_status, check_text, file_taken};
+ghost use Rattle.mold_capture_commands.specs.Checking.{no_captures, no_captures_over};
 ghost use Rattle.mold_capture_commands.specs.Counts.{counts_text};
 ghost use Rattle.mold_devices.specs.Devices.{AppendsPrefix};
 ghost use Rattle.mold_devices.specs.Faults.{CountsRead, CountsSink};
@@ -12,13 +13,13 @@ use crate::faults::push_fault;
 use crate::filter::CaptureFilter;
 use crate::frame_check::{FrameCheck, read_frames};
 use crate::watch::Watch;
-use mold_check::{Counted, Judge};
+use mold_check::{Counted, FreshJudge, Judge};
 use mold_devices::{CommandFault, ReadFault, Sink, Source, send};
 use std::alloc::Global;
 use std::marker::Model;
 
 /// The command `check --capture`: a check of the datagrams of captures, which are read one after the other. A judge finds
-/// the outcome: `DatagramCheck` for one session, `EachCheck` for each session by itself.
+/// the outcome: `DatagramCheck` for one session, `EachCheck` for each session by itself, and `Digested` by digest.
 ///
 /// It keeps the messages that the judge stores, the lines of the files at fault and the destination of the first
 /// accepted datagram.
@@ -45,13 +46,22 @@ impl<J> Model for CaptureCheck<J> {
     } };
 }
 
-impl<J: Judge> CaptureCheck<J> {
-    /// Returns a check of no capture. This allocates nothing.
+impl<J: FreshJudge> CaptureCheck<J> {
+    /// Returns a check of no capture, with a new judge. This allocates nothing.
     pub fn new(alloc: Global) -> CaptureCheck<J>
         ensures { result ≡ no_captures J.judging }
     {
+        CaptureCheck::over(alloc, J::new(alloc))
+    }
+}
+
+impl<J: Judge> CaptureCheck<J> {
+    /// Returns a check of no capture that adds its datagrams to this judge. This allocates nothing.
+    pub fn over(alloc: Global, judge: J) -> CaptureCheck<J>
+        ensures { result ≡ no_captures_over judge }
+    {
         CaptureCheck {
-            frames: FrameCheck::new(alloc),
+            frames: FrameCheck::over(alloc, judge),
             faults: Vec::new(alloc),
             at_fault: false,
             alloc,

@@ -28,13 +28,13 @@ pub(crate) struct FrameCheck<J> {
 }
 
 impl<J: Judge> FrameCheck<J> {
-    /// Returns a check of no frame. This allocates nothing.
-    pub(crate) fn new(alloc: Global) -> FrameCheck<J>
-        ensures { result ≡ beginning J.judging }
+    /// Returns a check of no frame that adds its datagrams to this judge. This allocates nothing.
+    pub(crate) fn over(alloc: Global, judge: J) -> FrameCheck<J>
+        ensures { result ≡ beginning judge }
     {
         FrameCheck {
             counts: CaptureCounts::new(),
-            judge: J::new(alloc),
+            judge,
             targets: Targets::new(alloc),
         }
     }

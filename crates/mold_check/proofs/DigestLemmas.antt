@@ -1,7 +1,7 @@
 -- A check of digested datagrams.
-use Rattle.std.proofs.Common.{◌≡◌, ℕ, ◌≤◌, List, [], ◌∷◌, refl, sym, ap, ◌∙◌, arith}
-use Rattle.std.specs.Prelude.{Option, None, Some, codes, decimal, ◌^◌, ◌-◌}
-use Rattle.mold_capture.specs.Outcome.{Outcome, whole, incomplete, refused, outcome_in}
+use Rattle.std.proofs.Common.{◌≡◌, ℕ, ◌≤◌, List, [], ◌∷◌, refl, sym, ap, ◌∙◌, arith, inl, inr}
+use Rattle.std.specs.Prelude.{◌⊎◌, Option, None, Some, codes, decimal, ◌^◌, ◌-◌}
+use Rattle.mold_capture.specs.Outcome.{IsOutcome, Outcome, whole, incomplete, refused, outcome_in}
 use Rattle.mold_capture.specs.Refusal.{refusal}
 use Rattle.mold_capture.specs.Seen.{Seen, after}
 use Rattle.mold_capture.specs.Verdict.{IsVerdict}
@@ -9,6 +9,7 @@ use Rattle.mold_capture.specs.declared.verdict.Verdict.{Verdict}
 use Rattle.mold_devices.specs.Devices.{one_more}
 use Rattle.mold_digest.specs.Digested.{digested, digested_list}
 use Rattle.mold_rule.specs.declared.refusal.Refusal.{Refusal}
+use Rattle.mold_rule.specs.declared.refusal.Refusal.TheVariants.{Conflict}
 use Rattle.mold_text.specs.Line.{line_of}
 use Rattle.mold_text.specs.Text.{refusal_words}
 use Rattle.mold_check.specs.CheckLines.{index_raised, outcome_at, outcome_from, outcome_of, outcome_or}
@@ -138,3 +139,13 @@ pub digested_status : (key : List ℕ) (list : List (List ℕ)) →
     (all_judged (digested_judging digest_judging) (digested_beginning key digest_judging) (with_numbers 1 list))
     ≡ outcome_status (outcome_of (digested_list key list))
 digested_status key list = ap judgement_status (judgement_all key list) ∙ all_status (digested_list key list)
+
+-- ---- the outcome of the datagrams
+
+pub outcome_or_conflict : {list : List (List ℕ)} (one other : Outcome) →
+    ((one other : Outcome) → IsOutcome list one → IsOutcome list other → one ≡ other) → IsOutcome list other →
+    (IsOutcome list one ⊎ ((index number : ℕ) × IsOutcome list (refused index (Conflict number)))) →
+    (one ≡ other) ⊎ ((index number : ℕ) × (other ≡ refused index (Conflict number)))
+outcome_or_conflict one other unique own (inl is) = inl (unique one other is own)
+outcome_or_conflict one other unique own (inr is) =
+    inr (is.0, is.1, unique other (refused is.0 (Conflict is.1)) own is.2)

@@ -1,4 +1,4 @@
--- What a check of digested datagrams prints. It is what a check of datagrams prints, but for the line of a whole session.
+-- What a check of digested datagrams prints. Only the line of a whole session differs from a check of datagrams.
 use Rattle.std.specs.Prelude.{ℕ, List, [], ◌∷◌, codes, decimal, Option, None, Some, is_some}
 use Rattle.mold_capture.specs.Outcome.{Outcome, whole, incomplete, refused}
 use Rattle.mold_capture.specs.Seen.{Seen}

@@ -3,6 +3,8 @@
 #![tactic(auto)]
 
 #[cfg(test)]
+mod by_digest;
+#[cfg(test)]
 mod captures;
 #[cfg(test)]
 mod cases;
