@@ -222,6 +222,7 @@ def all_calls():
         Call("pack, refused", pack, MESSAGES + b"4\n", status=2),
         Call("sim", sim, script, status=2),
         Call("check of lines", ["check", "-"], captured, status=1),
+        Call("check --digest of lines", ["check", "-", "--digest"], captured, status=1),
         Call("check --each of lines", ["check", "-", "--each"], captured, status=1),
         Call("check --journal of lines", ["check", "-", "--journal", "@new"], whole, made=("new",)),
         Call("check --journal over a file", ["check", "-", "--journal", "@new"], whole, {"new": b"old content"},

@@ -19,15 +19,16 @@ abbrev pub lent_bytes : List (Bor Entry) → List (List ℕ)
 lent_bytes order = map (λ entry. bytes_of entry.now) order
 
 -- The judge after the datagrams in this order. The number of each is its index.
-abbrev pub all_indexed : {S : Type 0} → Judging S → List (List ℕ) → S
-all_indexed judging list = all_judged judging judging.begins (with_numbers 0 list)
+abbrev pub all_indexed : {S : Type 0} → Judging S → S → List (List ℕ) → S
+all_indexed judging start list = all_judged judging start (with_numbers 0 list)
 
--- The check of these entries: its datagrams are in ascending order of their names, and all are judged.
-pub record ChecksEntries {S : Type 0} (judging : Judging S) (entries : List Entry) (check : EntryChecking S) :
+-- The check of these entries: its datagrams are in ascending order of their names, and all are added to the judge, which
+-- was `start`.
+pub record ChecksEntries {S : Type 0} (judging : Judging S) (start : S) (entries : List Entry) (check : EntryChecking S) :
     Type 0 where
   pub ordered : IsOrder entries (map (λ entry. entry.now) check.order)
   pub skipped : check.skipped ≡ length entries - length check.order
-  pub judged : check.judge ≡ all_indexed judging (lent_bytes check.order)
+  pub judged : check.judge ≡ all_indexed judging start (lent_bytes check.order)
 
 -- The first line of the report.
 abbrev pub entry_counts : {S : Type 0} → EntryChecking S → List ℕ

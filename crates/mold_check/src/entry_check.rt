@@ -33,12 +33,16 @@ impl<'a, J> Model for EntryCheck<'a, J> {
 }
 
 impl<'a, J: Judge> EntryCheck<'a, J> {
-    /// Judges the datagrams among the entries. It returns an error if an allocation fails.
-    pub fn read(alloc: Global, entries: &'a [Entry]) -> Result<EntryCheck<'a, J>, AllocError>
-        ensures { IfOk result (ChecksEntries J.judging entries.now) }
+    /// Adds the datagrams among the entries to this judge. It returns an error if an allocation fails.
+    pub fn over(
+        alloc: Global,
+        entries: &'a [Entry],
+        judge: J,
+    ) -> Result<EntryCheck<'a, J>, AllocError>
+        ensures { IfOk result (ChecksEntries J.judging judge entries.now) }
     {
         let order = sorted_datagrams(alloc, entries)?;
-        let judge = judge_all(alloc, order.as_slice())?;
+        let judge = judge_all(order.as_slice(), judge)?;
         let skipped = entries.len() - order.len();
         Ok(EntryCheck {
             order,
@@ -84,11 +88,11 @@ impl<'a, J: Judge> EntryCheck<'a, J> {
     }
 }
 
-// Judges datagrams in this order. The number of each is its index.
-fn judge_all<J: Judge>(alloc: Global, order: &[&Entry]) -> Result<J, AllocError>
-    ensures { IfOk result (λ judge. judge ≡ all_indexed J.judging (lent_bytes order.now)) }
+// Adds datagrams in this order to the judge. The number of each is its index.
+fn judge_all<J: Judge>(order: &[&Entry], judge: J) -> Result<J, AllocError>
+    ensures { IfOk result (λ all. all ≡ all_indexed J.judging judge (lent_bytes order.now)) }
 {
-    let mut judge = J::new(alloc);
+    let mut judge = judge;
     let mut number: u64 = 0;
     for entry in order {
         judge.add(number, entry.bytes.as_slice())?;

@@ -2,7 +2,7 @@
 
 use crate::progress::Progress;
 use mold_capture_commands::{CaptureCheck, CaptureFilter, CaptureShow, Sessions};
-use mold_check::{DatagramCheck, Judge};
+use mold_check::{DatagramCheck, FreshJudge, Judge};
 use mold_devices::{CommandFault, FromRead, IntoWrite, Source};
 use mold_wire::Session;
 use mold_wiring::flushed;
@@ -126,12 +126,13 @@ fn read_watched<C: CaptureCommand>(
     outcome
 }
 
-/// Reads the captures of the order into a check.
+/// Reads the captures of the order, and adds their datagrams to the judge.
 pub(crate) fn read_capture_check<J: Judge>(
     rt: &HostRuntime,
     order: &CaptureOrder,
+    judge: J,
 ) -> Result<CaptureCheck<J>, CommandFault> {
-    let mut check = CaptureCheck::new(rt.alloc());
+    let mut check = CaptureCheck::over(rt.alloc(), judge);
     read_watched(rt, order, &mut check)?;
     Ok(check)
 }
@@ -146,7 +147,7 @@ pub(crate) fn refer_to_sessions<J: Judge>(rt: &HostRuntime, check: &CaptureCheck
 /// Checks the datagrams of the captures, and flushes standard output once. If a request to a server may have been taken
 /// for a packet, it refers to `mold sessions` on standard error.
 pub(crate) fn check_captures(rt: &HostRuntime, order: &CaptureOrder) -> Result<u8, CommandFault> {
-    let check: CaptureCheck<DatagramCheck> = read_capture_check(rt, order)?;
+    let check = read_capture_check(rt, order, DatagramCheck::new(rt.alloc()))?;
     let mut sink = IntoWrite::new(rt.stdout());
     let outcome = check.print(&mut sink);
     let status = flushed(outcome, sink.into_inner().flush())?;

@@ -1,8 +1,9 @@
-//! Runs `mold check` with `--each` and `--journal`, and `mold extract`.
+//! Runs `mold check` with `--each`, `--digest` and `--journal`, and `mold extract`.
 
 use crate::input_check::{InputCheck, read_check, read_entries};
-use mold_check::{DatagramCheck, EachCheck};
+use mold_check::{DatagramCheck, DigestCheck, Digested, EachCheck, FreshJudge, Judge};
 use mold_devices::{CommandFault, DeviceFault, IntoWrite, Sink, send};
+use mold_digest::DigestKey;
 use mold_extract::{Extracted, NumberRange, extract_blocks, extract_lines, save_journal};
 use mold_sockets::{open_replaced, unless_locked};
 use mold_text::{Word, push_line};
@@ -11,17 +12,43 @@ use mold_words::{ExtractForm, ExtractOrder, InputOrder};
 use std::alloc::Global;
 use std::io::Write;
 
-/// Checks each session of the input by itself, and flushes standard output once.
-pub(crate) fn check_each(rt: &HostRuntime, input: &InputOrder) -> Result<u8, CommandFault> {
+// Adds the datagrams of the input to the judge, prints what it finds, and flushes standard output once.
+fn check_over<J: Judge>(
+    rt: &HostRuntime,
+    input: &InputOrder,
+    judge: J,
+) -> Result<u8, CommandFault> {
     let entries = read_entries(rt, input)?;
-    let check: InputCheck<'_, EachCheck<DatagramCheck>> = read_check(
-        rt,
-        input,
-        entries.as_slice(),
-    )?;
+    let check = read_check(rt, input, entries.as_slice(), judge)?;
     let mut sink = IntoWrite::new(rt.stdout());
     let outcome = check.print(rt.alloc(), &mut sink);
-    flushed(outcome, sink.into_inner().flush())
+    let status = flushed(outcome, sink.into_inner().flush())?;
+    check.refer_to_sessions(rt);
+    Ok(status)
+}
+
+/// Checks each session of the input by itself.
+pub(crate) fn check_each(rt: &HostRuntime, input: &InputOrder) -> Result<u8, CommandFault> {
+    let judge: EachCheck<DatagramCheck> = EachCheck::new(rt.alloc());
+    check_over(rt, input, judge)
+}
+
+/// Checks the input by digests under a new key, each session by itself if `each` is true. If the system has no random
+/// bytes, the fault is `Read`.
+pub(crate) fn check_by_digest(
+    rt: &HostRuntime,
+    input: &InputOrder,
+    each: bool,
+) -> Result<u8, CommandFault> {
+    let Ok(key) = DigestKey::draw(rt) else {
+        return Err(CommandFault::Read);
+    };
+    if each {
+        let judge: Digested<'_, EachCheck<DigestCheck>> = Digested::new(&key, rt.alloc());
+        return check_over(rt, input, judge);
+    }
+    let judge: Digested<'_, DigestCheck> = Digested::new(&key, rt.alloc());
+    check_over(rt, input, judge)
 }
 
 // Returns the outcome of writing to a file.
@@ -72,7 +99,12 @@ pub(crate) fn check_and_save(
 ) -> Result<u8, ProgramFault> {
     let mut file = open_replaced(rt, journal)?;
     let entries = read_entries(rt, input)?;
-    let check = read_check(rt, input, entries.as_slice())?;
+    let check = read_check(
+        rt,
+        input,
+        entries.as_slice(),
+        DatagramCheck::new(rt.alloc()),
+    )?;
     let mut sink = IntoWrite::new(rt.stdout());
     let outcome = save(rt.alloc(), &check, &mut file, &mut sink);
     let status = unless_locked(flushed(outcome, sink.into_inner().flush()), file)?;
@@ -130,7 +162,12 @@ fn extract<J: Sink, K: Sink>(
 pub(crate) fn run_extract(rt: &HostRuntime, order: &ExtractOrder) -> Result<u8, ProgramFault> {
     let mut file = open_replaced(rt, order.to.as_str())?;
     let entries = read_entries(rt, &order.input)?;
-    let check = read_check(rt, &order.input, entries.as_slice())?;
+    let check = read_check(
+        rt,
+        &order.input,
+        entries.as_slice(),
+        DatagramCheck::new(rt.alloc()),
+    )?;
     let mut sink = IntoWrite::new(rt.stdout());
     let outcome = extract(rt.alloc(), &check, order, &mut file, &mut sink);
     let status = unless_locked(flushed(outcome, sink.into_inner().flush()), file)?;

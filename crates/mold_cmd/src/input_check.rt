@@ -5,7 +5,7 @@ use crate::progress::Progress;
 use crate::watched_lines::WatchedLines;
 use mold_capture::Checker;
 use mold_capture_commands::CaptureCheck;
-use mold_check::{DatagramCheck, Entry, EntryCheck, Judge, LineCheck, read_lines};
+use mold_check::{DatagramCheck, Entry, EntryCheck, Judge, LineCheck, read_lines_over};
 use mold_commands::read_folder;
 use mold_devices::{CommandFault, FromRead, Sink};
 use mold_words::InputOrder;
@@ -34,23 +34,30 @@ pub(crate) fn read_entries(
 }
 
 // Checks the lines on standard input.
-fn read_line_check<J: Judge>(rt: &HostRuntime) -> Result<LineCheck<J>, CommandFault> {
+fn read_line_check<J: Judge>(rt: &HostRuntime, judge: J) -> Result<LineCheck<J>, CommandFault> {
     let mut source = WatchedLines::new(FromRead::new(rt.stdin()), Progress::of_unknown(rt));
-    let check = read_lines::<J, _>(rt.alloc(), &mut source);
+    let check = read_lines_over(rt.alloc(), &mut source, judge);
     source.end();
     Ok(check?)
 }
 
-/// Checks the datagrams of the input. Those of a folder are in the entries.
+/// Adds the datagrams of the input to the judge. Those of a folder are in the entries.
 pub(crate) fn read_check<'a, J: Judge>(
     rt: &HostRuntime,
     input: &InputOrder,
     entries: &'a [Entry],
+    judge: J,
 ) -> Result<InputCheck<'a, J>, CommandFault> {
     match input {
-        InputOrder::Lines => Ok(InputCheck::Lines(read_line_check(rt)?)),
-        InputOrder::Folder(_) => Ok(InputCheck::Folder(EntryCheck::read(rt.alloc(), entries)?)),
-        InputOrder::Captures(order) => Ok(InputCheck::Captures(read_capture_check(rt, order)?)),
+        InputOrder::Lines => Ok(InputCheck::Lines(read_line_check(rt, judge)?)),
+        InputOrder::Folder(_) => Ok(InputCheck::Folder(EntryCheck::over(
+            rt.alloc(),
+            entries,
+            judge,
+        )?)),
+        InputOrder::Captures(order) => Ok(InputCheck::Captures(read_capture_check(
+            rt, order, judge,
+        )?)),
     }
 }
 

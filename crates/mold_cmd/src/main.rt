@@ -10,7 +10,7 @@ mod progress;
 mod watched_lines;
 
 use captures::{check_captures, list_sessions, show_captures};
-use checks::{check_and_save, check_each, run_extract};
+use checks::{check_and_save, check_by_digest, check_each, run_extract};
 use mold_commands::{
     DumpOptions, check_folder, dump_file, run_command, run_pack_journal, run_upgrade,
 };
@@ -197,8 +197,18 @@ fn run(rt: &HostRuntime, order: &Order) -> Result<u8, ProgramFault> {
                 judging: Judging::Save { journal },
             },
         ) => check_and_save(rt, input, journal.as_str()),
-        // STUB: a check by digests reads nothing yet.
-        Order::Check(_) => Err(ProgramFault::Command(CommandFault::Read)),
+        Order::Check(
+            CheckOrder {
+                input,
+                judging: Judging::Whole { digest: true },
+            },
+        ) => Ok(check_by_digest(rt, input, false)?),
+        Order::Check(
+            CheckOrder {
+                input,
+                judging: Judging::Each { digest: true },
+            },
+        ) => Ok(check_by_digest(rt, input, true)?),
         Order::Extract(order) => run_extract(rt, order),
         Order::ShowCaptures(order) => Ok(show_captures(rt, order)?),
         Order::Sessions(order) => Ok(list_sessions(rt, order)?),

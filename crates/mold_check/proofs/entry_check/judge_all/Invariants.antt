@@ -7,4 +7,4 @@ use Rattle.mold_check.proofs.entry_check.judge_all.Given as goal
 abbrev pub invariant-loop-entry : goal.invariant-loop-entry
 invariant-loop-entry g l =
     judged_from g.J.Judge.judging l.judge l.number (drop l.entry-index l.order)
-    ≡ all_indexed g.J.Judge.judging (lent_bytes l.order)
+    ≡ all_indexed g.J.Judge.judging l.fn.judge (lent_bytes l.order)

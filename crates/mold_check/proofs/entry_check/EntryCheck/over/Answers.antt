@@ -1,7 +1,7 @@
 use Rattle.std.proofs.Common.{arith}
 use Rattle.mold_check.proofs.CheckedLemmas.{length-lent}
 use Rattle.mold_check.proofs.OrderLemmas.{lent, order_few}
-use Rattle.mold_check.proofs.entry_check.EntryCheck.read.Goals as goal
+use Rattle.mold_check.proofs.entry_check.EntryCheck.over.Goals as goal
 
 pub overflow_sub-skipped : goal.overflow_sub-skipped
 overflow_sub-skipped g c =
