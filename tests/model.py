@@ -892,3 +892,70 @@ def check_lines(some_bytes):
     lines = [(number, line) for number, line in enumerate(lines_of(some_bytes), 1) if line]
     first_line = f"datagrams {len(lines)}"
     return check_named(first_line, [(f"line {number}", lambda it=it: bytes_of(it)) for number, it in lines])
+
+
+def named_lines(some_bytes):
+    """The lines that are not empty, with their names."""
+    lines = [(number, line) for number, line in enumerate(lines_of(some_bytes), 1) if line]
+    return [(f"line {number}", lambda it=it: bytes_of(it)) for number, it in lines]
+
+
+def session_or_none(datagram):
+    try:
+        return packet_of(datagram).session
+    except Refused:
+        return None
+
+
+def check_each_line(some_bytes):
+    """The text and the status for lines whose sessions are checked one by one."""
+    named, sessions, last = named_lines(some_bytes), {}, []
+    for name, datagram in named:
+        try:
+            content = datagram()
+        except Refused as why:
+            last = [f"refused {name} {why}"]
+            break
+        sessions.setdefault(session_or_none(content), []).append((name, lambda it=content: it))
+    text, statuses = text_of([f"datagrams {len(named)}"]), [2] if last else []
+    for session, captured in sessions.items():
+        if session is None:
+            text, statuses = text + text_of(["session none", f"refused {len(captured)}"]), [*statuses, 2]
+        else:
+            checked, status = check_named(f"session {session.hex()}", captured)
+            text, statuses = text + checked, [*statuses, status]
+    return text + text_of(last), max(statuses, default=1)
+
+
+def captured_lines(some_bytes):
+    """The state of the session of lines, none of which is refused."""
+    capture = Capture()
+    for _, datagram in named_lines(some_bytes):
+        capture.add(datagram())
+    return capture
+
+
+def save_lines(some_bytes):
+    """The text, the status, and the journal that `check --journal` saves, or None."""
+    text, status = check_lines(some_bytes)
+    if status:
+        return text, status, None
+    capture = captured_lines(some_bytes)
+    messages = [capture.carried[number] for number in sorted(capture.carried)]
+    return text + text_of([f"saved {len(messages)}"]), 0, journal_file(capture.session, messages, True)
+
+
+def extract_lines(some_bytes, form, first, count):
+    """The text, the status, and the file that `extract` writes, or None."""
+    text, status = check_lines(some_bytes)
+    if status == 2:
+        return text, status, None
+    capture, below = captured_lines(some_bytes), first + count
+    numbers = [number for number in sorted(capture.carried) if first <= number < below]
+    wanted = min(below, GREATEST if capture.end is None else capture.end)
+    if form == "--blocks" and len(numbers) < max(wanted - first, 0):
+        return text, status, None
+    messages = [capture.carried[number] for number in numbers]
+    lines = [f"{number} {printed_message(message)}" for number, message in zip(numbers, messages)]
+    file = blocks(messages) if form == "--blocks" else text_of(lines)
+    return text.split(b"\n")[0] + b"\n" + text_of([f"extracted {len(numbers)}"]), 0, file
