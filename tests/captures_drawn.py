@@ -30,6 +30,8 @@ class Case:
     chosen: captures.Filter
     # The files with their names. The file `-` is standard input.
     files: list
+    # An option of `check`, or nothing. The arguments have it too.
+    option: str = ""
 
 
 def units(chance, is_plain=False):
@@ -242,13 +244,15 @@ def case(chance):
         session = chance.choice([generators.NAME, "SESSION002", "A"])
         chosen.session = model.padded(session)
         arguments.append(["--session", session])
+    option = chance.choice(sorted(captures.OPTIONS)) if command == "check" and has(chance, 0.5) else ""
+    arguments += [[option]] if option else []
     arguments += [["--capture", name] for name, _ in files]
     # The order of the files is that of their options.
     others = [it for it in arguments if it[0] != "--capture"]
     for it in others:
         arguments.remove(it)
         arguments.insert(chance.randint(0, len(arguments)), it)
-    return Case(command, [word for words in arguments for word in words], chosen, files)
+    return Case(command, [word for words in arguments for word in words], chosen, files, option)
 
 
 def plain_file(chance):

@@ -2,6 +2,7 @@
 `show --capture` and `sessions`. It was written from the rule and from the public descriptions of the formats, without
 the program's definitions. `tests/captures` compares the program with it. tests/model.py has the rules of packets.
 """
+import re
 import socket
 from dataclasses import dataclass, field
 
@@ -508,6 +509,12 @@ def target_of(datagram):
     return end_text(datagram.target, datagram.target_port)
 
 
+def first_lines(reading):
+    """The counts, and the lines of files at fault."""
+    counts = f"datagrams {len(reading.datagrams)} skipped {reading.skipped}"
+    return "\n".join([f"{counts} partial {reading.partial} unread {reading.unread}", *reading.faults])
+
+
 def check_text(chosen, files):
     """The text, the status, and the text on standard error."""
     reading, taken = read(chosen, files), []
@@ -517,10 +524,24 @@ def check_text(chosen, files):
         return datagram.payload
 
     captured = [(f"datagram {number}", lambda it=it: taking(it)) for number, (_, it) in enumerate(reading.datagrams, 1)]
-    counts = f"datagrams {len(captured)} skipped {reading.skipped} partial {reading.partial} unread {reading.unread}"
-    text, status = model.check_named("\n".join([counts, *reading.faults]), captured)
+    text, status = model.check_named(first_lines(reading), captured)
     is_other = status == 2 and len(taken) > 1 and target_of(taken[-1]) != target_of(taken[0])
     return text, 2 if reading.faults else status, b"see mold sessions\n" if is_other else b""
+
+
+def check_by_digest(chosen, files):
+    """The same for `check --digest`."""
+    text, *others = check_text(chosen, files)
+    return re.sub(rb"^(whole \d+)$", rb"\1 by digest", text, flags=re.MULTILINE), *others
+
+
+def check_each(chosen, files):
+    """The text and the status of `check --each`."""
+    reading = read(chosen, files)
+    captured = [(f"datagram {number}", it.payload) for number, (_, it) in enumerate(reading.datagrams, 1)]
+    text, statuses = model.each_session(captured)
+    status = 2 if reading.faults else max(statuses, default=1)
+    return model.text_of([first_lines(reading)]) + text, status
 
 
 def time_text(time):
@@ -574,9 +595,11 @@ def line_of_session(target, session, packets):
 
 
 COMMANDS = {"check": check_text, "show": show_text, "sessions": sessions_text}
+# The options of `check`.
+OPTIONS = {"--each": check_each, "--digest": check_by_digest}
 
 
-def run(command, chosen, files):
-    """The text, the status, and the text on standard error of a command."""
-    text, status, *errors = COMMANDS[command](chosen, files)
+def run(command, chosen, files, option=""):
+    """The text, the status, and the text on standard error of a command, which may have an option."""
+    text, status, *errors = (OPTIONS[option] if option else COMMANDS[command])(chosen, files)
     return text, status, errors[0] if errors else b""

@@ -907,24 +907,31 @@ def session_or_none(datagram):
         return None
 
 
+def each_session(captured):
+    """The text and the statuses for named datagrams whose sessions are checked one by one."""
+    sessions, text, statuses = {}, b"", []
+    for name, content in captured:
+        sessions.setdefault(session_or_none(content), []).append((name, lambda it=content: it))
+    for session, of_session in sessions.items():
+        if session is None:
+            checked, status = text_of(["session none", f"refused {len(of_session)}"]), 2
+        else:
+            checked, status = check_named(f"session {session.hex()}", of_session)
+        text, statuses = text + checked, [*statuses, status]
+    return text, statuses
+
+
 def check_each_line(some_bytes):
     """The text and the status for lines whose sessions are checked one by one."""
-    named, sessions, last = named_lines(some_bytes), {}, []
+    named, captured, last = named_lines(some_bytes), [], []
     for name, datagram in named:
         try:
-            content = datagram()
+            captured.append((name, datagram()))
         except Refused as why:
             last = [f"refused {name} {why}"]
             break
-        sessions.setdefault(session_or_none(content), []).append((name, lambda it=content: it))
-    text, statuses = text_of([f"datagrams {len(named)}"]), [2] if last else []
-    for session, captured in sessions.items():
-        if session is None:
-            text, statuses = text + text_of(["session none", f"refused {len(captured)}"]), [*statuses, 2]
-        else:
-            checked, status = check_named(f"session {session.hex()}", captured)
-            text, statuses = text + checked, [*statuses, status]
-    return text + text_of(last), max(statuses, default=1)
+    text, statuses = each_session(captured)
+    return text_of([f"datagrams {len(named)}"]) + text + text_of(last), max([*statuses, *[2 for _ in last]], default=1)
 
 
 def captured_lines(some_bytes):
