@@ -70,6 +70,7 @@ fn block_length(most: u16, count: u64, body: &[u8]) -> Result<usize, OpenError>
 
 // Returns the length of the record at the start of the bytes if it is the whole record of a message, and as many bytes
 // follow its head as the longest message has.
+#[inline(always)]
 fn whole_record(most: u16, rest: &[u8]) -> Option<usize>
     ensures some { IfSome result (λ len. (0 < len) × (len ≤ length rest.now)) }
     ensures record { IfSome result (λ len. HasRecord most rest.now (drop len rest.now)) }
@@ -120,6 +121,7 @@ fn checked_record(most: u16, count: u64, rest: &[u8]) -> Result<NextRecord, Open
 
 // Reads the record at the start of the bytes. `count` messages precede it, fewer than a journal may have.
 // For the optimizer: most records are whole records of messages, which need fewer checks.
+#[inline(always)]
 fn next_of_few(most: u16, count: u64, rest: &[u8]) -> Result<NextRecord, OpenError>
     requires { count < MAX_MESSAGES }
     ensures next { IfOk result (IsNextRecord most count rest.now) }
@@ -144,6 +146,8 @@ pub fn next_record(most: u16, count: u64, rest: &[u8]) -> Result<NextRecord, Ope
 }
 
 // Reads the record at the start of the bytes. `count` messages precede it. With `are_few`, a journal may have more.
+// For the optimizer: each of its callers is compiled for one taker, and most records then need no call.
+#[inline(always)]
 fn next_among(most: u16, count: u64, rest: &[u8], are_few: bool) -> Result<NextRecord, OpenError>
     requires few { count < MAX_NUMBER }
     requires fewer { are_few ≡ true → count < MAX_MESSAGES }

@@ -13,7 +13,7 @@ use mold_session::{FileError, JournalReader};
 use std::alloc::Global;
 
 /// The messages of a journal's file that were not compared yet. It holds the longest message so far and the bytes of
-/// one read, at most 4,096.
+/// one read, at most 32,768.
 #[derive(Drop)]
 pub struct JournalMessages<J> {
     reader: JournalReader,

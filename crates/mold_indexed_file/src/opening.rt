@@ -90,7 +90,7 @@ fn read_index<S: Source>(
 /// Opens the journal in a file of version 1, 2 or 3, whose messages have at most `max_message` bytes. `source` reads
 /// the same file from its beginning.
 ///
-/// It reads the source once, to its end, in reads of at most 4,096 bytes, and keeps only the index. While it reads, it
+/// It reads the source once, to its end, in reads of at most 32,768 bytes, and keeps only the index. While it reads, it
 /// holds the bytes of one read, the lengths of the messages in them, and at most the longest message so far. Besides
 /// reading a message's bytes, it takes constant time for each message, except when the memory of the index is doubled.
 /// It reads nothing through `file`.

@@ -23,7 +23,7 @@ use Rattle.mold_session.specs.declared.records.NextMessage.TheVariants.{Message,
 -- An upper bound of the work that remains for a loop over the file, which each iteration decreases. It counts the reads
 -- that the source still allows, and the bytes that were read and not used.
 abbrev pub work_left : ℕ → List ℕ → ℕ
-work_left bound rest = bound * 4097 + length rest
+work_left bound rest = bound * 32769 + length rest
 
 -- The number of a version.
 abbrev pub version_number : FileVersion → ℕ

@@ -187,6 +187,7 @@ pub fn whole_blocks(bytes: &[u8], limit: u64) -> (usize, u64)
 
 // Returns the length of the message whose whole block is at the start of the bytes, and the bytes after it. Returns
 // `None` if the block is cut or the message has more than `most` bytes.
+#[inline(always)]
 fn block_length(most: u16, bytes: &[u8]) -> Option<(u16, &[u8])>
     ensures { IfSome result (λ found. HasLength block most bytes.now found.0 found.1.now) }
 {
@@ -203,6 +204,7 @@ fn block_length(most: u16, bytes: &[u8]) -> Option<(u16, &[u8])>
 }
 
 // Returns what `block_length` returns, for a message's record. Returns `None` before any other record and a shut gate.
+#[inline(always)]
 fn record_length(most: u16, bytes: &[u8]) -> Option<(u16, &[u8])>
     ensures { IfSome result (λ found. HasLength record_of most bytes.now found.0 found.1.now) }
 {
@@ -218,6 +220,8 @@ fn record_length(most: u16, bytes: &[u8]) -> Option<(u16, &[u8])>
 }
 
 // Returns the length of the whole message at the start of the bytes of a file of this version, and the bytes after it.
+// For the optimizer: a call for each message would take longer than the check.
+#[inline(always)]
 fn message_length(version: FileVersion, most: u16, bytes: &[u8]) -> Option<(u16, &[u8])>
     ensures { IfSome result (λ found. HasLength (message_spelling version) most bytes.now found.0 found.1.now) }
 {

@@ -174,7 +174,7 @@ impl Journal {
     /// Loads a journal from its file, of version 1, 2 or 3, whose messages have at most `max_message` bytes. A journal
     /// from a file of version 1 is open.
     ///
-    /// It goes through the file once, in reads of at most 4,096 bytes, and holds only the journal and the bytes of one
+    /// It goes through the file once, in reads of at most 32,768 bytes, and holds only the journal and the bytes of one
     /// read. On success it has read the source to its end.
     ///
     /// If the bytes have a fault, their only one (`laws::one_fault_law`) is returned, or `Read` or `Memory` if a read

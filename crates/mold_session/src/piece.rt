@@ -1,4 +1,4 @@
-//! The bytes of a source, one after another, read in pieces of up to 4,096 bytes.
+//! The bytes of a source, one after another, read in pieces of up to 32,768 bytes.
 
 ghost use Rattle.std.specs.Prelude.{◌<◌, ◌≤◌, [], ◌∷◌, length, IfOk, IfSome, MatchOption, ⊤};
 ghost use Rattle.std.specs.Bool.{OnTrue, OnFalse};
@@ -9,7 +9,7 @@ ghost use Rattle.mold_session.specs.Loading.{work_left};
 use mold_devices::{ReadFault, Source};
 
 /// The largest number of bytes in one read.
-const PIECE: usize = 4096;
+const PIECE: usize = 32_768;
 
 /// The bytes of one read, and which of them are unused. It has a fixed size and allocates nothing.
 pub type Piece = mold_devices::Piece<PIECE>;

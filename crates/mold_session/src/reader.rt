@@ -64,7 +64,7 @@ fn blocks_at_once(version: FileVersion, limit: u64) -> u64
 }
 
 /// Reads the file of a journal, of any version, message by message. It holds no more than the longest
-/// message so far and the bytes of one read, at most 4,096.
+/// message so far and the bytes of one read, at most 32,768.
 ///
 /// It refuses the bytes that `Journal::load` refuses with a `max_message` of 65,535, or with a lower one that each call
 /// of `advance_within` is given. The fault is the same, and it is returned once the reader reaches it.

@@ -84,7 +84,7 @@ fn load(alloc: Global, file: &[u8], (most, fails_at): (usize, u64)) -> Loaded {
         source.at_most(most);
     }
     source.fail_at(fails_at);
-    let journal = Journal::load(alloc, 10000, &mut source)?;
+    let journal = Journal::load(alloc, 33_000, &mut source)?;
     Ok((journal.next() - 1, journal.is_closed()))
 }
 
@@ -121,16 +121,16 @@ fn expect_long(rt: &impl Abort, alloc: Global, journal: &Journal) {
     holds(rt, journal.save(&mut sink) == Ok(()));
     holds(
         rt,
-        load(alloc, sink.bytes(), (0, 4)) == Err(FileError::Read),
+        load(alloc, sink.bytes(), (0, 3)) == Err(FileError::Read),
     );
-    holds(rt, load(alloc, sink.bytes(), (0, 5)) == Ok((2, false)));
+    holds(rt, load(alloc, sink.bytes(), (0, 4)) == Ok((2, false)));
 }
 
 /// A message that is longer than the buffers is written at once, so the file takes three writes. It is read in pieces
-/// of 4,096 bytes, so the fourth read finds its end.
+/// of 32,768 bytes, so the third read finds its end.
 #[test]
 fn a_long_message_is_saved_and_loaded(rt: HostRuntime) -> Result<(), Fail> {
-    let journal = journal_of(rt.alloc(), 10000, &[&[b'x'; 10000], b"AB"])?;
+    let journal = journal_of(rt.alloc(), 33_000, &[&[b'x'; 33_000], b"AB"])?;
     expect_long(&rt, rt.alloc(), &journal);
     Ok(())
 }
