@@ -9,7 +9,7 @@ use Rattle.std.proofs.lemmas.List.Quantifiers.{Any-push}
 use Rattle.std.proofs.lemmas.Option.{get_or_from_slice_get, slice_get-get_or, slice_get_within}
 use Rattle.std.specs.List.{AllAdjacentBelow, Any}
 use Rattle.mold_index.specs.Adding.{IsRoom, has_room, is_due, next_entry, with_entry}
-use Rattle.mold_index.specs.Index.{AreApart, IndexState, Indexes, IsEntry, IsNear, fresh_index, offset_of}
+use Rattle.mold_index.specs.Index.{Appends, AreApart, IndexState, Indexes, IsEntry, IsNear, fresh_index, offset_of}
 use Rattle.mold_index.specs.declared.entry.Entry.{Entry}
 use Rattle.mold_index.specs.declared.layout.Layout.{Layout}
 use Rattle.mold_index.specs.declared.room.Room.{Room}
@@ -267,3 +267,11 @@ pub indexes_within : (index : IndexState) (room : Room) (lengths : List ℕ) (le
     (lengths ++ len ∷ [])
 indexes_within index room lengths len end is ends free within =
     rw ends (indexes_not_due index lengths len is (free.near index.count index.end within.0 within.1))
+
+-- ---- several messages
+
+pub appends_none : (index : IndexState) → Appends index index []
+appends_none index = record {
+  layout = refl;
+  indexes = λ before indexes. subst (Indexes index) (sym (append-nil before)) indexes;
+}

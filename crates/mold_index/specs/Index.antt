@@ -59,6 +59,11 @@ pub record IsIndex (index : IndexState) : Type 0 where
   pub few : index.count ≤ MAX_MESSAGES
   pub below : index.end ≤ MAX_END
 
+-- The index is the earlier one after messages of these lengths were appended.
+pub record Appends (earlier index : IndexState) (lengths : List ℕ) : Type 0 where
+  pub layout : index.layout ≡ earlier.layout
+  pub indexes : (before : List ℕ) → Indexes earlier before → Indexes index (before ++ lengths)
+
 -- The last message of the file has `len` bytes.
 pub record HasLast (index : IndexState) (len : ℕ) : Type 0 where
   -- the lengths of the messages before it

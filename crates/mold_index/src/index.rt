@@ -14,7 +14,7 @@ use crate::error::IndexError;
 use crate::layout::Layout;
 use crate::piece::Piece;
 use crate::room::{Room, room_after};
-use mold_session::MAX_MESSAGES;
+use mold_session::{LengthTaker, MAX_MESSAGES};
 use std::alloc::Global;
 use std::marker::Model;
 
@@ -209,5 +209,21 @@ impl Index {
             entry,
             len: latest.saturating_add(most).min(stop) - entry.offset,
         })
+    }
+}
+
+impl LengthTaker for Index {
+    ghost use Rattle.mold_index.specs.Index.{Appends};
+
+    ghost takes = { λ earlier index lengths. Appends earlier index lengths };
+
+    /// Appends a message of `len` bytes, as `push` does. Returns false if it is not appended.
+    // For the optimizer: a reader calls it for each message of a file.
+    #[inline(always)]
+    fn take(&mut self, len: u16) -> bool {
+        match self.push(len) {
+            Ok(()) => true,
+            Err(_) => false,
+        }
     }
 }

@@ -1,10 +1,10 @@
 -- What is read of a file that is opened, and with which error it is refused.
-use Rattle.std.proofs.Common.{◌≡◌, inl, inr, ℕ, ◌+◌, ◌-◌, ◌<◌, ◌≤◌, Bool, List, [], ◌∷◌}
+use Rattle.std.proofs.Common.{◌≡◌, ◌⊎◌, inl, inr, ℕ, ◌+◌, ◌-◌, ◌<◌, ◌≤◌, Bool, List, [], ◌∷◌}
 use Rattle.std.proofs.Common.{◌++◌, length, length-append, take, Option, None, Some, refl, sym, ap, subst, ◌∙◌}
 use Rattle.std.proofs.Common.{append-nil, append_assoc, arith, drop}
 use Rattle.std.proofs.KnownBytes.{Consumes-nil}
 use Rattle.std.proofs.lemmas.List.{length-map, map-append, take-append-drop, take_all, take_at}
-use Rattle.std.specs.Prelude.{IfSome}
+use Rattle.std.specs.Prelude.{IfSome, ⊤}
 use Rattle.std.specs.List.{AllByRecursion, sum_by}
 use Rattle.std.specs.Io.KnownBytes.{prepend_known}
 use Rattle.mold_session.specs.FileFault.{JournalFault}
@@ -17,16 +17,18 @@ use Rattle.mold_session.specs.declared.error.FileError.TheVariants.{TooLong, Mem
 use Rattle.mold_session.specs.declared.error.FileError.TheVariants.{Write, Full, CountDiffers, BadFlag, Damaged}
 use Rattle.mold_session.specs.declared.file_version.FileVersion.{FileVersion}
 use Rattle.mold_session.specs.declared.file_version.FileVersion.TheVariants.{One, Two, Three}
+use Rattle.mold_session.specs.declared.journal.TheConstants.{MAX_MESSAGES}
 use Rattle.mold_session.specs.declared.loading.FileHead.{FileHead}
 use Rattle.mold_session.proofs.HeadLemmas.{refused_behind}
 use Rattle.mold_session.proofs.ReaderLemmas.{read_blocks, read_file, read_more, read_refused_within}
 use Rattle.mold_index.proofs.LayoutLemmas.{length-before}
 use Rattle.mold_index.proofs.OffsetLemmas.{end-push, offset_last}
-use Rattle.mold_index.proofs.PushLemmas.{indexes_none}
-use Rattle.mold_index.specs.Index.{IndexState, Indexes, fresh_index, offset_of}
+use Rattle.mold_index.proofs.PushLemmas.{appends_none, indexes_none}
+use Rattle.mold_index.specs.Index.{Appends, IndexState, Indexes, fresh_index, offset_of}
 use Rattle.mold_index.specs.Layouts.{layout_of, lengths_of}
+use Rattle.mold_index.specs.declared.index.TheConstants.{MAX_END}
 use Rattle.mold_index.specs.declared.layout.Layout.{Layout}
-use Rattle.mold_indexed_file.specs.Opened.{AddFault, IndexFault, IsIndexOf, OpenFault}
+use Rattle.mold_indexed_file.specs.Opened.{AddFault, IsIndexOf, OpenFault}
 
 -- ---- faults
 
@@ -86,22 +88,21 @@ each_all : (most : ℕ) (messages more : List (List ℕ)) → AllByRecursion (Is
 each_all most [] more each all = all
 each_all most (first ∷ messages) more each all = (each.0, each_all most messages more each.1 all)
 
--- Messages were passed.
-pub reading_passed : (most : ℕ) (known left : Option (List ℕ)) (reader next : ReaderState) (index new : IndexState)
-    (lengths : List ℕ) → (reading : Reading most known (prepend_known reader.rest left) reader index) →
-    PassesMessages most reader next [] lengths → new.layout ≡ index.layout →
-    Indexes new (lengths_of reading.messages ++ lengths) → Reading most known (prepend_known next.rest left) next new
-reading_passed most known left reader next index new lengths reading passed same indexes = record {
-  messages = reading.messages ++ passed.messages;
-  read = read_blocks known left reader next (length passed.messages) reading.messages passed.messages reading.read
-      passed.passes;
-  each = each_all most reading.messages passed.messages reading.each passed.within;
-  layout = same ∙ reading.layout ∙ ap (λ (h : FileHead). layout_of h.version) (sym passed.passes.same);
-  indexes = subst (Indexes new)
-      (ap (λ (t : List ℕ). lengths_of reading.messages ++ t) passed.appended
-      ∙ sym (map-append (λ (m : List ℕ). length m) reading.messages passed.messages))
-      indexes;
-}
+-- Messages were passed, and the index took their lengths.
+pub reading_passed : (most : ℕ) (known left : Option (List ℕ)) (reader next : ReaderState) (index new : IndexState) →
+    Reading most known (prepend_known reader.rest left) reader index → PassesMessages Appends most reader next index new →
+    Reading most known (prepend_known next.rest left) next new
+reading_passed most known left reader next index new reading passed =
+    let appends : Appends index new (lengths_of passed.messages) = passed.taken index [] (appends_none index) in
+    record {
+      messages = reading.messages ++ passed.messages;
+      read = read_blocks known left reader next (length passed.messages) reading.messages passed.messages reading.read
+          passed.passes;
+      each = each_all most reading.messages passed.messages reading.each passed.within;
+      layout = appends.layout ∙ reading.layout ∙ ap (λ (h : FileHead). layout_of h.version) (sym passed.passes.same);
+      indexes = subst (Indexes new) (sym (map-append (λ (m : List ℕ). length m) reading.messages passed.messages))
+          (appends.indexes (lengths_of reading.messages) reading.indexes);
+    }
 
 -- ---- the end
 
@@ -147,60 +148,30 @@ reading_refused most known left reader index error reading refused =
 
 -- ---- limits
 
--- A message is not added to an index. The file, which may have more messages, is beyond that limit.
-pub full_more : (index : IndexState) (lengths rest : List ℕ) (len : ℕ) (error : FileError) → Indexes index lengths →
-    AddFault index len error → IndexFault index.layout ((lengths ++ len ∷ []) ++ rest) error
-full_more index lengths rest len Full indexes (inl full) =
-    inl (omega (
-      arith,
-      full,
-      indexes.counted,
-      length-append (lengths ++ len ∷ []) rest,
-      length-append lengths (len ∷ []),
-    ))
-full_more index lengths rest len Full indexes (inr far) =
-    let layout = index.layout in
-    let some : List ℕ = lengths ++ len ∷ [] in
-    let all : List ℕ = some ++ rest in
-    let count = length some + 1 - 1 in
-    let same : offset_of layout all (length some + 1) ≡ offset_of layout some (length some + 1) =
-    ap (λ (t : List ℕ). layout.start + sum_by (λ l. layout.overhead + l) t)
-    (take_at some rest count (omega arith) ∙ sym (take_all count some (omega arith)))
-    in
-    inr (omega (
-      arith,
-      far,
-      indexes.ends,
-      end-push layout lengths len,
-      same,
-      offset_last layout all (length some + 1),
-    ))
-full_more index lengths rest len Memory indexes fault = tt
-full_more index lengths rest len Read indexes fault = fault
-full_more index lengths rest len Write indexes fault = fault
-full_more index lengths rest len BadMagic indexes fault = fault
-full_more index lengths rest len (Short n) indexes fault = fault
-full_more index lengths rest len (BadFlag byte) indexes fault = fault
-full_more index lengths rest len (TooLong n) indexes fault = fault
-full_more index lengths rest len (BlockCut number) indexes fault = fault
-full_more index lengths rest len (CountDiffers count found) indexes fault = fault
-full_more index lengths rest len (Damaged number) indexes fault = fault
+-- Why a file has no index if its messages have these lengths: they are too many or too long, or an allocation failed.
+abbrev IndexFault : Layout → List ℕ → FileError → Type 0
+IndexFault layout lengths Full =
+    (MAX_MESSAGES < length lengths) ⊎ (MAX_END < offset_of layout lengths (length lengths + 1))
+IndexFault layout lengths Memory = ⊤
+IndexFault layout lengths error = ⊥
 
--- The messages at index `i` and after it are not added.
-pub full_at : (index : IndexState) (before lengths : List ℕ) (i len : ℕ) (error : FileError) →
-    Indexes index (before ++ take i lengths) → take (i + 1) lengths ≡ take i lengths ++ len ∷ [] →
-    AddFault index len error → IndexFault index.layout (before ++ lengths) error
-full_at index before lengths i len error indexes next fault =
-    let some = take i lengths in
-    let rest = drop (i + 1) lengths in
-    let all : ((before ++ some) ++ len ∷ []) ++ rest ≡ before ++ lengths =
-    ap (λ (t : List ℕ). t ++ rest) (append_assoc before some (len ∷ []))
-    ∙ append_assoc before (some ++ len ∷ []) rest
-    ∙ ap (λ (t : List ℕ). before ++ t)
-    (ap (λ (t : List ℕ). t ++ rest) (sym next) ∙ take-append-drop (i + 1) lengths)
-    in
-    subst (λ (t : List ℕ). IndexFault index.layout t error) all
-    (full_more index (before ++ some) rest len error indexes fault)
+-- A message is not added to an index.
+full_more : (index : IndexState) (lengths : List ℕ) (len : ℕ) (error : FileError) → Indexes index lengths →
+    AddFault index len error → IndexFault index.layout (lengths ++ len ∷ []) error
+full_more index lengths len Full indexes (inl full) =
+    inl (omega (arith, full, indexes.counted, length-append lengths (len ∷ [])))
+full_more index lengths len Full indexes (inr far) =
+    inr (omega (arith, far, indexes.ends, end-push index.layout lengths len))
+full_more index lengths len Memory indexes fault = tt
+full_more index lengths len Read indexes fault = fault
+full_more index lengths len Write indexes fault = fault
+full_more index lengths len BadMagic indexes fault = fault
+full_more index lengths len (Short n) indexes fault = fault
+full_more index lengths len (BadFlag byte) indexes fault = fault
+full_more index lengths len (TooLong n) indexes fault = fault
+full_more index lengths len (BlockCut number) indexes fault = fault
+full_more index lengths len (CountDiffers count found) indexes fault = fault
+full_more index lengths len (Damaged number) indexes fault = fault
 
 -- The messages were read, so they are not too many for an index.
 not_many : (known left : Option (List ℕ)) (reader : ReaderState) (messages : List (List ℕ)) →
@@ -257,9 +228,8 @@ pub adding_refused : (most : ℕ) (known left after : Option (List ℕ)) (reader
 adding_refused most known left after reader next index error reading more fault =
     let lengths = lengths_of reading.messages in
     let all = reading.messages ++ next.message ∷ [] in
-    let listed : (lengths ++ length next.message ∷ []) ++ [] ≡ lengths_of all =
-    append-nil (lengths ++ length next.message ∷ [])
-    ∙ sym (map-append (λ (m : List ℕ). length m) reading.messages (next.message ∷ []))
+    let listed : lengths ++ length next.message ∷ [] ≡ lengths_of all =
+    sym (map-append (λ (m : List ℕ). length m) reading.messages (next.message ∷ []))
     in
     let layout : index.layout ≡ layout_of next.head.version =
     reading.layout ∙ ap (λ (h : FileHead). layout_of h.version) (sym more.same)
@@ -268,25 +238,4 @@ adding_refused most known left after reader next index error reading more fault 
     (read_more known left after reader next reading.messages reading.read more)
     (subst (λ (l : Layout). IndexFault l (lengths_of all) error) layout
     (subst (λ (t : List ℕ). IndexFault index.layout t error) listed
-    (full_more index lengths [] (length next.message) error reading.indexes fault)))
-
--- One of the messages that were passed is refused.
-pub passed_refused : (most : ℕ) (known left : Option (List ℕ)) (reader next : ReaderState) (index : IndexState)
-    (lengths : List ℕ) (error : FileError) →
-    (reading : Reading most known (prepend_known reader.rest left) reader index) →
-    PassesMessages most reader next [] lengths →
-    IndexFault index.layout (lengths_of reading.messages ++ lengths) error → Refuses (OpenFault most) known error
-passed_refused most known left reader next index lengths error reading passed fault =
-    let all = reading.messages ++ passed.messages in
-    let listed : lengths_of reading.messages ++ lengths ≡ lengths_of all =
-    ap (λ (t : List ℕ). lengths_of reading.messages ++ t) passed.appended
-    ∙ sym (map-append (λ (m : List ℕ). length m) reading.messages passed.messages)
-    in
-    let layout : index.layout ≡ layout_of next.head.version =
-    reading.layout ∙ ap (λ (h : FileHead). layout_of h.version) (sym passed.passes.same)
-    in
-    full_refused most known (prepend_known next.rest left) next all error
-    (read_blocks known left reader next (length passed.messages) reading.messages passed.messages reading.read
-    passed.passes)
-    (subst (λ (l : Layout). IndexFault l (lengths_of all) error) layout
-    (subst (λ (t : List ℕ). IndexFault index.layout t error) listed fault))
+    (full_more index lengths (length next.message) error reading.indexes fault)))

@@ -58,10 +58,3 @@ abbrev pub AddFault : IndexState → ℕ → FileError → Type 0
 AddFault index len Full = (index.count ≡ MAX_MESSAGES) ⊎ (MAX_END < index.end + (index.layout.overhead + len))
 AddFault index len Memory = ⊤
 AddFault index len error = ⊥
-
--- Why a file has no index if its messages have these lengths: they are too many or too long, or an allocation failed.
-abbrev pub IndexFault : Layout → List ℕ → FileError → Type 0
-IndexFault layout lengths Full =
-    (MAX_MESSAGES < length lengths) ⊎ (MAX_END < offset_of layout lengths (length lengths + 1))
-IndexFault layout lengths Memory = ⊤
-IndexFault layout lengths error = ⊥

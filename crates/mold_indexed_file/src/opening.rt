@@ -7,7 +7,7 @@ ghost use Rattle.mold_session.specs.Loading.{CountsLoad, Refuses};
 ghost use Rattle.mold_session.specs.declared.error.FileError.{FileError};
 ghost use Rattle.mold_index.specs.Index.{Indexes};
 ghost use Rattle.mold_index.specs.Layouts.{layout_of};
-ghost use Rattle.mold_indexed_file.specs.Opened.{AddFault, IndexFault, IsIndexOf, IsLoaded, IsOpened, OpenFault};
+ghost use Rattle.mold_indexed_file.specs.Opened.{AddFault, IsIndexOf, IsLoaded, IsOpened, OpenFault};
 ghost use Rattle.mold_indexed_file.specs.Shown.{IsInFile, Shows};
 
 use crate::indexed_file::IndexedFile;
@@ -29,20 +29,6 @@ fn add_message(index: &mut Index, len: u16) -> Result<(), FileError>
         Err(IndexError::Full) => Err(FileError::Full),
         Err(IndexError::Memory) => Err(FileError::Memory),
     }
-}
-
-// Adds the next messages, which have these lengths, to the index of a file. After an error, some of them may be added.
-fn add_messages(index: &mut Index, lengths: &[u16]) -> Result<(), FileError>
-    ensures indexes { (before : List ℕ) → Indexes index.old before →
-        OnOk result (Indexes index.new (before ++ lengths.now)) }
-    ensures layout { index.new.layout ≡ index.old.layout }
-    ensures refused { IfErr result (λ error. (before : List ℕ) → Indexes index.old before →
-        IndexFault index.old.layout (before ++ lengths.now) error) }
-{
-    for len in lengths {
-        add_message(index, *len)?;
-    }
-    Ok(())
 }
 
 // Reads on to the end of the source.
@@ -75,13 +61,10 @@ fn read_index<S: Source>(
 {
     let mut reader = JournalReader::new(alloc, source)?;
     let mut index = Index::new(alloc, Layout::of(reader.head().version));
-    let mut lengths = Vec::new(alloc);
     'messages: while reader.advance_within(source, max_message)? {
         add_message(&mut index, reader.message().len() as u16)?;
-        // The other messages of the same read are passed, and only their lengths are kept.
-        lengths.clear();
-        reader.pass_messages(max_message, &mut lengths);
-        add_messages(&mut index, &lengths)?;
+        // The other messages of the same read are passed, and only their lengths are used.
+        reader.pass_messages(max_message, &mut index);
     }
     read_to_end(source)?;
     Ok((reader.head(), index))
@@ -91,9 +74,8 @@ fn read_index<S: Source>(
 /// the same file from its beginning.
 ///
 /// It reads the source once, to its end, in reads of at most 32,768 bytes, and keeps only the index. While it reads, it
-/// holds the bytes of one read, the lengths of the messages in them, and at most the longest message so far. Besides
-/// reading a message's bytes, it takes constant time for each message, except when the memory of the index is doubled.
-/// It reads nothing through `file`.
+/// holds the bytes of one read, and at most the longest message so far. Besides reading a message's bytes, it takes
+/// constant time for each message, except when the memory of the index is doubled. It reads nothing through `file`.
 ///
 /// The errors are those of `Journal::load`. `Full` is also returned for a file that is longer than
 /// 9,223,372,036,854,775,807 bytes, and `Memory` if an allocation for the index or for the buffer fails.

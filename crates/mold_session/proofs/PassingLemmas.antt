@@ -1,6 +1,6 @@
--- How whole messages are passed, and their lengths kept.
+-- How whole messages are passed, and their lengths taken.
 use Rattle.std.proofs.Common.{◌≡◌, ℕ, ◌+◌, ◌-◌, ◌≤◌, List, [], ◌∷◌, ◌++◌, length, length-append, append-nil, take, refl}
-use Rattle.std.proofs.Common.{sym, ap, ◌∙◌, append_assoc, arith, map}
+use Rattle.std.proofs.Common.{sym, ap, subst, ◌∙◌, append_assoc, arith, map}
 use Rattle.std.specs.List.{AllByRecursion}
 use Rattle.std.proofs.lemmas.List.{map-append}
 use Rattle.std.proofs.Math.Seq.{take-append_seam}
@@ -11,14 +11,14 @@ use Rattle.mold_session.specs.Journal.{IsWithin}
 use Rattle.mold_session.specs.Loading.{message_spelling, messages_spelling}
 use Rattle.mold_session.specs.declared.file_version.FileVersion.{FileVersion}
 
-pub none_passed : (version : FileVersion) (most : ℕ) (bytes lengths : List ℕ) →
-    HasPassed version most 0 bytes bytes lengths lengths
-none_passed version most bytes lengths = record {
+pub none_passed : {T : Type 0} (takes : T → T → List ℕ → Type 0) (version : FileVersion) (most : ℕ) (bytes : List ℕ)
+    (taker : T) → HasPassed takes version most 0 bytes bytes taker taker
+none_passed takes version most bytes taker = record {
   messages = [];
   each = tt;
   counted = refl;
   parts = refl;
-  appended = sym (append-nil lengths);
+  taken = λ earlier before is. subst (takes earlier taker) (sym (append-nil before)) is;
 }
 
 each_more : (most : ℕ) (before : List (List ℕ)) (message : List ℕ) → AllByRecursion (IsWithin most) before →
@@ -27,10 +27,12 @@ each_more most [] message each one = (one, tt)
 each_more most (first ∷ before) message each one = (each.0, each_more most before message each.1 one)
 
 -- One more message was passed.
-pub one_passed : (version : FileVersion) (most count len : ℕ) (bytes rest behind lengths more : List ℕ) →
-    HasPassed version most count bytes rest lengths more → HasLength (message_spelling version) most rest len behind →
-    HasPassed version most (count + 1) bytes behind lengths (more ++ len ∷ [])
-one_passed version most count len bytes rest behind lengths more has next =
+pub one_passed : {T : Type 0} (takes : T → T → List ℕ → Type 0) (version : FileVersion) (most count len : ℕ)
+    (bytes rest behind : List ℕ) (old now new : T) → HasPassed takes version most count bytes rest old now →
+    HasLength (message_spelling version) most rest len behind →
+    ((earlier : T) (lengths : List ℕ) → takes earlier now lengths → takes earlier new (lengths ++ len ∷ [])) →
+    HasPassed takes version most (count + 1) bytes behind old new
+one_passed takes version most count len bytes rest behind old now new has next taken =
     let spell : List ℕ → List ℕ = message_spelling version in
     let all : List (List ℕ) → List ℕ = messages_spelling version in
     let sizes : List (List ℕ) → List ℕ = map (λ (message : List ℕ). length message) in
@@ -46,19 +48,34 @@ one_passed version most count len bytes rest behind lengths more has next =
           ∙ ap (λ (t : List ℕ). t ++ behind)
           (ap (λ (t : List ℕ). all has.messages ++ t) (sym (append-nil (spell next.message)))
           ∙ sym (flat_map-append spell has.messages one));
-      appended =
-          ap (λ (n : ℕ). more ++ n ∷ []) next.counted
-          ∙ ap (λ (t : List ℕ). t ++ length next.message ∷ []) has.appended
-          ∙ append_assoc lengths (sizes has.messages) (length next.message ∷ [])
-          ∙ ap (λ (t : List ℕ). lengths ++ t)
-          (sym (map-append (λ (message : List ℕ). length message) has.messages one));
+      taken = λ earlier before is.
+          subst (takes earlier new)
+          (ap (λ (n : ℕ). (before ++ sizes has.messages) ++ n ∷ []) next.counted
+          ∙ append_assoc before (sizes has.messages) (length next.message ∷ [])
+          ∙ ap (λ (t : List ℕ). before ++ t)
+          (sym (map-append (λ (message : List ℕ). length message) has.messages one)))
+          (taken earlier (before ++ sizes has.messages) (has.taken earlier before is));
     }
 
+-- The taker did not take another length.
+pub not_passed : {T : Type 0} (takes : T → T → List ℕ → Type 0) (version : FileVersion) (most count : ℕ)
+    (bytes rest : List ℕ) (old now new : T) → HasPassed takes version most count bytes rest old now →
+    ((earlier : T) (lengths : List ℕ) → takes earlier now lengths → takes earlier new lengths) →
+    HasPassed takes version most count bytes rest old new
+not_passed takes version most count bytes rest old now new has same = record {
+  messages = has.messages;
+  each = has.each;
+  counted = has.counted;
+  parts = has.parts;
+  taken = λ earlier before is.
+      same earlier (before ++ map (λ (message : List ℕ). length message) has.messages) (has.taken earlier before is);
+}
+
 -- The bytes before the remaining ones are the messages that were passed.
-pub passed_before : (version : FileVersion) (most limit count : ℕ) (bytes rest lengths more : List ℕ) →
-    HasPassed version most count bytes rest lengths more → count ≤ limit →
-    PassesWhole version most limit bytes (length bytes - length rest) count lengths more
-passed_before version most limit count bytes rest lengths more has few =
+pub passed_before : {T : Type 0} (takes : T → T → List ℕ → Type 0) (version : FileVersion) (most limit count : ℕ)
+    (bytes rest : List ℕ) (old new : T) → HasPassed takes version most count bytes rest old new → count ≤ limit →
+    PassesWhole takes version most limit bytes (length bytes - length rest) count old new
+passed_before takes version most limit count bytes rest old new has few =
     let before = messages_spelling version has.messages in
     let long : length bytes ≡ length before + length rest =
     ap (λ (t : List ℕ). length t) has.parts ∙ length-append before rest
@@ -74,7 +91,7 @@ passed_before version most limit count bytes rest lengths more has few =
           ap (λ (n : ℕ). take n bytes) len
           ∙ ap (take (length before)) has.parts
           ∙ take-append_seam before rest;
-      appended = has.appended;
+      taken = has.taken;
     }
 
 -- Messages with at most `most` bytes are messages of a file.

@@ -6,6 +6,7 @@ use Rattle.mold_wire.specs.Block.{block, blocks}
 use Rattle.mold_wire.specs.declared.block.TheConstants.{MAX_MESSAGE}
 use Rattle.mold_session.specs.FileFault.{IsBody1, IsBody2, IsBody3, HasRecords}
 use Rattle.mold_session.specs.Journal.{AreMessages, IsWithin}
+use Rattle.mold_session.specs.LengthTaker.{HasTakenLengths}
 use Rattle.mold_session.specs.Loading.{messages_spelling}
 use Rattle.mold_session.specs.Records.{record_of, EndsRecords}
 use Rattle.mold_session.specs.declared.file_version.FileVersion.{FileVersion}
@@ -71,22 +72,23 @@ pub record HasLength (spelling : List ℕ → List ℕ) (most : ℕ) (bytes : Li
   pub parts : bytes ≡ spelling message ++ behind
 
 -- The bytes are the encodings of `count` messages with at most `most` bytes in a file of this version, and then the
--- bytes `rest`. Their lengths were appended to `lengths`.
-pub record HasPassed (version : FileVersion) (most count : ℕ) (bytes rest lengths more : List ℕ) : Type 0 where
+-- bytes `rest`. The taker took their lengths.
+pub record HasPassed {T : Type 0} (takes : T → T → List ℕ → Type 0) (version : FileVersion) (most count : ℕ)
+    (bytes rest : List ℕ) (old new : T) : Type 0 where
   pub messages : List (List ℕ)
   pub each : AllByRecursion (IsWithin most) messages
   pub counted : count ≡ length messages
   pub parts : bytes ≡ messages_spelling version messages ++ rest
-  pub appended : more ≡ lengths ++ map (λ message. length message) messages
+  pub taken : HasTakenLengths takes old new (map (λ message. length message) messages)
 
 -- The first `len` bytes are the encodings of `count` messages with at most `most` bytes in a file of this version, and
--- there are at most `limit` of them. Their lengths were appended to `lengths`.
-pub record PassesWhole (version : FileVersion) (most limit : ℕ) (bytes : List ℕ) (len count : ℕ)
-    (lengths more : List ℕ) : Type 0 where
+-- there are at most `limit` of them. The taker took their lengths.
+pub record PassesWhole {T : Type 0} (takes : T → T → List ℕ → Type 0) (version : FileVersion) (most limit : ℕ)
+    (bytes : List ℕ) (len count : ℕ) (old new : T) : Type 0 where
   pub messages : List (List ℕ)
   pub few : length messages ≤ limit
   pub each : AllByRecursion (IsWithin most) messages
   pub counted : count ≡ length messages
   pub within : len ≤ length bytes
   pub parts : take len bytes ≡ messages_spelling version messages
-  pub appended : more ≡ lengths ++ map (λ message. length message) messages
+  pub taken : HasTakenLengths takes old new (map (λ message. length message) messages)

@@ -5,6 +5,7 @@ pub mod Datagrams
 pub mod File
 pub mod FileFault
 pub mod Journal
+pub mod LengthTaker
 pub mod Loading
 pub mod Moving
 pub mod Packing

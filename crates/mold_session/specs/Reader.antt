@@ -6,6 +6,7 @@ use Rattle.mold_wire.specs.Block.{blocks}
 use Rattle.mold_wire.specs.declared.block.TheConstants.{MAX_MESSAGE}
 use Rattle.mold_session.specs.FileFault.{BlockFault, RecordFault}
 use Rattle.mold_session.specs.Journal.{AreMessages, IsWithin}
+use Rattle.mold_session.specs.LengthTaker.{HasTakenLengths}
 use Rattle.mold_session.specs.Loading.{head_spelling, message_spelling, messages_spelling, stated_count, IsStated}
 use Rattle.mold_session.specs.Loading.{TakesSpelled}
 use Rattle.mold_session.specs.Records.{EndsRecords}
@@ -63,13 +64,14 @@ pub record TakesBlocks (limit : ℕ) (old new : ReaderState) (text more : List �
   pub passes : PassesBlocks limit old new messages
   pub appended : more ≡ text ++ blocks messages
 
--- Messages at the start of the unused bytes, each with at most `most` bytes, were passed, and their lengths appended to
--- `lengths`.
-pub record PassesMessages (most : ℕ) (old new : ReaderState) (lengths more : List ℕ) : Type 0 where
+-- Messages at the start of the unused bytes, each with at most `most` bytes, were passed, and the taker took their
+-- lengths.
+pub record PassesMessages {T : Type 0} (takes : T → T → List ℕ → Type 0) (most : ℕ) (old new : ReaderState)
+    (before after : T) : Type 0 where
   pub messages : List (List ℕ)
   pub passes : PassesBlocks (length messages) old new messages
   pub within : AllByRecursion (IsWithin most) messages
-  pub appended : more ≡ lengths ++ map (λ message. length message) messages
+  pub taken : HasTakenLengths takes before after (map (λ message. length message) messages)
 
 -- The bytes `rest`, which follow `read` messages, end a file of this version. `said` is what its head states of the
 -- session, and `closed` is whether the session is closed. Versions 1 and 2 end with the file, and version 2 with the

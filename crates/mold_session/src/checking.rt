@@ -14,6 +14,7 @@ ghost use Rattle.mold_session.specs.declared.journal.TheConstants.{MAX_MESSAGES}
 use crate::error::FileError;
 use crate::file_version::FileVersion;
 use crate::journal::MAX_MESSAGES;
+use crate::length_taker::LengthTaker;
 use crate::loading::check_count;
 use crate::magic::{MAGIC_LENGTH, first_magic, second_magic, third_magic};
 use crate::records::{CLOSING_KIND, MESSAGE_KIND, OPEN_GATE, record_fault};
@@ -231,17 +232,17 @@ fn message_length(version: FileVersion, most: u16, bytes: &[u8]) -> Option<(u16,
     }
 }
 
-/// Appends the lengths of the whole messages at the start of the bytes of a file of this version: at most `limit` of
-/// them, up to one of more than `most` bytes or an allocation that fails. Returns the length in bytes of their
-/// encodings, and their number.
-pub fn whole_messages(
+/// Passes the lengths of the whole messages at the start of the bytes of a file of this version to the taker: at most
+/// `limit` of them, up to one of more than `most` bytes or one that the taker does not take. Returns the length in bytes
+/// of their encodings, and their number.
+pub fn whole_messages<T: LengthTaker>(
     version: FileVersion,
     most: u16,
     limit: u64,
     bytes: &[u8],
-    lengths: &mut Vec<u16>,
+    taker: &mut T,
 ) -> (usize, u64)
-    ensures { PassesWhole version most limit bytes.now result.0 result.1 lengths.old.items lengths.new.items }
+    ensures { PassesWhole T.takes version most limit bytes.now result.0 result.1 taker.old taker.new }
 {
     let mut rest = bytes;
     let mut count = 0;
@@ -249,9 +250,9 @@ pub fn whole_messages(
         let Some((len, behind)) = message_length(version, most, rest) else {
             break;
         };
-        let Ok(()) = lengths.push(len) else {
+        if !taker.take(len) {
             break;
-        };
+        }
         rest = behind;
         count += 1;
     }

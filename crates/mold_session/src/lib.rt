@@ -7,6 +7,7 @@ mod error;
 mod file_version;
 mod journal;
 pub mod laws;
+mod length_taker;
 mod loading;
 mod magic;
 mod packing;
@@ -28,6 +29,7 @@ pub use error::{
 };
 pub use file_version::FileVersion;
 pub use journal::{Journal, MAX_MESSAGES};
+pub use length_taker::LengthTaker;
 pub use loading::FileHead;
 pub use mold_devices::{
     DeviceFault, FromRead, IntoWrite, MemorySink, MemorySource, Sink, SliceSource, Source,

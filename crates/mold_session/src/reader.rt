@@ -15,6 +15,7 @@ use crate::checking::{whole_blocks, whole_messages};
 use crate::error::FileError;
 use crate::file_version::FileVersion;
 use crate::journal::MAX_MESSAGES;
+use crate::length_taker::LengthTaker;
 use crate::loading::{FileHead, check_count, next_block, read_head};
 use crate::piece::Piece;
 use crate::records::{NextMessage, next_record};
@@ -214,15 +215,15 @@ impl JournalReader {
         }
     }
 
-    /// Passes the next messages that the last read got whole, and appends their lengths to `lengths`. It reads nothing.
-    /// It stops before a message of more than `max_message` bytes, before one that is not whole, and before what ends the
-    /// file. If an allocation fails, it passes fewer messages, and `advance` still reads the next one.
-    pub fn pass_messages(&mut self, max_message: u16, lengths: &mut Vec<u16>)
-        ensures { PassesMessages max_message self.old self.new lengths.old.items lengths.new.items }
+    /// Passes the next messages that the last read got whole, and passes their lengths to the taker. It reads nothing
+    /// and allocates nothing. It stops before a message of more than `max_message` bytes, before one that is not whole,
+    /// before one that the taker does not take, and before what ends the file. `advance` still reads the next message.
+    pub fn pass_messages<T: LengthTaker>(&mut self, max_message: u16, taker: &mut T)
+        ensures { PassesMessages T.takes max_message self.old self.new taker.old taker.new }
     {
         let limit = MAX_MESSAGES - self.count;
         let bytes = self.piece.rest();
-        let (len, count) = whole_messages(self.head.version, max_message, limit, bytes, lengths);
+        let (len, count) = whole_messages(self.head.version, max_message, limit, bytes, taker);
         self.piece.skip(len);
         self.count += count;
     }

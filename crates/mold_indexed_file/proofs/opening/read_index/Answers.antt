@@ -4,13 +4,12 @@ use Rattle.std.proofs.lemmas.Result.{err_from_is_err_and}
 use Rattle.std.specs.Io.KnownBytes.{prepend_known}
 use Rattle.mold_session.proofs.FileLemmas.{passed_on}
 use Rattle.mold_session.specs.Loading.{Refuses}
-use Rattle.mold_session.specs.Reader.{PassesMessages}
 use Rattle.mold_session.specs.declared.loading.FileHead.{FileHead}
 use Rattle.mold_index.specs.Index.{Indexes}
 use Rattle.mold_index.specs.Layouts.{lengths_of}
 use Rattle.mold_indexed_file.specs.Opened.{AddFault, IsIndexOf, OpenFault}
-use Rattle.mold_indexed_file.proofs.OpeningLemmas.{Reading, adding_refused, passed_refused, reading_end, reading_more}
-use Rattle.mold_indexed_file.proofs.OpeningLemmas.{reading_passed, reading_refused}
+use Rattle.mold_indexed_file.proofs.OpeningLemmas.{adding_refused, reading_end, reading_more, reading_passed}
+use Rattle.mold_indexed_file.proofs.OpeningLemmas.{reading_refused}
 use Rattle.mold_indexed_file.proofs.opening.read_index.Goals as goal
 
 pub returns-in_err-advance_within-clause-refused : goal.returns-in_err-advance_within-clause-refused
@@ -32,25 +31,17 @@ messages-preserved g c =
     let reader = c.advance_within.new.self in
     let reading = c.messages.invariant.reading in
     let lengths = lengths_of reading.messages in
-    let one : Reading most known (prepend_known reader.rest left) reader c.add_message.new.index =
-    reading_more most known (prepend_known c.messages.reader.rest (g.S.Source.left c.messages.source))
-    (prepend_known reader.rest left) c.messages.reader reader c.messages.index c.add_message.new.index reading
-    (rw c.if-branch.true at c.in_ok-advance_within.ensures.next)
-    (rw c.if-branch.true at c.in_ok-advance_within.ensures.within)
-    c.in_ok-add_message.ensures.layout
-    (subst (λ (m : List ℕ). Indexes c.add_message.new.index (lengths ++ length m ∷ [])) c.message.ensures
-    (c.in_ok-add_message.ensures.indexes lengths reading.indexes))
-    in
     record {
       reading = reading_passed most known left reader c.pass_messages.new.self c.add_message.new.index
-          c.add_messages.new.index c.deref.result.now one
-          (subst (PassesMessages most reader c.pass_messages.new.self []) (sym c.deref.ensures.value)
-          (subst
-          (λ (t : List ℕ).
-          PassesMessages most reader c.pass_messages.new.self t c.pass_messages.new.lengths.items)
-          c.clear.ensures.items c.pass_messages.ensures))
-          c.in_ok-add_messages.ensures.layout
-          (c.in_ok-add_messages.ensures.indexes (lengths_of one.messages) one.indexes);
+          c.pass_messages.new.taker
+          (reading_more most known (prepend_known c.messages.reader.rest (g.S.Source.left c.messages.source))
+          (prepend_known reader.rest left) c.messages.reader reader c.messages.index c.add_message.new.index reading
+          (rw c.if-branch.true at c.in_ok-advance_within.ensures.next)
+          (rw c.if-branch.true at c.in_ok-advance_within.ensures.within)
+          c.in_ok-add_message.ensures.layout
+          (subst (λ (m : List ℕ). Indexes c.add_message.new.index (lengths ++ length m ∷ [])) c.message.ensures
+          (c.in_ok-add_message.ensures.indexes lengths reading.indexes)))
+          c.pass_messages.ensures;
       counted = c.in_ok-advance_within.ensures.failures ∙ c.messages.invariant.counted;
     }
 
@@ -67,34 +58,6 @@ returns-in_err-add_message-clause-refused g c =
     (rw c.if-branch.true at c.in_ok-advance_within.ensures.next)
     (subst (λ (m : List ℕ). AddFault c.messages.index (length m) error) c.message.ensures
     c.in_err-add_message.ensures.refused))
-
-pub returns-in_err-add_messages-clause-refused : goal.returns-in_err-add_messages-clause-refused
-returns-in_err-add_messages-clause-refused g c =
-    let most = c.args.max_message in
-    let known = g.S.Source.left c.args.source.now in
-    let left = g.S.Source.left c.advance_within.new.source in
-    let reader = c.advance_within.new.self in
-    let reading = c.messages.invariant.reading in
-    let lengths = lengths_of reading.messages in
-    let error = c.in_err-add_messages.field-0.0 in
-    let one : Reading most known (prepend_known reader.rest left) reader c.add_message.new.index =
-    reading_more most known (prepend_known c.messages.reader.rest (g.S.Source.left c.messages.source))
-    (prepend_known reader.rest left) c.messages.reader reader c.messages.index c.add_message.new.index reading
-    (rw c.if-branch.true at c.in_ok-advance_within.ensures.next)
-    (rw c.if-branch.true at c.in_ok-advance_within.ensures.within)
-    c.in_ok-add_message.ensures.layout
-    (subst (λ (m : List ℕ). Indexes c.add_message.new.index (lengths ++ length m ∷ [])) c.message.ensures
-    (c.in_ok-add_message.ensures.indexes lengths reading.indexes))
-    in
-    passed_on c.from_residual-in_err-add_messages.result error (Refuses (OpenFault most) known)
-    (err_from_is_err_and c.from_residual-in_err-add_messages.result c.from_residual-in_err-add_messages.ensures.1)
-    (passed_refused most known left reader c.pass_messages.new.self c.add_message.new.index
-    c.deref.result.now error one
-    (subst (PassesMessages most reader c.pass_messages.new.self []) (sym c.deref.ensures.value)
-    (subst
-    (λ (t : List ℕ). PassesMessages most reader c.pass_messages.new.self t c.pass_messages.new.lengths.items)
-    c.clear.ensures.items c.pass_messages.ensures))
-    (c.in_err-add_messages.ensures.refused (lengths_of one.messages) one.indexes))
 
 pub returns-clause-is : goal.returns-clause-is
 returns-clause-is g c =

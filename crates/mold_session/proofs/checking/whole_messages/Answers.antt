@@ -1,16 +1,13 @@
-use Rattle.std.proofs.Common.{◌+◌, arith, subst, sym}
-use Rattle.mold_session.specs.Checking.{HasPassed}
+use Rattle.std.proofs.Common.{ℕ, List, ◌+◌, arith}
 use Rattle.mold_session.proofs.PassingLemmas.{one_passed}
 use Rattle.mold_session.proofs.checking.whole_messages.Goals as goal
 
 pub passed-preserved : goal.passed-preserved
-passed-preserved c = record {
+passed-preserved g c = record {
   passed =
-      subst
-      (HasPassed c.args.version c.args.most (c.passed.count + 1) c.args.bytes.now c.in-Some.behind.now
-      c.args.lengths.now.items)
-      (sym c.in-Ok.ensures.items)
-      (one_passed c.args.version c.args.most c.passed.count c.in-Some.len c.args.bytes.now c.passed.rest.now
-      c.in-Some.behind.now c.args.lengths.now.items c.passed.lengths.items c.passed.invariant.passed c.in-Some.ensures);
+      one_passed g.T.LengthTaker.takes c.args.version c.args.most c.passed.count c.in-Some.len c.args.bytes.now
+      c.passed.rest.now c.in-Some.behind.now c.args.taker.now c.passed.taker c.take.new.self c.passed.invariant.passed
+      c.in-Some.ensures
+      (λ earlier lengths is. rw c.if-not-take.false at (c.take.ensures.taken earlier lengths is));
   few = omega (arith, c.passed-test.true);
 }
