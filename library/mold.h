@@ -58,6 +58,16 @@
 extern "C" {
 #endif
 
+/* ---- The version ---- */
+
+/* The version of this header: the major number times 1,000,000, plus the minor number times 1,000, plus the patch
+ * number. */
+#define MOLD_LIBRARY_VERSION 2000
+#define MOLD_LIBRARY_VERSION_TEXT "0.2.0"
+
+/* Returns the version of the linked library. It equals MOLD_LIBRARY_VERSION if the header belongs to the library. */
+uint32_t mold_library_version(void);
+
 /* ---- Codes, each with its text from mold_text ---- */
 
 enum {
@@ -108,6 +118,21 @@ typedef struct mold_bytes {
 /* Returns the meaning of a code as an English text; `unknown code` for any other number. The text is valid forever. It
  * has text->length bytes, and no zero byte at its end. */
 void mold_text(uint32_t code, mold_bytes *text);
+
+/* Writes the meaning of a code as an English text; `unknown code` for any other number. The text is valid forever. Its
+ * last byte is zero and counts in text->length. It has no other zero byte. */
+void mold_terminated_text(uint32_t code, mold_bytes *text);
+
+/* Returns the text of mold_terminated_text as a string. */
+static inline const char *mold_code_text(uint32_t code) {
+    mold_bytes text = MOLD_NO_BYTES;
+    mold_terminated_text(code, &text);
+#ifdef __cplusplus
+    return reinterpret_cast<const char *>(text.at);
+#else
+    return (const char *)text.at;
+#endif
+}
 
 /* ---- Packets: no handle, no allocation ---- */
 
