@@ -89,7 +89,7 @@ escaped() {
     printf '%s\n' "$1" | sed 's/[\\&|]/\\&/g'
 }
 
-# Copies a file. In a file whose name ends in .in, @prefix@ and @version@ are replaced.
+# Copies a file. In a file whose name ends in .in, @prefix@ and @version@, which is that of the library, are replaced.
 copy_file() {
     case $1 in
     *.in) sed "s|@prefix@|$(escaped "$prefix")|; s|@version@|$version|" "$1" >"$2" ;;
@@ -110,8 +110,8 @@ install_files() {
 }
 
 install_all() {
-    version=$("$top/mold" --version) || fail 'the program could not be built'
-    version=${version#mold }
+    "$top/mold" --version >/dev/null || fail 'the program could not be built'
+    version=$(sed -n 's/^#define MOLD_LIBRARY_VERSION_TEXT "\(.*\)"$/\1/p' "$top/library/mold.h")
     [ "$library" = no ] || sh "$top/library/build" >/dev/null || fail 'the library could not be built'
     mkdir -p -- "$prefix" || fail "the folder $prefix could not be made"
     check_no_conflict

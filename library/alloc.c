@@ -2,7 +2,7 @@
  * these three functions itself.
  *
  * An allocation returns two registers: whether it succeeded, and the address. If it fails, the library's call returns
- * MOLD_MEMORY, and the process continues. */
+ * MOLD_E_MEMORY, and the process continues. */
 #include <stddef.h>
 #include <stdint.h>
 #include <stdlib.h>

@@ -12,22 +12,26 @@
  *      session[10], request[20] and bytes[20] are valid for their declared sizes. NULL is allowed only if the length
  *      is 0.
  *   2. A pointer has the alignment of its type.
- *   3. Everything that a call writes was initialized before, with any value: an output, a buffer, an array, a handle.
- *   4. A length is below 2^63.
- *   5. What a call writes does not overlap anything else that is passed to it.
- *   6. During a call nobody else changes what was passed to it.
- *   7. Only one call at a time runs on a handle, in any thread.
- *   8. A handle begins as MOLD_EMPTY, and only these functions write it. It is not copied. It may be moved: its bytes
+ *   3. A length is below 2^63.
+ *   4. What a call writes does not overlap anything else that is passed to it.
+ *   5. During a call nobody else changes what was passed to it.
+ *   6. Only one call at a time runs on a handle, in any thread, even if all of them take a const handle.
+ *   7. A handle begins as MOLD_EMPTY, and only these functions write it. It is not copied. It may be moved: its bytes
  *      are copied to a new place, and MOLD_EMPTY is written to the old one.
- *   9. Only these functions write the fields of a packer, which begin as MOLD_PACKER, and those of a plan, which
+ *   8. Only these functions write the fields of a packer, which begin as MOLD_PACKER, and those of a plan, which
  *      mold_server_plan writes first.
- *  10. A bool is 0 or 1.
+ *   9. A bool is 0 or 1.
+ *
+ * OUTPUTS. What a call writes needs no value before, except for handles and packers. The proofs assume that it has some
+ * value of its type, as each variable in Rattle has. No call reads an output before it writes it: tests/library passes
+ * uninitialized outputs to all calls under valgrind. An output that a call does not write stays uninitialized, so check
+ * the code before you read it.
  *
  * HANDLES. A listener, a publisher, a server or a checker is a handle: 16 bytes of the caller, and memory that the
  * library allocates. A handle begins as MOLD_EMPTY and is then empty. mold_.._new fills it. mold_free frees its memory
  * and makes it empty again. A filled handle must be freed before it is filled again, and before it goes out of scope.
- * If a handle does not hold what a call needs, the call returns MOLD_BROKEN and does nothing. A call that returns no
- * code then returns 0 or false.
+ * If a handle does not hold what a call needs, the call returns MOLD_E_BROKEN and does nothing. A call that returns no
+ * code then returns 0 or false. A call that takes a const handle changes neither the handle nor what it holds.
  *
  * SLICES. A mold_bytes that a listener returns is a slice of the listener's memory. It is valid until the next call on
  * that handle, and the caller never frees it. If its length is 0, its address may no longer be valid: do not read it or
@@ -35,15 +39,15 @@
  * passed to a call may be freed when the call returns. There are two exceptions: a packer keeps its buffer, and the
  * messages that mold_listener_hear does not copy are in the datagram.
  *
- * CODES. A call that can be refused returns a code. The code is 0 if the call succeeded. Otherwise it is that of the
- * first reason that applies, in the order in which the call lists them. After a code other than 0 the handle holds what
- * it held before, except that a line's report counts a refused datagram, and that mold_listener_hear empties the batch.
- * If a call has an output for a number, it then writes the number that goes with the refusal, or 0 if there is none.
- * All other outputs keep their values. A call that returns MOLD_BROKEN or MOLD_LINE writes nothing at all. Other codes
- * of which this is true are listed with "writes nothing".
+ * CODES. A call that can be refused returns a code. The code is MOLD_DONE, 0, if the call succeeded. Otherwise it is
+ * that of the first reason that applies, in the order in which the call lists them, and its name begins with MOLD_E_.
+ * After such a code the handle holds what it held before, except that a line's report counts a refused datagram, and
+ * that mold_listener_hear empties the batch. If a call has an output for a number, it then writes the number that goes
+ * with the refusal, or 0 if there is none. All other outputs keep their values. A call that returns MOLD_E_BROKEN or
+ * MOLD_E_LINE writes nothing at all. Other codes of which this is true are listed with "writes nothing".
  * The meaning of a code never changes.
  *
- * MOLD_MEMORY means that an allocation failed. The same call may succeed later.
+ * MOLD_E_MEMORY means that an allocation failed. The same call may succeed later.
  *
  * NUMBERS. The messages of a session have the sequence numbers 1, 2, 3 and so on. Lengths and sizes are in bytes.
  * Numbers in structs are in the byte order of the machine. A session is any ten bytes. */
@@ -58,43 +62,53 @@
 extern "C" {
 #endif
 
-/* ---- Codes, each with its text from mold_text ---- */
+/* ---- The version ---- */
 
-enum {
-    MOLD_DONE = 0,            /* done */
-    MOLD_SHORT = 1,           /* a packet has at least 20 bytes */
-    MOLD_BLOCK_CUT = 2,       /* a message block is cut short */
-    MOLD_TRAILING = 3,        /* bytes follow the end of the packet */
-    MOLD_LIMIT = 4,           /* a datagram limit is 64 to 65,507 bytes */
-    MOLD_FULL = 5,            /* the packet has no room for the message */
-    MOLD_BROKEN = 6,          /* the call cannot use this handle or these fields */
-    MOLD_MEMORY = 7,          /* out of memory */
-    MOLD_WRONG_SESSION = 8,   /* another session */
-    MOLD_SEQUENCE_ZERO = 9,   /* the sequence number is 0 */
-    MOLD_PAST_LAST = 10,      /* a message has a number above 18446744073709551614 */
-    MOLD_END_CONFLICT = 11,   /* the packet states another end of the session */
-    MOLD_END_BELOW = 12,      /* the packet ends the session below what is known */
-    MOLD_PAST_END = 13,       /* the packet goes past the end of the session */
-    MOLD_CONFLICT = 14,       /* a message differs from the one received before */
-    MOLD_LINE = 15,           /* there is no such line */
-    MOLD_NEXT_ZERO = 16,      /* a listener cannot begin at sequence number 0 */
-    MOLD_WINDOW = 17,         /* a window is 1 to 1,048,576 messages */
-    MOLD_ABSENT = 18,         /* there is nothing to return */
-    MOLD_CLOSED = 19,         /* the session is closed */
-    MOLD_TOO_LONG = 20,       /* the message is too long */
-    MOLD_NUMBERS = 21,        /* no sequence number is left for a message */
-    MOLD_UNSENT = 22,         /* some messages are not yet in a datagram */
-    MOLD_ROOM = 23,           /* the buffer is too small */
-    MOLD_REQUEST_LENGTH = 24, /* a request has 20 bytes */
-    MOLD_EMPTY_REQUEST = 25,  /* the request is for no message */
-    MOLD_AHEAD = 26,          /* the request begins above the last message */
-    MOLD_BURST = 27,          /* a burst is 1 to 64 datagrams */
-    MOLD_FILE_SHORT = 28,     /* too few bytes for a journal */
-    MOLD_BAD_MAGIC = 29,      /* not a journal of version 1, 2 or 3 */
-    MOLD_BAD_FLAG = 30,       /* the journal's flag is neither open nor closed */
-    MOLD_FILE_CUT = 31,       /* the journal ends within a message */
-    MOLD_COUNT_DIFFERS = 32,  /* the journal does not have as many messages as it states */
-    MOLD_DAMAGED = 33         /* a record of the journal is damaged */
+/* The version of this header: the major number times 1,000,000, plus the minor number times 1,000, plus the patch
+ * number. */
+#define MOLD_LIBRARY_VERSION 2000
+#define MOLD_LIBRARY_VERSION_TEXT "0.2.0"
+
+/* Returns the version of the linked library. It equals MOLD_LIBRARY_VERSION if the header belongs to the library. */
+uint32_t mold_library_version(void);
+
+/* ---- Codes, each with its text from mold_code_text ---- */
+
+enum mold_code {
+    MOLD_DONE = 0,              /* done */
+    MOLD_E_SHORT = 1,           /* a packet has at least 20 bytes */
+    MOLD_E_BLOCK_CUT = 2,       /* a message block is cut short */
+    MOLD_E_TRAILING = 3,        /* bytes follow the end of the packet */
+    MOLD_E_LIMIT = 4,           /* a datagram limit is 64 to 65,507 bytes */
+    MOLD_E_FULL = 5,            /* the packet has no room for the message */
+    MOLD_E_BROKEN = 6,          /* the call cannot use this handle or these fields */
+    MOLD_E_MEMORY = 7,          /* out of memory */
+    MOLD_E_WRONG_SESSION = 8,   /* another session */
+    MOLD_E_SEQUENCE_ZERO = 9,   /* the sequence number is 0 */
+    MOLD_E_PAST_LAST = 10,      /* a message has a number above 18446744073709551614 */
+    MOLD_E_END_CONFLICT = 11,   /* the packet states another end of the session */
+    MOLD_E_END_BELOW = 12,      /* the packet ends the session below what is known */
+    MOLD_E_PAST_END = 13,       /* the packet goes past the end of the session */
+    MOLD_E_CONFLICT = 14,       /* a message differs from the one received before */
+    MOLD_E_LINE = 15,           /* there is no such line */
+    MOLD_E_NEXT_ZERO = 16,      /* a listener cannot begin at sequence number 0 */
+    MOLD_E_WINDOW = 17,         /* a window is 1 to 1,048,576 messages */
+    MOLD_E_ABSENT = 18,         /* there is nothing to return */
+    MOLD_E_CLOSED = 19,         /* the session is closed */
+    MOLD_E_TOO_LONG = 20,       /* the message is too long */
+    MOLD_E_NUMBERS = 21,        /* no sequence number is left for a message */
+    MOLD_E_UNSENT = 22,         /* some messages are not yet in a datagram */
+    MOLD_E_ROOM = 23,           /* the buffer is too small */
+    MOLD_E_REQUEST_LENGTH = 24, /* a request has 20 bytes */
+    MOLD_E_EMPTY_REQUEST = 25,  /* the request is for no message */
+    MOLD_E_AHEAD = 26,          /* the request begins above the last message */
+    MOLD_E_BURST = 27,          /* a burst is 1 to 64 datagrams */
+    MOLD_E_FILE_SHORT = 28,     /* too few bytes for a journal */
+    MOLD_E_BAD_MAGIC = 29,      /* not a journal of version 1, 2 or 3 */
+    MOLD_E_BAD_FLAG = 30,       /* the journal's flag is neither open nor closed */
+    MOLD_E_FILE_CUT = 31,       /* the journal ends within a message */
+    MOLD_E_COUNT_DIFFERS = 32,  /* the journal does not have as many messages as it states */
+    MOLD_E_DAMAGED = 33         /* a record of the journal is damaged */
 };
 
 /* A slice: `length` bytes at `at`. */
@@ -105,14 +119,25 @@ typedef struct mold_bytes {
 
 #define MOLD_NO_BYTES { NULL, 0 }
 
-/* Returns the meaning of a code as an English text; `unknown code` for any other number. The text is valid forever. It
- * has text->length bytes, and no zero byte at its end. */
-void mold_text(uint32_t code, mold_bytes *text);
+/* Writes the meaning of a code as an English text; `unknown code` for any other number. The text is valid forever. Its
+ * last byte is zero and counts in text->length. It has no other zero byte. */
+void mold_terminated_text(uint32_t code, mold_bytes *text);
+
+/* Returns the text of mold_terminated_text as a string. */
+static inline const char *mold_code_text(uint32_t code) {
+    mold_bytes text = MOLD_NO_BYTES;
+    mold_terminated_text(code, &text);
+#ifdef __cplusplus
+    return reinterpret_cast<const char *>(text.at);
+#else
+    return (const char *)text.at;
+#endif
+}
 
 /* ---- Packets: no handle, no allocation ---- */
 
 /* The kinds of packets. */
-enum {
+enum mold_kind {
     MOLD_DATA = 0,      /* 1 to 65,534 messages */
     MOLD_HEARTBEAT = 1, /* no messages; its number is that of the next message */
     MOLD_END = 2        /* no messages; it ends the session */
@@ -141,10 +166,10 @@ typedef struct mold_request {
 
 /* Decodes a datagram, and writes its header to *packet.
  *
- *   MOLD_DONE       the bytes are the encoding of this packet and of no other.
- *   MOLD_SHORT      `packet->detail` is the length of the datagram.
- *   MOLD_BLOCK_CUT  `packet->detail` is the number of whole message blocks before the one that is cut short.
- *   MOLD_TRAILING   `packet->detail` is the offset of the first byte after the packet.
+ *   MOLD_DONE         the bytes are the encoding of this packet and of no other.
+ *   MOLD_E_SHORT      `packet->detail` is the length of the datagram.
+ *   MOLD_E_BLOCK_CUT  `packet->detail` is the number of whole message blocks before the one that is cut short.
+ *   MOLD_E_TRAILING   `packet->detail` is the offset of the first byte after the packet.
  *
  * A refusal keeps the other fields of *packet. */
 uint32_t mold_decode(const uint8_t *bytes, size_t length, mold_packet *packet);
@@ -156,7 +181,7 @@ uint32_t mold_read(const uint8_t *bytes, size_t length, mold_packet *packet, mol
 
 /* Decodes a request packet. Any 20 bytes are a request packet, even with sequence number 0 or count 0.
  *
- *   MOLD_REQUEST_LENGTH  the length is not 20; writes nothing. */
+ *   MOLD_E_REQUEST_LENGTH  the length is not 20; writes nothing. */
 uint32_t mold_request_decode(const uint8_t *bytes, size_t length, mold_request *request);
 
 /* Writes the 20 bytes of a request packet. */
@@ -177,7 +202,7 @@ typedef struct mold_packer {
 
 /* Begins a packet without messages, in place of the previous packet. Until a message is added, it is a heartbeat.
  *
- *   MOLD_LIMIT  the limit is not 64 to 65,507 bytes. */
+ *   MOLD_E_LIMIT  the limit is not 64 to 65,507 bytes. */
 uint32_t mold_packer_start(mold_packer *packer, const uint8_t session[10], uint64_t sequence);
 
 /* Whether mold_packer_add would add a message of `length` bytes. */
@@ -185,15 +210,15 @@ bool mold_packer_fits(const mold_packer *packer, size_t length);
 
 /* Adds a message to the packet.
  *
- *   MOLD_BROKEN  the fields are invalid. The call does not read the packet in the buffer, so it accepts some invalid
- *                fields.
- *   MOLD_FULL    no packet was begun, or the packet is an end packet, or the message does not fit: with its two bytes
- *                of length the packet would be longer than the limit. */
+ *   MOLD_E_BROKEN  the fields are invalid. The call does not read the packet in the buffer, so it accepts some invalid
+ *                  fields.
+ *   MOLD_E_FULL    no packet was begun, or the packet is an end packet, or the message does not fit: with its two bytes
+ *                  of length the packet would be longer than the limit. */
 uint32_t mold_packer_add(mold_packer *packer, const uint8_t *message, size_t length);
 
 /* Writes an end packet in place of the previous packet. No message can be added to it.
  *
- *   MOLD_LIMIT  the limit is not 64 to 65,507 bytes. */
+ *   MOLD_E_LIMIT  the limit is not 64 to 65,507 bytes. */
 uint32_t mold_packer_end(mold_packer *packer, const uint8_t session[10], uint64_t sequence);
 
 /* ---- Handles ---- */
@@ -228,35 +253,35 @@ void mold_free(void *handle);
 /* ---- Listener: two lines and a server's responses, delivered in order ---- */
 
 /* What a datagram brought. */
-typedef struct mold_told {
-    uint64_t detail; /* the number that goes with a refusal; otherwise 0. After a refusal the counts are 0 */
-    uint32_t handed; /* the number of messages that it added to the end of the batch: its own and stored ones */
-    uint32_t kept;   /* the number of its messages that were stored above a gap */
-    uint32_t beyond; /* the number of its messages above the window: they are dropped and must be received again */
-    uint32_t unused; /* padding, which is never written */
-} mold_told;
+typedef struct mold_taken {
+    uint64_t detail;    /* the number that goes with a refusal; otherwise 0. After a refusal the counts are 0 */
+    uint32_t delivered; /* the number of messages that it added to the end of the batch: its own and stored ones */
+    uint32_t kept;      /* the number of its messages that were stored above a gap */
+    uint32_t dropped;   /* the number of its messages above the window, which must be received again */
+    uint32_t unused;    /* padding, which is never written */
+} mold_taken;
 
 /* What a datagram delivers without a copy. After a refusal all fields except `detail` are 0. */
-typedef struct mold_heard {
-    uint64_t detail; /* the number that goes with a refusal; otherwise 0 */
-    size_t offset;   /* the offset in the datagram at which the blocks of its delivered messages begin. They are its last
-                        bytes. A block is the message's length in two bytes, high byte first, and then the message */
-    uint32_t own;    /* the number of these messages */
-    uint32_t stored; /* the number of stored messages that are delivered after them: all messages of the batch */
-    uint32_t kept;   /* the number of its messages that were stored above a gap */
-    uint32_t beyond; /* the number of its messages above the window: they are dropped and must be received again */
-} mold_heard;
+typedef struct mold_delivery {
+    uint64_t detail;  /* the number that goes with a refusal; otherwise 0 */
+    size_t offset;    /* the offset in the datagram at which the blocks of its delivered messages begin. They are its
+                         last bytes. A block is the message's length in two bytes, high byte first, and the message */
+    uint32_t own;     /* the number of these messages */
+    uint32_t stored;  /* the number of stored messages that are delivered after them: all messages of the batch */
+    uint32_t kept;    /* the number of its messages that were stored above a gap */
+    uint32_t dropped; /* the number of its messages above the window, which must be received again */
+} mold_delivery;
 
 /* What was received on a line. Both counts stop at 18446744073709551615. */
 typedef struct mold_report {
     uint64_t datagrams; /* the number of datagrams that were taken */
-    uint64_t refused;   /* the number of datagrams that were refused, except with MOLD_MEMORY */
-    uint64_t front;     /* the greatest top of a packet that was taken, or the first number of the listener if that is greater.
-                           A packet's top is its sequence number plus its number of messages */
+    uint64_t refused;   /* the number of datagrams that were refused, except with MOLD_E_MEMORY */
+    uint64_t front;     /* the greatest top of a packet that was taken, or the first number of the listener if that is
+                           greater. A packet's top is its sequence number plus its number of messages */
 } mold_report;
 
 /* Where a datagram came from. */
-enum {
+enum mold_line {
     MOLD_LINE_A = 0,
     MOLD_LINE_B = 1,
     MOLD_ANSWER = 2 /* a server's response, which no line's report counts */
@@ -265,99 +290,99 @@ enum {
 /* Makes a listener for a session. It delivers the messages from number `next` on. A message above a gap is stored if
  * its number is less than N + `window`, where N is the number of the next message to deliver.
  *
- *   MOLD_BROKEN     the handle is not empty.
- *   MOLD_NEXT_ZERO  next is 0.
- *   MOLD_WINDOW     window is not 1 to 1,048,576.
- *   MOLD_MEMORY     an allocation failed; the handle is empty. */
+ *   MOLD_E_BROKEN     the handle is not empty.
+ *   MOLD_E_NEXT_ZERO  next is 0.
+ *   MOLD_E_WINDOW     window is not 1 to 1,048,576.
+ *   MOLD_E_MEMORY     an allocation failed; the handle is empty. */
 uint32_t mold_listener_new(mold_listener *listener, const uint8_t session[10], uint64_t next, uint32_t window);
 
 /* Takes a datagram of a line, or a server's response. Messages that are next in order join the batch: those of the
  * datagram, and then stored ones. Messages above a gap are stored. Messages that were delivered or stored before are
  * ignored.
  *
- *   MOLD_DONE           `*told` states what it brought.
- *   MOLD_BROKEN         the handle does not hold a listener.
- *   MOLD_LINE           line is not MOLD_LINE_A, MOLD_LINE_B or MOLD_ANSWER.
- *   MOLD_SHORT, MOLD_BLOCK_CUT, MOLD_TRAILING
- *                       the bytes do not encode a packet; `told->detail` is as `packet->detail` of mold_decode.
- *   MOLD_WRONG_SESSION  the packet belongs to another session.
- *   MOLD_SEQUENCE_ZERO  its sequence number is 0.
- *   MOLD_PAST_LAST      it has a message with a number above 18446744073709551614.
- *   MOLD_END_CONFLICT   it states an end of the session other than the known end, `told->detail`.
- *   MOLD_END_BELOW      it ends the session below `told->detail`, the greatest known top.
- *   MOLD_PAST_END       its top is above `told->detail`, the known end.
- *   MOLD_CONFLICT       its message with number `told->detail` differs from the stored one. If several messages differ,
- *                       this is the least number.
- *   MOLD_MEMORY         an allocation failed.
+ *   MOLD_DONE             `*taken` states what it brought.
+ *   MOLD_E_BROKEN         the handle does not hold a listener.
+ *   MOLD_E_LINE           line is not MOLD_LINE_A, MOLD_LINE_B or MOLD_ANSWER.
+ *   MOLD_E_SHORT, MOLD_E_BLOCK_CUT, MOLD_E_TRAILING
+ *                         the bytes do not encode a packet; `taken->detail` is as `packet->detail` of mold_decode.
+ *   MOLD_E_WRONG_SESSION  the packet belongs to another session.
+ *   MOLD_E_SEQUENCE_ZERO  its sequence number is 0.
+ *   MOLD_E_PAST_LAST      it has a message with a number above 18446744073709551614.
+ *   MOLD_E_END_CONFLICT   it states an end of the session other than the known end, `taken->detail`.
+ *   MOLD_E_END_BELOW      it ends the session below `taken->detail`, the greatest known top.
+ *   MOLD_E_PAST_END       its top is above `taken->detail`, the known end.
+ *   MOLD_E_CONFLICT       its message with number `taken->detail` differs from the stored one. If several messages
+ *                         differ, this is the least number.
+ *   MOLD_E_MEMORY         an allocation failed.
  *
- * After a refusal the listener is as before, except that the line's report counts the datagram as refused. MOLD_MEMORY
- * is not counted. */
+ * After a refusal the listener is as before, except that the line's report counts the datagram as refused.
+ * MOLD_E_MEMORY is not counted. */
 uint32_t mold_listener_take(mold_listener *listener, uint32_t line, const uint8_t *bytes, size_t length,
-                            mold_told *told);
+                            mold_taken *taken);
 
 /* Takes a datagram as mold_listener_take does, but does not copy the messages that the datagram itself delivers. They
- * are in the datagram, from `heard->offset` on. First the batch is emptied, so slices of it are no longer valid. Then it
- * gets the stored messages that are delivered after those of the datagram. The number of the first delivered message is
- * what mold_listener_next returned before the call.
+ * are in the datagram, from `delivery->offset` on. First the batch is emptied, so slices of it are no longer valid.
+ * Then it gets the stored messages that are delivered after those of the datagram. The number of the first delivered
+ * message is what mold_listener_next returned before the call.
  *
- * The codes are those of mold_listener_take, with `heard->detail` as the number. MOLD_MEMORY is only possible if
+ * The codes are those of mold_listener_take, with `delivery->detail` as the number. MOLD_E_MEMORY is only possible if
  * messages have to be stored, or stored ones delivered. After a refusal the batch is empty, and otherwise the listener
- * is as after a refusal of mold_listener_take. With MOLD_BROKEN and MOLD_LINE nothing is written, and the batch keeps
- * its messages. */
+ * is as after a refusal of mold_listener_take. With MOLD_E_BROKEN and MOLD_E_LINE nothing is written, and the batch
+ * keeps its messages. */
 uint32_t mold_listener_hear(mold_listener *listener, uint32_t line, const uint8_t *bytes, size_t length,
-                            mold_heard *heard);
+                            mold_delivery *delivery);
 
 /* The batch: the messages that were delivered since the last mold_listener_clear, in order. Read it after each datagram
  * or after many. It is in the listener's memory, and grows until it is cleared. mold_listener_hear empties it too. */
 
 /* Returns the number of messages of the batch. */
-size_t mold_listener_count(mold_listener *listener);
+size_t mold_listener_count(const mold_listener *listener);
 
 /* Returns the number of the first message of the batch; 0 if the batch is empty. Add i to it for the number
  * of the message at index i. */
-uint64_t mold_listener_first(mold_listener *listener);
+uint64_t mold_listener_first(const mold_listener *listener);
 
 /* Returns a slice of the message at index i of the batch, i from 0.
  *
- *   MOLD_BROKEN  the handle does not hold a listener.
- *   MOLD_ABSENT  the batch has no message at this index; writes nothing. */
-uint32_t mold_listener_message(mold_listener *listener, size_t i, mold_bytes *message);
+ *   MOLD_E_BROKEN  the handle does not hold a listener.
+ *   MOLD_E_ABSENT  the batch has no message at this index; writes nothing. */
+uint32_t mold_listener_message(const mold_listener *listener, size_t i, mold_bytes *message);
 
 /* Writes slices of the first messages of the batch, as many as the array has room for, and returns how many. The other
  * elements of the array keep their values. `room` is the number of elements. */
-size_t mold_listener_messages(mold_listener *listener, mold_bytes *messages, size_t room);
+size_t mold_listener_messages(const mold_listener *listener, mold_bytes *messages, size_t room);
 
 /* Copies the message at index i of the batch to the start of a buffer, and writes its length to *size. The other bytes
  * of the buffer keep their values.
  *
- *   MOLD_BROKEN  the handle does not hold a listener.
- *   MOLD_ABSENT  the batch has no message at this index; writes nothing.
- *   MOLD_ROOM    the message is longer than the buffer: *size is its length, and the buffer keeps its bytes. */
-uint32_t mold_listener_copy(mold_listener *listener, size_t i, uint8_t *buffer, size_t room, size_t *size);
+ *   MOLD_E_BROKEN  the handle does not hold a listener.
+ *   MOLD_E_ABSENT  the batch has no message at this index; writes nothing.
+ *   MOLD_E_ROOM    the message is longer than the buffer: *size is its length, and the buffer keeps its bytes. */
+uint32_t mold_listener_copy(const mold_listener *listener, size_t i, uint8_t *buffer, size_t room, size_t *size);
 
 /* Whether messages are missing. If so, `request` is the request packet to send to the re-request server. It asks for
  * the messages of the first gap, at most 65,534. Otherwise `request` keeps its bytes. */
-bool mold_listener_wanted(mold_listener *listener, uint8_t request[20]);
+bool mold_listener_wanted(const mold_listener *listener, uint8_t request[20]);
 
 /* Returns the number of the next message to deliver. */
-uint64_t mold_listener_next(mold_listener *listener);
+uint64_t mold_listener_next(const mold_listener *listener);
 
 /* Returns the greatest known top: the greatest top of a packet that was taken, or the number at which the
  * listener began if that is greater. All messages that are known to exist have numbers below it. */
-uint64_t mold_listener_known(mold_listener *listener);
+uint64_t mold_listener_known(const mold_listener *listener);
 
 /* Whether the end of the session is known and all messages below it were delivered. */
-bool mold_listener_finished(mold_listener *listener);
+bool mold_listener_finished(const mold_listener *listener);
 
 /* Writes the report of line MOLD_LINE_A or MOLD_LINE_B. The lag of a line is mold_listener_known minus its `front`.
  *
- *   MOLD_BROKEN  the handle does not hold a listener.
- *   MOLD_LINE    line is neither of them. */
-uint32_t mold_listener_report(mold_listener *listener, uint32_t line, mold_report *report);
+ *   MOLD_E_BROKEN  the handle does not hold a listener.
+ *   MOLD_E_LINE    line is neither of them. */
+uint32_t mold_listener_report(const mold_listener *listener, uint32_t line, mold_report *report);
 
 /* Empties the batch, and keeps its memory for later messages. Slices of the batch are no longer valid.
  *
- *   MOLD_BROKEN  the handle does not hold a listener. */
+ *   MOLD_E_BROKEN  the handle does not hold a listener. */
 uint32_t mold_listener_clear(mold_listener *listener);
 
 /* ---- Publisher: messages in datagrams, and their journal ---- */
@@ -365,60 +390,60 @@ uint32_t mold_listener_clear(mold_listener *listener);
 /* Makes a publisher of a session without messages. A datagram has at most `limit` bytes, and a message at most
  * `limit` - 22 bytes.
  *
- *   MOLD_BROKEN  the handle is not empty.
- *   MOLD_LIMIT   limit is not 64 to 65,507.
- *   MOLD_MEMORY  an allocation failed; the handle is empty. */
+ *   MOLD_E_BROKEN  the handle is not empty.
+ *   MOLD_E_LIMIT   limit is not 64 to 65,507.
+ *   MOLD_E_MEMORY  an allocation failed; the handle is empty. */
 uint32_t mold_publisher_new(mold_publisher *publisher, const uint8_t session[10], size_t limit);
 
 /* Publishes a message: it gets the next sequence number, *number, and the journal keeps its bytes.
  *
- *   MOLD_BROKEN    the handle does not hold a publisher.
- *   MOLD_CLOSED    the session is closed.
- *   MOLD_TOO_LONG  the message is longer than the limit allows; *number is its length.
- *   MOLD_NUMBERS   18446744073709551614 messages were published.
- *   MOLD_MEMORY    an allocation failed. */
+ *   MOLD_E_BROKEN    the handle does not hold a publisher.
+ *   MOLD_E_CLOSED    the session is closed.
+ *   MOLD_E_TOO_LONG  the message is longer than the limit allows; *number is its length.
+ *   MOLD_E_NUMBERS   18446744073709551614 messages were published.
+ *   MOLD_E_MEMORY    an allocation failed. */
 uint32_t mold_publisher_publish(mold_publisher *publisher, const uint8_t *message, size_t length, uint64_t *number);
 
 /* Whether the unsent messages do not all fit in one datagram. A message is unsent until mold_publisher_datagram has
  * written it. To fill datagrams, call mold_publisher_datagram after each message as long
  * as this function returns true. To send without delay, call it once after each message. */
-bool mold_publisher_is_full(mold_publisher *publisher);
+bool mold_publisher_is_full(const mold_publisher *publisher);
 
 /* Writes a datagram of the unsent messages, in order and as many as fit, to the start of a buffer. *size is its length.
  * The buffer must have at least as many bytes as the limit.
  *
- *   MOLD_BROKEN  the handle does not hold a publisher.
- *   MOLD_ROOM    the buffer is shorter than the limit; *size is the limit.
- *   MOLD_ABSENT  no message is unsent; *size is 0. */
+ *   MOLD_E_BROKEN  the handle does not hold a publisher.
+ *   MOLD_E_ROOM    the buffer is shorter than the limit; *size is the limit.
+ *   MOLD_E_ABSENT  no message is unsent; *size is 0. */
 uint32_t mold_publisher_datagram(mold_publisher *publisher, uint8_t *buffer, size_t room, size_t *size);
 
 /* Writes a heartbeat, which has 20 bytes. Its number is that of the first unsent message.
  *
- *   MOLD_BROKEN  the handle does not hold a publisher.
- *   MOLD_ROOM    the buffer is shorter than the limit; *size is the limit.
- *   MOLD_ABSENT  the session is closed; *size is 0. */
-uint32_t mold_publisher_heartbeat(mold_publisher *publisher, uint8_t *buffer, size_t room, size_t *size);
+ *   MOLD_E_BROKEN  the handle does not hold a publisher.
+ *   MOLD_E_ROOM    the buffer is shorter than the limit; *size is the limit.
+ *   MOLD_E_ABSENT  the session is closed; *size is 0. */
+uint32_t mold_publisher_heartbeat(const mold_publisher *publisher, uint8_t *buffer, size_t room, size_t *size);
 
 /* Closes the session: no more messages can be published. Closing it again succeeds and changes nothing. *number is 0
  * on success.
  *
- *   MOLD_BROKEN  the handle does not hold a publisher.
- *   MOLD_UNSENT  *number messages are unsent. */
+ *   MOLD_E_BROKEN  the handle does not hold a publisher.
+ *   MOLD_E_UNSENT  *number messages are unsent. */
 uint32_t mold_publisher_close(mold_publisher *publisher, uint64_t *number);
 
 /* Writes an end packet, which has 20 bytes. Its number is one more than the number of messages.
  *
- *   MOLD_BROKEN  the handle does not hold a publisher.
- *   MOLD_ROOM    the buffer is shorter than the limit; *size is the limit.
- *   MOLD_ABSENT  the session is not closed; *size is 0. */
-uint32_t mold_publisher_end(mold_publisher *publisher, uint8_t *buffer, size_t room, size_t *size);
+ *   MOLD_E_BROKEN  the handle does not hold a publisher.
+ *   MOLD_E_ROOM    the buffer is shorter than the limit; *size is the limit.
+ *   MOLD_E_ABSENT  the session is not closed; *size is 0. */
+uint32_t mold_publisher_end(const mold_publisher *publisher, uint8_t *buffer, size_t room, size_t *size);
 
 /* Writes the journal to the start of a buffer, as a journal file of version 2, which `mold serve` and mold_server_new
  * read. *size is its length: 27 bytes, and for each message 2 bytes and the message's bytes.
  *
- *   MOLD_BROKEN  the handle does not hold a publisher.
- *   MOLD_ROOM    the buffer is too small: *size is the length of the journal, and the buffer keeps its bytes. */
-uint32_t mold_publisher_save(mold_publisher *publisher, uint8_t *buffer, size_t room, size_t *size);
+ *   MOLD_E_BROKEN  the handle does not hold a publisher.
+ *   MOLD_E_ROOM    the buffer is too small: *size is the length of the journal, and the buffer keeps its bytes. */
+uint32_t mold_publisher_save(const mold_publisher *publisher, uint8_t *buffer, size_t room, size_t *size);
 
 /* ---- Server: responses to requests, from a journal ---- */
 
@@ -434,9 +459,9 @@ typedef struct mold_plan {
  * most as many bytes as the publisher's limit. The calls below then also accept the publisher's handle, as
  * mold_server_of(&publisher).
  *
- *   MOLD_BROKEN  the handle does not hold a publisher, or the publisher responds to requests already.
- *   MOLD_BURST   burst is not 1 to 64.
- *   MOLD_MEMORY  an allocation failed. */
+ *   MOLD_E_BROKEN  the handle does not hold a publisher, or the publisher responds to requests already.
+ *   MOLD_E_BURST   burst is not 1 to 64.
+ *   MOLD_E_MEMORY  an allocation failed. */
 uint32_t mold_server_from_publisher(mold_publisher *publisher, uint16_t burst);
 
 /* Returns a publisher's handle as that of its server. */
@@ -452,18 +477,18 @@ static inline mold_server *mold_server_of(mold_publisher *publisher) {
 /* Makes a server from the bytes of a journal file of version 1, 2 or 3. Its datagrams have at most `limit` bytes, and a
  * request gets at most `burst` responses. *number is 0 if the call succeeds.
  *
- *   MOLD_BROKEN         the handle is not empty.
- *   MOLD_LIMIT          limit is not 64 to 65,507.
- *   MOLD_BURST          burst is not 1 to 64.
- *   MOLD_FILE_SHORT     the bytes end before the messages begin; *number is the number of bytes.
- *   MOLD_BAD_MAGIC      the bytes are not a journal.
- *   MOLD_BAD_FLAG       the flag, *number, is neither open nor closed.
- *   MOLD_NUMBERS        there are more messages than sequence numbers.
- *   MOLD_TOO_LONG       a message is longer than the limit allows; *number is its length.
- *   MOLD_FILE_CUT       the bytes end within message *number.
- *   MOLD_COUNT_DIFFERS  the journal has *number messages, and states another number.
- *   MOLD_DAMAGED        there is no whole record where message *number could be.
- *   MOLD_MEMORY         an allocation failed; the handle is empty.
+ *   MOLD_E_BROKEN         the handle is not empty.
+ *   MOLD_E_LIMIT          limit is not 64 to 65,507.
+ *   MOLD_E_BURST          burst is not 1 to 64.
+ *   MOLD_E_FILE_SHORT     the bytes end before the messages begin; *number is the number of bytes.
+ *   MOLD_E_BAD_MAGIC      the bytes are not a journal.
+ *   MOLD_E_BAD_FLAG       the flag, *number, is neither open nor closed.
+ *   MOLD_E_NUMBERS        there are more messages than sequence numbers.
+ *   MOLD_E_TOO_LONG       a message is longer than the limit allows; *number is its length.
+ *   MOLD_E_FILE_CUT       the bytes end within message *number.
+ *   MOLD_E_COUNT_DIFFERS  the journal has *number messages, and states another number.
+ *   MOLD_E_DAMAGED        there is no whole record where message *number could be.
+ *   MOLD_E_MEMORY         an allocation failed; the handle is empty.
  *
  * If the call makes no server, it reads the bytes once more. So it reports a fault even if an allocation failed. */
 uint32_t mold_server_new(mold_server *server, size_t limit, uint16_t burst, const uint8_t *journal, size_t length,
@@ -472,30 +497,30 @@ uint32_t mold_server_new(mold_server *server, size_t limit, uint16_t burst, cons
 /* Writes the first response to a request to the start of a buffer. *number is its length. For several responses use
  * mold_server_plan and mold_server_datagram instead.
  *
- *   MOLD_BROKEN          the handle does not hold a server.
- *   MOLD_ROOM            the buffer is shorter than the limit; *number is the limit.
- *   MOLD_REQUEST_LENGTH  the length of the request, *number, is not 20.
- *   MOLD_WRONG_SESSION   the request is for another session.
- *   MOLD_SEQUENCE_ZERO   its sequence number is 0.
- *   MOLD_EMPTY_REQUEST   its count is 0.
- *   MOLD_AHEAD           its sequence number is at least *number, one more than that of the last message. */
-uint32_t mold_server_answer(mold_server *server, const uint8_t *request, size_t length, uint8_t *buffer, size_t room,
-                            uint64_t *number);
+ *   MOLD_E_BROKEN          the handle does not hold a server.
+ *   MOLD_E_ROOM            the buffer is shorter than the limit; *number is the limit.
+ *   MOLD_E_REQUEST_LENGTH  the length of the request, *number, is not 20.
+ *   MOLD_E_WRONG_SESSION   the request is for another session.
+ *   MOLD_E_SEQUENCE_ZERO   its sequence number is 0.
+ *   MOLD_E_EMPTY_REQUEST   its count is 0.
+ *   MOLD_E_AHEAD           its sequence number is at least *number, one more than that of the last message. */
+uint32_t mold_server_answer(const mold_server *server, const uint8_t *request, size_t length, uint8_t *buffer,
+                            size_t room, uint64_t *number);
 
-/* Plans all responses to a request. The codes are those of mold_server_answer, except MOLD_ROOM. A refusal keeps
+/* Plans all responses to a request. The codes are those of mold_server_answer, except MOLD_E_ROOM. A refusal keeps
  * *plan. If the call succeeds, *number is 0. A plan is a plain struct. It may be kept as long as the session is served,
  * and discarded at any time. */
-uint32_t mold_server_plan(mold_server *server, const uint8_t *request, size_t length, mold_plan *plan,
+uint32_t mold_server_plan(const mold_server *server, const uint8_t *request, size_t length, mold_plan *plan,
                           uint64_t *number);
 
 /* Writes the next datagram of a plan to the start of a buffer, and moves the plan past its messages. *size is its
  * length.
  *
- *   MOLD_BROKEN  the handle does not hold a server, or the plan does not fit this server: it has another session,
- *                messages that the journal does not have, or more datagrams than the burst.
- *   MOLD_ROOM    the buffer is shorter than the limit; *size is the limit.
- *   MOLD_ABSENT  the plan has no remaining datagram; *size is 0. */
-uint32_t mold_server_datagram(mold_server *server, mold_plan *plan, uint8_t *buffer, size_t room, size_t *size);
+ *   MOLD_E_BROKEN  the handle does not hold a server, or the plan does not fit this server: it has another session,
+ *                  messages that the journal does not have, or more datagrams than the burst.
+ *   MOLD_E_ROOM    the buffer is shorter than the limit; *size is the limit.
+ *   MOLD_E_ABSENT  the plan has no remaining datagram; *size is 0. */
+uint32_t mold_server_datagram(const mold_server *server, mold_plan *plan, uint8_t *buffer, size_t room, size_t *size);
 
 /* ---- Checker: whether captured datagrams are one whole session ---- */
 
@@ -515,44 +540,155 @@ typedef struct mold_verdict {
 
 /* Makes a checker that has taken no datagram.
  *
- *   MOLD_BROKEN  the handle is not empty.
- *   MOLD_MEMORY  an allocation failed; the handle is empty. */
+ *   MOLD_E_BROKEN  the handle is not empty.
+ *   MOLD_E_MEMORY  an allocation failed; the handle is empty. */
 uint32_t mold_checker_new(mold_checker *checker);
 
 /* Takes a datagram. Datagrams may come in any order. The session is that of the first datagram taken. Except for
- * MOLD_BROKEN and MOLD_MEMORY, a datagram is refused exactly when no single session agrees with it and with all
+ * MOLD_E_BROKEN and MOLD_E_MEMORY, a datagram is refused exactly when no single session agrees with it and with all
  * those taken before. A refusal changes nothing. If the datagram is taken, *number is 0.
  *
- *   MOLD_BROKEN         the handle does not hold a checker.
- *   MOLD_SHORT, MOLD_BLOCK_CUT, MOLD_TRAILING
- *                       the bytes do not encode a packet; *number is as `packet->detail` of mold_decode.
- *   MOLD_WRONG_SESSION  the packet belongs to another session.
- *   MOLD_SEQUENCE_ZERO  its sequence number is 0.
- *   MOLD_PAST_LAST      it has a message with a number above 18446744073709551614.
- *   MOLD_END_CONFLICT   it states an end of the session other than the known end, *number.
- *   MOLD_END_BELOW      it ends the session below *number, the greatest known top.
- *   MOLD_PAST_END       its top is above *number, the known end.
- *   MOLD_CONFLICT       its message with number *number differs from that of an earlier datagram. If several messages
- *                       differ, this is the least number.
- *   MOLD_MEMORY         an allocation failed. */
+ *   MOLD_E_BROKEN         the handle does not hold a checker.
+ *   MOLD_E_SHORT, MOLD_E_BLOCK_CUT, MOLD_E_TRAILING
+ *                         the bytes do not encode a packet; *number is as `packet->detail` of mold_decode.
+ *   MOLD_E_WRONG_SESSION  the packet belongs to another session.
+ *   MOLD_E_SEQUENCE_ZERO  its sequence number is 0.
+ *   MOLD_E_PAST_LAST      it has a message with a number above 18446744073709551614.
+ *   MOLD_E_END_CONFLICT   it states an end of the session other than the known end, *number.
+ *   MOLD_E_END_BELOW      it ends the session below *number, the greatest known top.
+ *   MOLD_E_PAST_END       its top is above *number, the known end.
+ *   MOLD_E_CONFLICT       its message with number *number differs from that of an earlier datagram. If several messages
+ *                         differ, this is the least number.
+ *   MOLD_E_MEMORY         an allocation failed. */
 uint32_t mold_checker_take(mold_checker *checker, const uint8_t *bytes, size_t length, uint64_t *number);
 
 /* Writes whether the datagrams are one whole session: its end is known, and each message below the end was taken.
  *
- *   MOLD_BROKEN  the handle does not hold a checker.
- *   MOLD_MEMORY  an allocation failed; writes nothing. */
-uint32_t mold_checker_verdict(mold_checker *checker, mold_verdict *verdict);
+ *   MOLD_E_BROKEN  the handle does not hold a checker.
+ *   MOLD_E_MEMORY  an allocation failed; writes nothing. */
+uint32_t mold_checker_verdict(const mold_checker *checker, mold_verdict *verdict);
 
 /* Writes the missing ranges below the greatest known top, ascending, as many as the array has room for. No two of them
  * adjoin. *count is the number of all missing ranges, as in the verdict. The other elements of the array keep their
  * values. `room` is the number of elements.
  *
- *   MOLD_BROKEN  the handle does not hold a checker.
- *   MOLD_MEMORY  an allocation failed; writes nothing. */
-uint32_t mold_checker_ranges(mold_checker *checker, mold_range *ranges, size_t room, size_t *count);
+ *   MOLD_E_BROKEN  the handle does not hold a checker.
+ *   MOLD_E_MEMORY  an allocation failed; writes nothing. */
+uint32_t mold_checker_ranges(const mold_checker *checker, mold_range *ranges, size_t room, size_t *count);
 
 #ifdef __cplusplus
 }
+#endif
+
+/* ---- The names of version 0.1, which the next version removes. MOLD_NO_OLD_NAMES removes them now ---- */
+
+#ifndef MOLD_NO_OLD_NAMES
+
+#define MOLD_SHORT          MOLD_E_SHORT
+#define MOLD_BLOCK_CUT      MOLD_E_BLOCK_CUT
+#define MOLD_TRAILING       MOLD_E_TRAILING
+#define MOLD_LIMIT          MOLD_E_LIMIT
+#define MOLD_FULL           MOLD_E_FULL
+#define MOLD_BROKEN         MOLD_E_BROKEN
+#define MOLD_MEMORY         MOLD_E_MEMORY
+#define MOLD_WRONG_SESSION  MOLD_E_WRONG_SESSION
+#define MOLD_SEQUENCE_ZERO  MOLD_E_SEQUENCE_ZERO
+#define MOLD_PAST_LAST      MOLD_E_PAST_LAST
+#define MOLD_END_CONFLICT   MOLD_E_END_CONFLICT
+#define MOLD_END_BELOW      MOLD_E_END_BELOW
+#define MOLD_PAST_END       MOLD_E_PAST_END
+#define MOLD_CONFLICT       MOLD_E_CONFLICT
+#define MOLD_LINE           MOLD_E_LINE
+#define MOLD_NEXT_ZERO      MOLD_E_NEXT_ZERO
+#define MOLD_WINDOW         MOLD_E_WINDOW
+#define MOLD_ABSENT         MOLD_E_ABSENT
+#define MOLD_CLOSED         MOLD_E_CLOSED
+#define MOLD_TOO_LONG       MOLD_E_TOO_LONG
+#define MOLD_NUMBERS        MOLD_E_NUMBERS
+#define MOLD_UNSENT         MOLD_E_UNSENT
+#define MOLD_ROOM           MOLD_E_ROOM
+#define MOLD_REQUEST_LENGTH MOLD_E_REQUEST_LENGTH
+#define MOLD_EMPTY_REQUEST  MOLD_E_EMPTY_REQUEST
+#define MOLD_AHEAD          MOLD_E_AHEAD
+#define MOLD_BURST          MOLD_E_BURST
+#define MOLD_FILE_SHORT     MOLD_E_FILE_SHORT
+#define MOLD_BAD_MAGIC      MOLD_E_BAD_MAGIC
+#define MOLD_BAD_FLAG       MOLD_E_BAD_FLAG
+#define MOLD_FILE_CUT       MOLD_E_FILE_CUT
+#define MOLD_COUNT_DIFFERS  MOLD_E_COUNT_DIFFERS
+#define MOLD_DAMAGED        MOLD_E_DAMAGED
+
+#ifdef __cplusplus
+extern "C" {
+#endif
+
+/* Writes the text of mold_terminated_text without its zero byte. Use mold_code_text. */
+void mold_text(uint32_t code, mold_bytes *text);
+
+#ifdef __cplusplus
+}
+#endif
+
+/* A mold_taken and a mold_delivery with other names of the fields. mold_listener_take and mold_listener_hear accept
+ * them too. */
+typedef struct mold_told {
+    uint64_t detail;
+    uint32_t handed;
+    uint32_t kept;
+    uint32_t beyond;
+    uint32_t unused;
+} mold_told;
+
+typedef struct mold_heard {
+    uint64_t detail;
+    size_t offset;
+    uint32_t own;
+    uint32_t stored;
+    uint32_t kept;
+    uint32_t beyond;
+} mold_heard;
+
+#ifdef __cplusplus
+
+static inline uint32_t mold_listener_take(mold_listener *listener, uint32_t line, const uint8_t *bytes, size_t length,
+                                          mold_told *told) {
+    void *taken = told;
+    return mold_listener_take(listener, line, bytes, length, static_cast<mold_taken *>(taken));
+}
+
+static inline uint32_t mold_listener_hear(mold_listener *listener, uint32_t line, const uint8_t *bytes, size_t length,
+                                          mold_heard *heard) {
+    void *delivery = heard;
+    return mold_listener_hear(listener, line, bytes, length, static_cast<mold_delivery *>(delivery));
+}
+
+#else
+
+/* A parameter of such a type takes a pointer to either struct. Without __extension__, -Wpedantic would warn of it. */
+typedef union mold_taken_or_told {
+    mold_taken *taken;
+    mold_told *told;
+} mold_taken_or_told __attribute__((__transparent_union__));
+
+typedef union mold_delivery_or_heard {
+    mold_delivery *delivery;
+    mold_heard *heard;
+} mold_delivery_or_heard __attribute__((__transparent_union__));
+
+static inline uint32_t mold_listener_take_either(mold_listener *listener, uint32_t line, const uint8_t *bytes,
+                                                 size_t length, mold_taken_or_told output) {
+    return mold_listener_take(listener, line, bytes, length, output.taken);
+}
+
+static inline uint32_t mold_listener_hear_either(mold_listener *listener, uint32_t line, const uint8_t *bytes,
+                                                 size_t length, mold_delivery_or_heard output) {
+    return mold_listener_hear(listener, line, bytes, length, output.delivery);
+}
+
+#define mold_listener_take(...) (__extension__ mold_listener_take_either(__VA_ARGS__))
+#define mold_listener_hear(...) (__extension__ mold_listener_hear_either(__VA_ARGS__))
+
+#endif
 #endif
 
 /* ---- The layout that the library was compiled for ---- */
@@ -609,20 +745,20 @@ MOLD_SIZE_(mold_checker, 16);
 MOLD_FIELD_(mold_checker, at, 0);
 MOLD_FIELD_(mold_checker, live, 8);
 
-MOLD_SIZE_(mold_told, 24);
-MOLD_FIELD_(mold_told, detail, 0);
-MOLD_FIELD_(mold_told, handed, 8);
-MOLD_FIELD_(mold_told, kept, 12);
-MOLD_FIELD_(mold_told, beyond, 16);
-MOLD_FIELD_(mold_told, unused, 20);
+MOLD_SIZE_(mold_taken, 24);
+MOLD_FIELD_(mold_taken, detail, 0);
+MOLD_FIELD_(mold_taken, delivered, 8);
+MOLD_FIELD_(mold_taken, kept, 12);
+MOLD_FIELD_(mold_taken, dropped, 16);
+MOLD_FIELD_(mold_taken, unused, 20);
 
-MOLD_SIZE_(mold_heard, 32);
-MOLD_FIELD_(mold_heard, detail, 0);
-MOLD_FIELD_(mold_heard, offset, 8);
-MOLD_FIELD_(mold_heard, own, 16);
-MOLD_FIELD_(mold_heard, stored, 20);
-MOLD_FIELD_(mold_heard, kept, 24);
-MOLD_FIELD_(mold_heard, beyond, 28);
+MOLD_SIZE_(mold_delivery, 32);
+MOLD_FIELD_(mold_delivery, detail, 0);
+MOLD_FIELD_(mold_delivery, offset, 8);
+MOLD_FIELD_(mold_delivery, own, 16);
+MOLD_FIELD_(mold_delivery, stored, 20);
+MOLD_FIELD_(mold_delivery, kept, 24);
+MOLD_FIELD_(mold_delivery, dropped, 28);
 
 MOLD_SIZE_(mold_report, 24);
 MOLD_FIELD_(mold_report, datagrams, 0);
@@ -645,6 +781,20 @@ MOLD_FIELD_(mold_verdict, end, 8);
 MOLD_FIELD_(mold_verdict, ranges, 16);
 MOLD_FIELD_(mold_verdict, whole, 24);
 MOLD_FIELD_(mold_verdict, unused, 28);
+
+#ifndef MOLD_NO_OLD_NAMES
+MOLD_SIZE_(mold_told, 24);
+MOLD_FIELD_(mold_told, handed, 8);
+MOLD_FIELD_(mold_told, kept, 12);
+MOLD_FIELD_(mold_told, beyond, 16);
+
+MOLD_SIZE_(mold_heard, 32);
+MOLD_FIELD_(mold_heard, offset, 8);
+MOLD_FIELD_(mold_heard, own, 16);
+MOLD_FIELD_(mold_heard, stored, 20);
+MOLD_FIELD_(mold_heard, kept, 24);
+MOLD_FIELD_(mold_heard, beyond, 28);
+#endif
 
 #undef MOLD_FIELD_
 #undef MOLD_SIZE_

@@ -146,10 +146,10 @@ struct Sum {
 template <bool keeps_memory>
 double by_function(const Work &work, Sum &sum) {
     plain::Receiver<keeps_memory> receiver(session, 1, work.window);
-    mold_told told{};
+    mold_taken taken{};
     const Clock::time_point began = Clock::now();
     for (const Arrival &arrival : work.arrivals)
-        receiver.take(arrival.line, arrival.bytes.data(), arrival.bytes.size(), told,
+        receiver.take(arrival.line, arrival.bytes.data(), arrival.bytes.size(), taken,
                       [&sum](std::uint64_t, const std::uint8_t *at, std::size_t length) { sum.add(at, length); });
     return since(began);
 }
@@ -157,13 +157,14 @@ double by_function(const Work &work, Sum &sum) {
 /// The time of a round in which the library's listener passes messages to a function.
 double by_hearing(const Work &work, Sum &sum) {
     mold::Listener listener;
-    if (listener.open(mold::Session("BENCH"), 1, work.window) != MOLD_DONE)
+    if (listener.open(*mold::Session::of("BENCH"), 1, work.window) != mold::Code::Done)
         stop("the listener cannot be made");
-    mold_heard heard{};
+    mold_delivery delivery{};
     const Clock::time_point began = Clock::now();
     for (const Arrival &arrival : work.arrivals)
-        if (listener.hear(arrival.line, arrival.bytes, heard,
-                          [&sum](mold::Bytes message) { sum.add(message.data(), message.size()); }) != MOLD_DONE)
+        if (listener.hear(static_cast<mold::Line>(arrival.line), arrival.bytes, delivery, [&sum](mold::Bytes message) {
+                sum.add(message.data(), message.size());
+            }) != mold::Code::Done)
             stop("a datagram was refused");
     return since(began);
 }
@@ -180,8 +181,8 @@ public:
     Library &operator=(const Library &) = delete;
     ~Library() { mold_free(&listener_); }
 
-    std::uint32_t take(std::uint32_t line, const std::uint8_t *bytes, std::size_t length, mold_told &told) {
-        return mold_listener_take(&listener_, line, bytes, length, &told);
+    std::uint32_t take(std::uint32_t line, const std::uint8_t *bytes, std::size_t length, mold_taken &taken) {
+        return mold_listener_take(&listener_, line, bytes, length, &taken);
     }
 
     std::size_t messages(mold_bytes *array, std::size_t room) {
@@ -205,23 +206,23 @@ template <class Listener>
 double by_batch(const Work &work, Sum &sum) {
     Listener listener(work.window);
     std::vector<mold_bytes> room(64);
-    mold_told told{};
-    std::size_t handed = 0, taken = 0;
+    mold_taken taken{};
+    std::size_t delivered = 0, datagrams = 0;
     const Clock::time_point began = Clock::now();
     for (const Arrival &arrival : work.arrivals) {
-        if (listener.take(arrival.line, arrival.bytes.data(), arrival.bytes.size(), told) != MOLD_DONE)
+        if (listener.take(arrival.line, arrival.bytes.data(), arrival.bytes.size(), taken) != MOLD_DONE)
             stop("a datagram was refused");
-        handed += told.handed;
-        if (handed == 0 || ++taken < work.at_once)
+        delivered += taken.delivered;
+        if (delivered == 0 || ++datagrams < work.at_once)
             continue;
-        if (handed > room.size())
-            room.resize(handed);
-        if (listener.messages(room.data(), room.size()) != handed)
+        if (delivered > room.size())
+            room.resize(delivered);
+        if (listener.messages(room.data(), room.size()) != delivered)
             stop("the batch has another number of messages than were delivered");
-        for (std::size_t i = 0; i < handed; i++)
+        for (std::size_t i = 0; i < delivered; i++)
             sum.add(room[i].at, room[i].length);
         listener.clear();
-        handed = taken = 0;
+        delivered = datagrams = 0;
     }
     return since(began);
 }

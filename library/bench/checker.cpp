@@ -1,5 +1,5 @@
 // Measures a checker that has many runs of messages. In each row it takes a datagram whose messages are new, and
-// refuses a datagram with MOLD_MEMORY after it has added eight messages of it, which it then removes. Both datagrams
+// refuses a datagram with MOLD_E_MEMORY after it has added eight messages of it, which it then removes. Both datagrams
 // have 84 bytes and 32 empty messages. The table has the least time, in nanoseconds a datagram.
 //
 //     c++ -O2 -std=c++17 library/bench/checker.cpp library/out/libmold.a -o checker && ./checker
@@ -66,7 +66,7 @@ public:
         is_refusing = true;
         const Clock::time_point began = Clock::now();
         for (int i = 0; i < count; i++)
-            take(bytes, MOLD_MEMORY);
+            take(bytes, MOLD_E_MEMORY);
         const double took = since(began);
         is_refusing = false;
         return took / count;

@@ -77,12 +77,12 @@ public:
     /// Takes a datagram of a line, or a response. Calls `hand` with the number, the bytes and the length of each
     /// delivered message.
     template <class Hand>
-    std::uint32_t take(std::uint32_t line, const std::uint8_t *bytes, std::size_t length, mold_told &told,
+    std::uint32_t take(std::uint32_t line, const std::uint8_t *bytes, std::size_t length, mold_taken &taken,
                        Hand &&hand) {
         Packet packet;
         std::uint64_t detail = 0;
         const std::uint32_t code = judge(bytes, length, packet, detail);
-        told = {code == MOLD_DONE ? 0 : detail, 0, 0, 0, 0};
+        taken = {code == MOLD_DONE ? 0 : detail, 0, 0, 0, 0};
         if (code != MOLD_DONE) {
             if (line < 2)
                 reports_[line].refused++;
@@ -91,9 +91,9 @@ public:
         const std::uint64_t top = packet.sequence + packet.count;
         if (packet.count > 0 && top > next_) {
             if (packet.sequence <= next_)
-                hand_on(packet, told, hand);
+                hand_on(packet, taken, hand);
             else
-                store(packet, told);
+                store(packet, taken);
         }
         if (packet.is_end) {
             end_ = packet.sequence;
@@ -132,7 +132,7 @@ private:
     static std::uint32_t decode(const std::uint8_t *bytes, std::size_t length, Packet &packet, std::uint64_t &detail) {
         if (length < header) {
             detail = length;
-            return MOLD_SHORT;
+            return MOLD_E_SHORT;
         }
         packet.sequence = big_endian(bytes + 10);
         packet.blocks = bytes + header;
@@ -142,12 +142,12 @@ private:
         for (std::size_t i = 0; i < packet.count; i++) {
             if (length - at < 2 || length - at - 2 < length_at(bytes + at)) {
                 detail = i;
-                return MOLD_BLOCK_CUT;
+                return MOLD_E_BLOCK_CUT;
             }
             at += 2 + length_at(bytes + at);
         }
         detail = at;
-        return at == length ? MOLD_DONE : MOLD_TRAILING;
+        return at == length ? MOLD_DONE : MOLD_E_TRAILING;
     }
 
     /// The code of the first reason to refuse a datagram.
@@ -157,16 +157,16 @@ private:
             return code;
         detail = 0;
         if (std::memcmp(bytes, session_, sizeof session_) != 0)
-            return MOLD_WRONG_SESSION;
+            return MOLD_E_WRONG_SESSION;
         if (packet.sequence == 0)
-            return MOLD_SEQUENCE_ZERO;
+            return MOLD_E_SEQUENCE_ZERO;
         if (packet.count > UINT64_MAX - packet.sequence)
-            return MOLD_PAST_LAST;
+            return MOLD_E_PAST_LAST;
         if (packet.is_end)
             return judge_end(packet, detail);
         if (ended_ && packet.sequence + packet.count > end_) {
             detail = end_;
-            return MOLD_PAST_END;
+            return MOLD_E_PAST_END;
         }
         return held_ > 0 ? compare(packet, detail) : static_cast<std::uint32_t>(MOLD_DONE);
     }
@@ -174,11 +174,11 @@ private:
     std::uint32_t judge_end(const Packet &packet, std::uint64_t &detail) const {
         if (ended_ && packet.sequence != end_) {
             detail = end_;
-            return MOLD_END_CONFLICT;
+            return MOLD_E_END_CONFLICT;
         }
         if (packet.sequence < known_) {
             detail = known_;
-            return MOLD_END_BELOW;
+            return MOLD_E_END_BELOW;
         }
         return MOLD_DONE;
     }
@@ -194,7 +194,7 @@ private:
                 const std::vector<std::uint8_t> &stored = slot(number).bytes;
                 if (stored.size() != length || std::memcmp(stored.data(), at, length) != 0) {
                     detail = number;
-                    return MOLD_CONFLICT;
+                    return MOLD_E_CONFLICT;
                 }
             }
             at += length;
@@ -204,7 +204,7 @@ private:
 
     /// Delivers the messages of a packet from the next number on, and the stored ones after them.
     template <class Hand>
-    void hand_on(const Packet &packet, mold_told &told, Hand &&hand) {
+    void hand_on(const Packet &packet, mold_taken &taken, Hand &&hand) {
         const std::uint8_t *at = packet.blocks;
         std::size_t i = 0;
         for (; packet.sequence + i < next_; i++)
@@ -224,7 +224,7 @@ private:
             release(next_);
             next_++;
         }
-        told.handed = static_cast<std::uint32_t>(next_ - first);
+        taken.delivered = static_cast<std::uint32_t>(next_ - first);
     }
 
     /// Empties the slot of a number.
@@ -239,13 +239,13 @@ private:
     }
 
     /// Stores the messages of a packet within the window.
-    void store(const Packet &packet, mold_told &told) {
+    void store(const Packet &packet, mold_taken &taken) {
         const std::uint8_t *at = packet.blocks;
         for (std::size_t i = 0; i < packet.count; i++) {
             const std::size_t length = length_at(at);
             const std::uint64_t number = packet.sequence + i;
             if (number - next_ >= window_) {
-                told.beyond = static_cast<std::uint32_t>(packet.count - i);
+                taken.dropped = static_cast<std::uint32_t>(packet.count - i);
                 return;
             }
             Slot &kept = slot(number);
@@ -253,7 +253,7 @@ private:
                 kept.bytes.assign(at + 2, at + 2 + length);
                 kept.is_held = true;
                 held_++;
-                told.kept++;
+                taken.kept++;
             }
             at += 2 + length;
         }
@@ -278,9 +278,9 @@ public:
         : receiver_(session, next, window) {}
 
     [[gnu::noinline]] std::uint32_t take(std::uint32_t line, const std::uint8_t *bytes, std::size_t length,
-                                         mold_told &told) {
+                                         mold_taken &taken) {
         const auto copy = [this](std::uint64_t, const std::uint8_t *at, std::size_t size) { batch_.push(at, size); };
-        return receiver_.take(line, bytes, length, told, copy);
+        return receiver_.take(line, bytes, length, taken, copy);
     }
 
     /// Writes slices of the first messages of the batch, as many as the array has room for.

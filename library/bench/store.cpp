@@ -57,10 +57,10 @@ public:
 
     /// Takes a datagram, and empties the batch if it has messages then.
     void take(const std::vector<std::uint8_t> &bytes, std::uint32_t wanted = MOLD_DONE) {
-        mold_told told{};
-        if (mold_listener_take(&listener_, MOLD_LINE_A, bytes.data(), bytes.size(), &told) != wanted)
+        mold_taken taken{};
+        if (mold_listener_take(&listener_, MOLD_LINE_A, bytes.data(), bytes.size(), &taken) != wanted)
             stop("the listener returned another code");
-        if (told.handed > 0)
+        if (taken.delivered > 0)
             mold_listener_clear(&listener_);
     }
 
@@ -106,12 +106,12 @@ double refused(std::uint32_t window) {
         listener.take(datagram(n, 1, length));
     const std::vector<std::uint8_t> bytes = datagram(1, 1, 0);
     most = window * length / 2;
-    listener.take(bytes, MOLD_MEMORY);
+    listener.take(bytes, MOLD_E_MEMORY);
     double best = 1e18;
     for (int round = 0; round < rounds; round++) {
         const Clock::time_point began = Clock::now();
         for (std::uint64_t i = 0; i < at_once; i++)
-            listener.take(bytes, MOLD_MEMORY);
+            listener.take(bytes, MOLD_E_MEMORY);
         best = std::min(best, since(began));
     }
     most = SIZE_MAX;

@@ -189,7 +189,7 @@ static void check_frame(struct check *check, uint32_t link, struct part part, bo
     }
     check->datagrams++;
     uint32_t code = mold_checker_take(&check->checker, part.at, part.length, &number);
-    if (code == MOLD_MEMORY)
+    if (code == MOLD_E_MEMORY)
         need("datagram", code);
     check->refused = code != MOLD_DONE;
     if (check->refused) {
@@ -227,7 +227,7 @@ static void print_missing(mold_checker *checker, uint64_t count) {
 
 /* Prints the verdict, and returns the status. */
 static int print_verdict(struct check *check) {
-    mold_verdict verdict = {0, 0, 0, 0, 0};
+    mold_verdict verdict;
     need("verdict", mold_checker_verdict(&check->checker, &verdict));
     printf("datagrams %llu\n", (unsigned long long)check->datagrams);
     if (verdict.whole == 1) {

@@ -280,7 +280,7 @@ static void publish_line(struct exchange *exchange) {
         return;
     }
     uint32_t code = mold_publisher_publish(&exchange->publisher, message, length, &number);
-    if (code == MOLD_MEMORY)
+    if (code == MOLD_E_MEMORY)
         need("publish", code);
     if (code != MOLD_DONE) {
         exchange->refused = true;
@@ -328,7 +328,7 @@ static void respond(struct exchange *exchange) {
     struct sockaddr_in from;
     socklen_t length = sizeof from;
     uint8_t request[64];
-    mold_plan plan = {0, 0, 0, {0}};
+    mold_plan plan;
     uint64_t number = 0;
     size_t size = 0;
     ssize_t came;

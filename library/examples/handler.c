@@ -100,7 +100,7 @@ static void print_batch(mold_listener *listener) {
     size_t count = mold_listener_count(listener);
     uint64_t first = mold_listener_first(listener);
     for (size_t i = 0; i < count; i++) {
-        mold_bytes message = MOLD_NO_BYTES;
+        mold_bytes message;
         need("message", mold_listener_message(listener, i, &message));
         print_message(first + i, message);
     }
@@ -109,11 +109,11 @@ static void print_batch(mold_listener *listener) {
 
 /* Takes a datagram of a line, or a response. If an allocation fails, the datagram is lost, like one that never came. */
 static void take(struct handler *handler, uint32_t line, const uint8_t *bytes, size_t length) {
-    mold_told told = {0, 0, 0, 0, 0};
-    uint32_t code = mold_listener_take(&handler->listener, line, bytes, length, &told);
+    mold_taken taken;
+    uint32_t code = mold_listener_take(&handler->listener, line, bytes, length, &taken);
     if (code != MOLD_DONE) {
         fprintf(stderr, "refused %c", "ab-"[line]);
-        print_refusal(stderr, code, told.detail);
+        print_refusal(stderr, code, taken.detail);
     }
 }
 
@@ -192,7 +192,7 @@ static void turn(struct handler *handler) {
 }
 
 static void tell_line(mold_listener *listener, uint32_t line) {
-    mold_report report = {0, 0, 0};
+    mold_report report;
     need("report", mold_listener_report(listener, line, &report));
     printf("line %c datagrams %llu refused %llu front %llu lag %llu\n", "ab"[line],
            (unsigned long long)report.datagrams, (unsigned long long)report.refused, (unsigned long long)report.front,

@@ -7,6 +7,7 @@
 //! The arguments are the session and the addresses of line A, line B and the server. `./handler-rs --help` prints them.
 //! The status is 0 if it delivered the whole session, 1 if no datagram arrived for ten seconds, and 3 after an error.
 
+use std::ffi::CStr;
 use std::io::{self, ErrorKind, Write};
 use std::net::UdpSocket;
 use std::os::raw::c_void;
@@ -32,11 +33,11 @@ mod sys {
 
     #[repr(C)]
     #[derive(Default)]
-    pub struct Told {
+    pub struct Taken {
         pub detail: u64,
-        pub handed: u32,
+        pub delivered: u32,
         pub kept: u32,
-        pub beyond: u32,
+        pub dropped: u32,
         pub unused: u32,
     }
 
@@ -47,7 +48,7 @@ mod sys {
         pub length: usize,
     }
 
-    const _: () = assert!(size_of::<Listener>() == 16 && size_of::<Told>() == 24 && size_of::<Bytes>() == 16);
+    const _: () = assert!(size_of::<Listener>() == 16 && size_of::<Taken>() == 24 && size_of::<Bytes>() == 16);
 
     extern "C" {
         pub fn mold_listener_new(listener: *mut Listener, session: *const u8, next: u64, window: u32) -> u32;
@@ -56,17 +57,17 @@ mod sys {
             line: u32,
             bytes: *const u8,
             length: usize,
-            told: *mut Told,
+            taken: *mut Taken,
         ) -> u32;
-        pub fn mold_listener_count(listener: *mut Listener) -> usize;
-        pub fn mold_listener_first(listener: *mut Listener) -> u64;
-        pub fn mold_listener_message(listener: *mut Listener, i: usize, message: *mut Bytes) -> u32;
-        pub fn mold_listener_wanted(listener: *mut Listener, request: *mut u8) -> bool;
-        pub fn mold_listener_next(listener: *mut Listener) -> u64;
-        pub fn mold_listener_finished(listener: *mut Listener) -> bool;
+        pub fn mold_listener_count(listener: *const Listener) -> usize;
+        pub fn mold_listener_first(listener: *const Listener) -> u64;
+        pub fn mold_listener_message(listener: *const Listener, i: usize, message: *mut Bytes) -> u32;
+        pub fn mold_listener_wanted(listener: *const Listener, request: *mut u8) -> bool;
+        pub fn mold_listener_next(listener: *const Listener) -> u64;
+        pub fn mold_listener_finished(listener: *const Listener) -> bool;
         pub fn mold_listener_clear(listener: *mut Listener) -> u32;
         pub fn mold_free(handle: *mut c_void);
-        pub fn mold_text(code: u32, text: *mut Bytes);
+        pub fn mold_terminated_text(code: u32, text: *mut Bytes);
     }
 
     use std::mem::size_of;
@@ -89,13 +90,14 @@ struct Refused {
 impl std::fmt::Display for Refused {
     fn fmt(&self, f: &mut std::fmt::Formatter<'_>) -> std::fmt::Result {
         let mut text = sys::Bytes { at: std::ptr::null(), length: 0 };
-        // The text is valid forever.
-        let bytes = unsafe {
-            sys::mold_text(self.code, &mut text);
-            std::slice::from_raw_parts(text.at, text.length)
+        // The text is valid forever, and ends with a zero byte.
+        let text = unsafe {
+            sys::mold_terminated_text(self.code, &mut text);
+            CStr::from_ptr(text.at.cast())
         };
-        f.write_str(&String::from_utf8_lossy(bytes))?;
-        // MOLD_SHORT to MOLD_TRAILING, and MOLD_END_CONFLICT to MOLD_CONFLICT. No number goes with other refusals.
+        f.write_str(&text.to_string_lossy())?;
+        // MOLD_E_SHORT to MOLD_E_TRAILING, and MOLD_E_END_CONFLICT to MOLD_E_CONFLICT. No number goes with another
+        // refusal.
         if matches!(self.code, 1..=3 | 11..=14) {
             write!(f, " {}", self.detail)?;
         }
@@ -115,12 +117,12 @@ impl Listener {
         }
     }
 
-    fn take(&mut self, from: Origin, datagram: &[u8]) -> Result<sys::Told, Refused> {
-        let mut told = sys::Told::default();
+    fn take(&mut self, from: Origin, datagram: &[u8]) -> Result<sys::Taken, Refused> {
+        let mut taken = sys::Taken::default();
         let (at, length) = (datagram.as_ptr(), datagram.len());
-        match unsafe { sys::mold_listener_take(&mut self.0, from as u32, at, length, &mut told) } {
-            0 => Ok(told),
-            code => Err(Refused { code, detail: told.detail }),
+        match unsafe { sys::mold_listener_take(&mut self.0, from as u32, at, length, &mut taken) } {
+            0 => Ok(taken),
+            code => Err(Refused { code, detail: taken.detail }),
         }
     }
 
@@ -179,7 +181,7 @@ fn hear(listener: &mut Listener, socket: &UdpSocket, from: Origin, out: &mut imp
             Ok(length) => {
                 came = true;
                 match listener.take(from, &room[..length]) {
-                    Ok(told) if told.handed > 0 => {
+                    Ok(taken) if taken.delivered > 0 => {
                         listener.drain(|number, message| print_message(out, number, message))?
                     }
                     Ok(_) => {}

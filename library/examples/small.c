@@ -40,7 +40,7 @@ static int listening_at(const char *port) {
 int main(int count, char **words) {
     static uint8_t room[65507], request[20];
     mold_listener listener = MOLD_EMPTY;
-    mold_told told = {0, 0, 0, 0, 0};
+    mold_taken taken;
     struct sockaddr_in server;
     if (count != 5 || strlen(words[1]) != 10)
         return count == 2 && strcmp(words[1], "--help") == 0 ? usage(stdout, 0) : usage(stderr, 3);
@@ -54,11 +54,11 @@ int main(int count, char **words) {
             sendto(from[MOLD_ANSWER].fd, request, sizeof request, 0, (struct sockaddr *)&server, sizeof server);
         for (uint32_t line = MOLD_LINE_A; line <= MOLD_ANSWER; line++) {
             ssize_t length = (from[line].revents & POLLIN) ? recv(from[line].fd, room, sizeof room, 0) : -1;
-            if (length >= 0 && mold_listener_take(&listener, line, room, (size_t)length, &told) != MOLD_DONE)
+            if (length >= 0 && mold_listener_take(&listener, line, room, (size_t)length, &taken) != MOLD_DONE)
                 fprintf(stderr, "a datagram is refused\n");
         }
         for (size_t i = 0; i < mold_listener_count(&listener); i++) {
-            mold_bytes message = MOLD_NO_BYTES;
+            mold_bytes message;
             if (mold_listener_message(&listener, i, &message) == MOLD_DONE)
                 printf("%llu %zu\n", (unsigned long long)mold_listener_first(&listener) + i, message.length);
         }

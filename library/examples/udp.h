@@ -33,9 +33,7 @@ static inline void fail(const char *what, const char *why) {
 /* Ends the program if a call of the library did not succeed. */
 static inline void need(const char *what, uint32_t code) {
     if (code != MOLD_DONE) {
-        mold_bytes text = MOLD_NO_BYTES;
-        mold_text(code, &text);
-        fprintf(stderr, "%s: %.*s\n", what, (int)text.length, (const char *)text.at);
+        fprintf(stderr, "%s: %s\n", what, mold_code_text(code));
         exit(3);
     }
 }
@@ -70,12 +68,10 @@ static inline const char *value_of(const char *usage, int count, char **words, i
 
 /* Prints the text of a code, and the number that goes with it, if there is one, at the end of a line. */
 static inline void print_refusal(FILE *to, uint32_t code, uint64_t number) {
-    mold_bytes text = MOLD_NO_BYTES;
-    bool has_number = code == MOLD_SHORT || code == MOLD_BLOCK_CUT || code == MOLD_TRAILING ||
-                      code == MOLD_END_CONFLICT || code == MOLD_END_BELOW || code == MOLD_PAST_END ||
-                      code == MOLD_CONFLICT || code == MOLD_TOO_LONG;
-    mold_text(code, &text);
-    fprintf(to, " %.*s", (int)text.length, (const char *)text.at);
+    bool has_number = code == MOLD_E_SHORT || code == MOLD_E_BLOCK_CUT || code == MOLD_E_TRAILING ||
+                      code == MOLD_E_END_CONFLICT || code == MOLD_E_END_BELOW || code == MOLD_E_PAST_END ||
+                      code == MOLD_E_CONFLICT || code == MOLD_E_TOO_LONG;
+    fprintf(to, " %s", mold_code_text(code));
     if (has_number)
         fprintf(to, " %llu", (unsigned long long)number);
     fputc('\n', to);

@@ -1,5 +1,5 @@
-/* Tests that each call which may return MOLD_MEMORY succeeds when there is memory, at the limits of its ranges. The
- * contracts cannot refuse a call that always returns MOLD_MEMORY. */
+/* Tests that each call which may return MOLD_E_MEMORY succeeds when there is memory, at the limits of its ranges. The
+ * contracts cannot refuse a call that always returns MOLD_E_MEMORY. */
 #include "check.h"
 #include "test.h"
 
@@ -57,16 +57,16 @@ static void windows_of_listeners(void) {
     static const uint32_t windows[] = {1, 2, 1023, 1024, 1025, 65536, 65537, 1048575, 1048576};
     for (size_t i = 0; i < sizeof windows / sizeof *windows; i++) {
         mold_listener listener = listener_at(1, windows[i]);
-        mold_told told = {0, 0, 0, 0, 0};
+        mold_taken taken = {0, 0, 0, 0, 0};
         bool stored = windows[i] > 1;
-        CODE(take(&listener, MOLD_LINE_A, packet_of(windows[i], 1, 65485), &told), MOLD_DONE);
-        CHECK(is_told(&told, stored ? 0 : 1, stored ? 1 : 0, 0));
-        CODE(take(&listener, MOLD_LINE_B, packet_of(windows[i] + 2, 1, 65485), &told), MOLD_DONE);
-        CHECK(is_told(&told, 0, 0, 1));
+        CODE(take(&listener, MOLD_LINE_A, packet_of(windows[i], 1, 65485), &taken), MOLD_DONE);
+        CHECK(is_taken(&taken, stored ? 0 : 1, stored ? 1 : 0, 0));
+        CODE(take(&listener, MOLD_LINE_B, packet_of(windows[i] + 2, 1, 65485), &taken), MOLD_DONE);
+        CHECK(is_taken(&taken, 0, 0, 1));
         mold_free(&listener);
         listener = listener_at(UINT64_MAX - 9, windows[i]);
-        CODE(take(&listener, MOLD_ANSWER, packet_of(UINT64_MAX - 9, 9, 7000), &told), MOLD_DONE);
-        CHECK(is_told(&told, 9, 0, 0) && mold_listener_count(&listener) == 9);
+        CODE(take(&listener, MOLD_ANSWER, packet_of(UINT64_MAX - 9, 9, 7000), &taken), MOLD_DONE);
+        CHECK(is_taken(&taken, 9, 0, 0) && mold_listener_count(&listener) == 9);
         mold_free(&listener);
     }
 }

@@ -120,23 +120,23 @@ static inline datagram cut(datagram whole, size_t length) {
 }
 
 /* Passes a datagram to a listener, and frees it. */
-static inline uint32_t take(mold_listener *listener, uint32_t line, datagram given, mold_told *told) {
-    uint32_t code = mold_listener_take(listener, line, given.at, given.length, told);
+static inline uint32_t take(mold_listener *listener, uint32_t line, datagram given, mold_taken *taken) {
+    uint32_t code = mold_listener_take(listener, line, given.at, given.length, taken);
     free(given.at);
     return code;
 }
 
 /* Passes a datagram to a listener without a copy, and frees it. */
-static inline uint32_t hear(mold_listener *listener, uint32_t line, datagram given, mold_heard *heard) {
-    uint32_t code = mold_listener_hear(listener, line, given.at, given.length, heard);
+static inline uint32_t hear(mold_listener *listener, uint32_t line, datagram given, mold_delivery *delivery) {
+    uint32_t code = mold_listener_hear(listener, line, given.at, given.length, delivery);
     free(given.at);
     return code;
 }
 
-static inline bool is_heard(const mold_heard *heard, size_t offset, uint32_t own, uint32_t stored, uint32_t kept,
-                            uint32_t beyond) {
-    return heard->detail == 0 && heard->offset == offset && heard->own == own && heard->stored == stored &&
-           heard->kept == kept && heard->beyond == beyond;
+static inline bool is_delivery(const mold_delivery *delivery, size_t offset, uint32_t own, uint32_t stored,
+                               uint32_t kept, uint32_t dropped) {
+    return delivery->detail == 0 && delivery->offset == offset && delivery->own == own && delivery->stored == stored &&
+           delivery->kept == kept && delivery->dropped == dropped;
 }
 
 static inline mold_listener listener_at(uint64_t next, uint32_t window) {
@@ -145,8 +145,8 @@ static inline mold_listener listener_at(uint64_t next, uint32_t window) {
     return made;
 }
 
-static inline bool is_told(const mold_told *told, uint32_t handed, uint32_t kept, uint32_t beyond) {
-    return told->handed == handed && told->kept == kept && told->beyond == beyond;
+static inline bool is_taken(const mold_taken *taken, uint32_t delivered, uint32_t kept, uint32_t dropped) {
+    return taken->delivered == delivered && taken->kept == kept && taken->dropped == dropped;
 }
 
 /* Whether the message at index i of the batch is `length` bytes of one value, both as a slice and as a copy. */
@@ -216,7 +216,7 @@ static inline uint32_t plan(mold_server *server, const char *digits, mold_plan *
 }
 
 /* Prints the counts, and returns the exit status. */
-static inline int told_checks(void) {
+static inline int report_checks(void) {
     printf("%lu checks, %lu failed\n", checks, faults);
     return faults == 0 ? 0 : 1;
 }

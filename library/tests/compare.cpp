@@ -99,7 +99,8 @@ class Pair {
 public:
     Pair(std::uint64_t next, std::uint32_t window) : plain_(session, next, window) {
         check(mold_listener_new(&listener_, session, next, window) == MOLD_DONE, "a listener cannot be made", 0);
-        check(hearing_.open(mold::Session("COMPARE"), next, window) == MOLD_DONE, "a listener cannot be made", 0);
+        check(hearing_.open(*mold::Session::of("COMPARE"), next, window) == mold::Code::Done,
+              "a listener cannot be made", 0);
     }
 
     Pair(const Pair &) = delete;
@@ -107,39 +108,40 @@ public:
     ~Pair() { mold_free(&listener_); }
 
     void take(std::uint32_t line, const Bytes &bytes, unsigned long place) {
-        mold_told told{}, other{};
+        mold_taken taken{}, other{};
         plain::Batch batch;
         const std::uint64_t first = plain_.next();
         const std::uint32_t wanted = plain_.take(
             line, bytes.data(), bytes.size(), other,
             [&batch](std::uint64_t, const std::uint8_t *at, std::size_t length) { batch.push(at, length); });
-        const std::uint32_t code = mold_listener_take(&listener_, line, bytes.data(), bytes.size(), &told);
+        const std::uint32_t code = mold_listener_take(&listener_, line, bytes.data(), bytes.size(), &taken);
         codes[code % 34]++;
-        check(code == wanted && told.detail == other.detail, "the codes or their numbers differ", place);
-        check(told.handed == other.handed && told.kept == other.kept && told.beyond == other.beyond,
+        check(code == wanted && taken.detail == other.detail, "the codes or their numbers differ", place);
+        check(taken.delivered == other.delivered && taken.kept == other.kept && taken.dropped == other.dropped,
               "the counts differ", place);
-        hear(line, bytes, told, code, batch, place);
+        hear(line, bytes, taken, code, batch, place);
         compare_batch(batch, first, place);
         compare_state(listener_, place);
         compare_state(*hearing_.get(), place);
     }
 
-    std::uint64_t next() { return mold_listener_next(&listener_); }
+    std::uint64_t next() const { return mold_listener_next(&listener_); }
 
 private:
-    void hear(std::uint32_t line, const Bytes &bytes, const mold_told &told, std::uint32_t wanted,
+    void hear(std::uint32_t line, const Bytes &bytes, const mold_taken &taken, std::uint32_t wanted,
               const plain::Batch &batch, unsigned long place) {
-        mold_heard heard{};
+        mold_delivery delivery{};
         std::size_t i = 0;
-        const std::uint32_t code = hearing_.hear(line, bytes, heard, [&](mold::Bytes message) {
+        const mold::Code code = hearing_.hear(static_cast<mold::Line>(line), bytes, delivery, [&](mold::Bytes message) {
             check(i < batch.size() && message.size() == batch[i].length &&
                       (message.empty() || std::memcmp(message.data(), batch[i].at, message.size()) == 0),
                   "a message that was not copied differs", place);
             i++;
         });
-        check(code == wanted && heard.detail == told.detail, "the codes without copies differ", place);
-        check(i == batch.size() && heard.own + heard.stored == told.handed && heard.kept == told.kept &&
-                  heard.beyond == told.beyond && hearing_.count() == heard.stored,
+        check(code == static_cast<mold::Code>(wanted) && delivery.detail == taken.detail,
+              "the codes without copies differ", place);
+        check(i == batch.size() && delivery.own + delivery.stored == taken.delivered && delivery.kept == taken.kept &&
+                  delivery.dropped == taken.dropped && hearing_.count() == delivery.stored,
               "the counts without copies differ", place);
     }
 
@@ -157,7 +159,7 @@ private:
         check(mold_listener_clear(&listener_) == MOLD_DONE, "the batch cannot be cleared", place);
     }
 
-    void compare_state(mold_listener &listener, unsigned long place) {
+    void compare_state(const mold_listener &listener, unsigned long place) {
         check(mold_listener_next(&listener) == plain_.next() && mold_listener_known(&listener) == plain_.known() &&
                   mold_listener_finished(&listener) == plain_.finished(),
               "the progress differs", place);

@@ -1,6 +1,6 @@
 /* Tests the calls when allocations fail: each allocation once alone, and once together with all later ones. The call
- * then returns MOLD_MEMORY and changes nothing. If it is made again with memory, it succeeds. At the end all memory is
- * freed.
+ * then returns MOLD_E_MEMORY and changes nothing. If it is made again with memory, it succeeds. At the end all memory
+ * is freed.
  *
  *     cd library/tests && cc -std=c99 failing.c ../out/libmold.a -o failing && ./failing
  *
@@ -25,7 +25,7 @@ typedef union front {
 static unsigned long left;
 static bool all_fail;
 /* The numbers of failed allocations, of allocations that are not freed, and of successful allocations. */
-static unsigned long refused, live, taken;
+static unsigned long refused, live, allocations;
 
 memory rattle_alloc(size_t size, size_t align);
 memory rattle_realloc(void *old, size_t used, size_t size, size_t align);
@@ -51,7 +51,7 @@ memory rattle_alloc(size_t size, size_t align) {
     at->asked.size = size;
     at->asked.align = align;
     live++;
-    taken++;
+    allocations++;
     made.had = 1;
     made.at = at + 1;
     return made;
@@ -111,11 +111,11 @@ static uint64_t sum_of_publisher(mold_publisher *publisher) {
     return mixed(mixed(mold_publisher_is_full(publisher), journal, size), heartbeat, length);
 }
 
-/* Checks that a call returned MOLD_MEMORY exactly when an allocation failed in it. `before` is the number of failed
+/* Checks that a call returned MOLD_E_MEMORY exactly when an allocation failed in it. `before` is the number of failed
  * allocations before the call. Returns whether to make the call again. */
 static bool again(uint32_t code, unsigned long before) {
-    CHECK((code == MOLD_MEMORY) == (refused > before));
-    return code == MOLD_MEMORY && !all_fail;
+    CHECK((code == MOLD_E_MEMORY) == (refused > before));
+    return code == MOLD_E_MEMORY && !all_fail;
 }
 
 /* ---- Calls that allocate ---- */
@@ -127,26 +127,26 @@ static uint32_t try_listener(mold_listener *listener) {
     return again(code, before) ? mold_listener_new(listener, session, 1, 64) : code;
 }
 
-static uint32_t try_take(mold_listener *listener, datagram given, mold_told *told) {
+static uint32_t try_take(mold_listener *listener, datagram given, mold_taken *taken) {
     unsigned long before = refused;
     uint64_t sum = sum_of_listener(listener);
-    uint32_t code = mold_listener_take(listener, MOLD_LINE_A, given.at, given.length, told);
-    CHECK(code != MOLD_MEMORY || sum == sum_of_listener(listener));
+    uint32_t code = mold_listener_take(listener, MOLD_LINE_A, given.at, given.length, taken);
+    CHECK(code != MOLD_E_MEMORY || sum == sum_of_listener(listener));
     if (again(code, before))
-        code = mold_listener_take(listener, MOLD_LINE_A, given.at, given.length, told);
+        code = mold_listener_take(listener, MOLD_LINE_A, given.at, given.length, taken);
     free(given.at);
     return code;
 }
 
 /* The same without a copy. The batch is empty before, since a refusal empties it. */
-static uint32_t try_hear(mold_listener *listener, datagram given, mold_heard *heard) {
+static uint32_t try_hear(mold_listener *listener, datagram given, mold_delivery *delivery) {
     unsigned long before = refused;
     CHECK(mold_listener_clear(listener) == MOLD_DONE);
     uint64_t sum = sum_of_listener(listener);
-    uint32_t code = mold_listener_hear(listener, MOLD_LINE_A, given.at, given.length, heard);
-    CHECK(code != MOLD_MEMORY || (sum == sum_of_listener(listener) && heard->own == 0 && heard->stored == 0));
+    uint32_t code = mold_listener_hear(listener, MOLD_LINE_A, given.at, given.length, delivery);
+    CHECK(code != MOLD_E_MEMORY || (sum == sum_of_listener(listener) && delivery->own == 0 && delivery->stored == 0));
     if (again(code, before))
-        code = mold_listener_hear(listener, MOLD_LINE_A, given.at, given.length, heard);
+        code = mold_listener_hear(listener, MOLD_LINE_A, given.at, given.length, delivery);
     free(given.at);
     return code;
 }
@@ -155,7 +155,7 @@ static uint32_t try_publish(mold_publisher *publisher, int value, size_t length)
     unsigned long before = refused;
     uint64_t number = 0, sum = sum_of_publisher(publisher);
     uint32_t code = publish(publisher, value, length, &number);
-    CHECK(code != MOLD_MEMORY || sum == sum_of_publisher(publisher));
+    CHECK(code != MOLD_E_MEMORY || sum == sum_of_publisher(publisher));
     return again(code, before) ? publish(publisher, value, length, &number) : code;
 }
 
@@ -179,9 +179,9 @@ static uint32_t try_check(mold_checker *checker, datagram given) {
 
 /* ---- Runs in which allocations fail ---- */
 
-/* Whether a call succeeded. It may return MOLD_MEMORY only in a run in which all later allocations fail. */
+/* Whether a call succeeded. It may return MOLD_E_MEMORY only in a run in which all later allocations fail. */
 static bool done(uint32_t code) {
-    CHECK(code == MOLD_DONE || (all_fail && code == MOLD_MEMORY));
+    CHECK(code == MOLD_DONE || (all_fail && code == MOLD_E_MEMORY));
     return code == MOLD_DONE;
 }
 
@@ -203,18 +203,18 @@ static datagram varied(uint64_t sequence, uint16_t count) {
 
 static void run_listener(void) {
     mold_listener listener = MOLD_EMPTY;
-    mold_told told = {0, 0, 0, 0, 0};
+    mold_taken taken = {0, 0, 0, 0, 0};
     if (done(try_listener(&listener))) {
         for (uint64_t number = 40; number > 3; number -= 2)
-            done(try_take(&listener, varied(number, 2), &told));
-        done(try_take(&listener, varied(2, 1), &told));
-        done(try_take(&listener, varied(1, 3), &told));
-        CHECK(all_fail || (mold_listener_next(&listener) == 42 && told.handed == 41));
-        done(try_take(&listener, varied(30, 20), &told));
-        CHECK(all_fail || (mold_listener_next(&listener) == 50 && told.handed == 8));
-        CHECK(try_take(&listener, packet_of(90, 0, 0), &told) == MOLD_DONE);
+            done(try_take(&listener, varied(number, 2), &taken));
+        done(try_take(&listener, varied(2, 1), &taken));
+        done(try_take(&listener, varied(1, 3), &taken));
+        CHECK(all_fail || (mold_listener_next(&listener) == 42 && taken.delivered == 41));
+        done(try_take(&listener, varied(30, 20), &taken));
+        CHECK(all_fail || (mold_listener_next(&listener) == 50 && taken.delivered == 8));
+        CHECK(try_take(&listener, packet_of(90, 0, 0), &taken) == MOLD_DONE);
         CHECK(mold_listener_clear(&listener) == MOLD_DONE);
-        done(try_take(&listener, varied(mold_listener_next(&listener), 3), &told));
+        done(try_take(&listener, varied(mold_listener_next(&listener), 3), &taken));
         CHECK(all_fail || mold_listener_count(&listener) == 3);
     }
     mold_free(&listener);
@@ -223,21 +223,22 @@ static void run_listener(void) {
 /* The same datagrams, which are not copied. Those without a gap take no memory. */
 static void run_without_copies(void) {
     mold_listener listener = MOLD_EMPTY;
-    mold_heard heard = {0, 0, 0, 0, 0, 0};
+    mold_delivery delivery = {0, 0, 0, 0, 0, 0};
     if (done(try_listener(&listener))) {
         for (uint64_t number = 40; number > 3; number -= 2)
-            done(try_hear(&listener, varied(number, 2), &heard));
-        done(try_hear(&listener, varied(2, 1), &heard));
-        done(try_hear(&listener, varied(1, 3), &heard));
-        CHECK(all_fail || (mold_listener_next(&listener) == 42 && heard.own == 3 && heard.stored == 38));
-        done(try_hear(&listener, varied(30, 20), &heard));
-        CHECK(all_fail || (mold_listener_next(&listener) == 50 && heard.own == 8 && heard.stored == 0));
+            done(try_hear(&listener, varied(number, 2), &delivery));
+        done(try_hear(&listener, varied(2, 1), &delivery));
+        done(try_hear(&listener, varied(1, 3), &delivery));
+        CHECK(all_fail || (mold_listener_next(&listener) == 42 && delivery.own == 3 && delivery.stored == 38));
+        done(try_hear(&listener, varied(30, 20), &delivery));
+        CHECK(all_fail || (mold_listener_next(&listener) == 50 && delivery.own == 8 && delivery.stored == 0));
         uint64_t next = mold_listener_next(&listener);
         if (mold_listener_known(&listener) == next) {
             unsigned long before = refused;
-            CHECK(try_hear(&listener, varied(next, 3), &heard) == MOLD_DONE && heard.own == 3 && refused == before);
+            CHECK(try_hear(&listener, varied(next, 3), &delivery) == MOLD_DONE);
+            CHECK(delivery.own == 3 && refused == before);
         }
-        CHECK(try_hear(&listener, packet_of(90, 0, 0), &heard) == MOLD_DONE);
+        CHECK(try_hear(&listener, packet_of(90, 0, 0), &delivery) == MOLD_DONE);
     }
     mold_free(&listener);
 }
@@ -305,8 +306,8 @@ static void run_checker(void) {
 
 /* Files with a fault. Their code is the same if all allocations fail, and no server is made. */
 static void run_faulty_journals(void) {
-    static const uint32_t codes[] = {MOLD_FILE_SHORT, MOLD_BAD_MAGIC, MOLD_FILE_CUT, MOLD_TOO_LONG, MOLD_FILE_CUT,
-                                     MOLD_BAD_FLAG, MOLD_COUNT_DIFFERS, MOLD_DAMAGED};
+    static const uint32_t codes[] = {MOLD_E_FILE_SHORT, MOLD_E_BAD_MAGIC, MOLD_E_FILE_CUT,      MOLD_E_TOO_LONG,
+                                     MOLD_E_FILE_CUT,   MOLD_E_BAD_FLAG,  MOLD_E_COUNT_DIFFERS, MOLD_E_DAMAGED};
     static const uint64_t numbers[] = {17, 0, 5, 43, 1, 2, 2, 2};
     for (size_t i = 0; i < sizeof codes / sizeof *codes; i++) {
         datagram files[] = {cut(five_messages(), 17), of_length(200), cut(five_messages(), 18 + 5 * 22 - 1),
@@ -342,10 +343,10 @@ static void each_in_turn(const char *name, void (*run)(void)) {
     while (places > 0 && fails_at(run, --places, true))
         ;
     left = 100000;
-    taken = refused = 0;
+    allocations = refused = 0;
     run();
-    printf("%s: each of %lu allocations failed once alone and once with all later ones\n", name, taken);
-    CHECK(taken > 0 && refused == 0 && live == 0);
+    printf("%s: each of %lu allocations failed once alone and once with all later ones\n", name, allocations);
+    CHECK(allocations > 0 && refused == 0 && live == 0);
 }
 
 int main(void) {
@@ -355,5 +356,5 @@ int main(void) {
     each_in_turn("server", run_server);
     each_in_turn("checker", run_checker);
     each_in_turn("faulty journals", run_faulty_journals);
-    return told_checks();
+    return report_checks();
 }

@@ -60,54 +60,54 @@ static void a_session_without_messages(void) {
 static void captures_are_refused(void) {
     mold_checker checker = checker_of_none();
     uint64_t number = 99;
-    CODE(mold_checker_take(&checker, NULL, 0, &number), MOLD_SHORT);
+    CODE(mold_checker_take(&checker, NULL, 0, &number), MOLD_E_SHORT);
     CHECK(number == 0);
-    CODE(give(&checker, cut(packet_of(1, 2, 1), 25), &number), MOLD_BLOCK_CUT);
+    CODE(give(&checker, cut(packet_of(1, 2, 1), 25), &number), MOLD_E_BLOCK_CUT);
     CHECK(number == 1);
-    CODE(give(&checker, of_hex(SESSION_HEX "0000000000000003ffff00"), &number), MOLD_TRAILING);
+    CODE(give(&checker, of_hex(SESSION_HEX "0000000000000003ffff00"), &number), MOLD_E_TRAILING);
     CHECK(number == 20);
-    CODE(give(&checker, packet_of(0, 1, 1), &number), MOLD_SEQUENCE_ZERO);
-    CODE(give(&checker, packet_of(UINT64_MAX, 1, 1), &number), MOLD_PAST_LAST);
+    CODE(give(&checker, packet_of(0, 1, 1), &number), MOLD_E_SEQUENCE_ZERO);
+    CODE(give(&checker, packet_of(UINT64_MAX, 1, 1), &number), MOLD_E_PAST_LAST);
     CODE(give(&checker, packet_of(2, 2, 1), &number), MOLD_DONE);
     datagram other = packet_of(1, 3, 1);
     other.at[28] = 'X';
-    CODE(give(&checker, other, &number), MOLD_CONFLICT);
+    CODE(give(&checker, other, &number), MOLD_E_CONFLICT);
     CHECK(number == 3);
     other = packet_of(1, 3, 1);
     other.at[0] = 'X';
-    CODE(give(&checker, other, &number), MOLD_WRONG_SESSION);
-    CODE(give(&checker, end_of(3), &number), MOLD_END_BELOW);
+    CODE(give(&checker, other, &number), MOLD_E_WRONG_SESSION);
+    CODE(give(&checker, end_of(3), &number), MOLD_E_END_BELOW);
     CHECK(number == 4);
     CODE(give(&checker, end_of(5), &number), MOLD_DONE);
-    CODE(give(&checker, end_of(6), &number), MOLD_END_CONFLICT);
+    CODE(give(&checker, end_of(6), &number), MOLD_E_END_CONFLICT);
     CHECK(number == 5);
-    CODE(give(&checker, packet_of(4, 2, 1), &number), MOLD_PAST_END);
+    CODE(give(&checker, packet_of(4, 2, 1), &number), MOLD_E_PAST_END);
     CHECK(number == 5 && is_verdict(&checker, 0, 0, 5, 2));
     mold_free(&checker);
 }
 
 /* Checks each call of a listener on a handle that does not hold a listener. */
 static void no_listener(mold_listener *handle) {
-    mold_told told = {9, 9, 9, 9, 9};
-    mold_heard heard = {9, 9, 9, 9, 9, 9};
+    mold_taken taken = {9, 9, 9, 9, 9};
+    mold_delivery delivery = {9, 9, 9, 9, 9, 9};
     mold_report report = {9, 9, 9};
     mold_bytes bytes = MOLD_NO_BYTES;
     uint8_t room[64] = {7};
     size_t size = 99;
-    CODE(take(handle, MOLD_LINE_A, packet_of(1, 1, 1), &told), MOLD_BROKEN);
-    CODE(take(handle, 9, packet_of(1, 1, 1), &told), MOLD_BROKEN);
-    CODE(hear(handle, MOLD_LINE_A, packet_of(1, 1, 1), &heard), MOLD_BROKEN);
-    CODE(hear(handle, 9, packet_of(1, 1, 1), &heard), MOLD_BROKEN);
-    CHECK(heard.detail == 9 && heard.offset == 9 && heard.beyond == 9);
+    CODE(take(handle, MOLD_LINE_A, packet_of(1, 1, 1), &taken), MOLD_E_BROKEN);
+    CODE(take(handle, 9, packet_of(1, 1, 1), &taken), MOLD_E_BROKEN);
+    CODE(hear(handle, MOLD_LINE_A, packet_of(1, 1, 1), &delivery), MOLD_E_BROKEN);
+    CODE(hear(handle, 9, packet_of(1, 1, 1), &delivery), MOLD_E_BROKEN);
+    CHECK(delivery.detail == 9 && delivery.offset == 9 && delivery.dropped == 9);
     CHECK(mold_listener_count(handle) == 0 && mold_listener_first(handle) == 0);
-    CODE(mold_listener_message(handle, 0, &bytes), MOLD_BROKEN);
+    CODE(mold_listener_message(handle, 0, &bytes), MOLD_E_BROKEN);
     CHECK(mold_listener_messages(handle, &bytes, 1) == 0 && bytes.at == NULL);
-    CODE(mold_listener_copy(handle, 0, room, 64, &size), MOLD_BROKEN);
+    CODE(mold_listener_copy(handle, 0, room, 64, &size), MOLD_E_BROKEN);
     CHECK(!mold_listener_wanted(handle, room) && room[0] == 7 && room[1] == 0);
     CHECK(mold_listener_next(handle) == 0 && mold_listener_known(handle) == 0 && !mold_listener_finished(handle));
-    CODE(mold_listener_report(handle, MOLD_LINE_A, &report), MOLD_BROKEN);
+    CODE(mold_listener_report(handle, MOLD_LINE_A, &report), MOLD_E_BROKEN);
     CHECK(report.datagrams == 9 && size == 99);
-    CODE(mold_listener_clear(handle), MOLD_BROKEN);
+    CODE(mold_listener_clear(handle), MOLD_E_BROKEN);
 }
 
 /* Checks each call of a publisher on a handle that does not hold a publisher. */
@@ -115,14 +115,14 @@ static void no_publisher(mold_publisher *handle) {
     uint8_t room[64] = {7};
     uint64_t number = 99;
     size_t size = 99;
-    CODE(publish(handle, 1, 1, &number), MOLD_BROKEN);
+    CODE(publish(handle, 1, 1, &number), MOLD_E_BROKEN);
     CHECK(!mold_publisher_is_full(handle));
-    CODE(mold_publisher_datagram(handle, room, 64, &size), MOLD_BROKEN);
-    CODE(mold_publisher_heartbeat(handle, room, 64, &size), MOLD_BROKEN);
-    CODE(mold_publisher_close(handle, &number), MOLD_BROKEN);
-    CODE(mold_publisher_end(handle, room, 64, &size), MOLD_BROKEN);
-    CODE(mold_publisher_save(handle, room, 64, &size), MOLD_BROKEN);
-    CODE(mold_server_from_publisher(handle, 1), MOLD_BROKEN);
+    CODE(mold_publisher_datagram(handle, room, 64, &size), MOLD_E_BROKEN);
+    CODE(mold_publisher_heartbeat(handle, room, 64, &size), MOLD_E_BROKEN);
+    CODE(mold_publisher_close(handle, &number), MOLD_E_BROKEN);
+    CODE(mold_publisher_end(handle, room, 64, &size), MOLD_E_BROKEN);
+    CODE(mold_publisher_save(handle, room, 64, &size), MOLD_E_BROKEN);
+    CODE(mold_server_from_publisher(handle, 1), MOLD_E_BROKEN);
     CHECK(room[0] == 7);
 }
 
@@ -132,9 +132,9 @@ static void no_server(mold_server *handle) {
     mold_plan made = {1, 2, 1, {0}};
     uint64_t number = 99;
     size_t size = 99;
-    CODE(answer(handle, SESSION_HEX "00000000000000010001", room, &number), MOLD_BROKEN);
-    CODE(plan(handle, SESSION_HEX "00000000000000010001", &made, &number), MOLD_BROKEN);
-    CODE(mold_server_datagram(handle, &made, room.at, 64, &size), MOLD_BROKEN);
+    CODE(answer(handle, SESSION_HEX "00000000000000010001", room, &number), MOLD_E_BROKEN);
+    CODE(plan(handle, SESSION_HEX "00000000000000010001", &made, &number), MOLD_E_BROKEN);
+    CODE(mold_server_datagram(handle, &made, room.at, 64, &size), MOLD_E_BROKEN);
     CHECK(room.at[0] == 0 && made.from == 1 && made.left == 1);
     free(room.at);
 }
@@ -145,9 +145,9 @@ static void no_checker(mold_checker *handle) {
     mold_range range = {9, 9};
     uint64_t number = 99;
     size_t count = 99;
-    CODE(give(handle, packet_of(1, 1, 1), &number), MOLD_BROKEN);
-    CODE(mold_checker_verdict(handle, &verdict), MOLD_BROKEN);
-    CODE(mold_checker_ranges(handle, &range, 1, &count), MOLD_BROKEN);
+    CODE(give(handle, packet_of(1, 1, 1), &number), MOLD_E_BROKEN);
+    CODE(mold_checker_verdict(handle, &verdict), MOLD_E_BROKEN);
+    CODE(mold_checker_ranges(handle, &range, 1, &count), MOLD_E_BROKEN);
     CHECK(verdict.messages == 9 && range.first == 9);
 }
 
@@ -182,9 +182,9 @@ static void handles_of_another_kind(void) {
             no_server(all[i]);
         if (all[i] != (void *)&checker)
             no_checker(all[i]);
-        CODE(mold_listener_new(all[i], session, 1, 4), MOLD_BROKEN);
-        CODE(mold_publisher_new(all[i], session, 64), MOLD_BROKEN);
-        CODE(mold_checker_new(all[i]), MOLD_BROKEN);
+        CODE(mold_listener_new(all[i], session, 1, 4), MOLD_E_BROKEN);
+        CODE(mold_publisher_new(all[i], session, 64), MOLD_E_BROKEN);
+        CODE(mold_checker_new(all[i]), MOLD_E_BROKEN);
     }
     CHECK(mold_listener_next(&listener) == 1 && is_verdict(&checker, 0, 0, 0, 0));
     for (size_t i = 0; i < 8; i++)
@@ -196,19 +196,19 @@ static void handles_of_another_kind(void) {
 
 /* Handles are freed while they hold messages, and then made again. */
 static void full_handles_are_freed(void) {
-    mold_told told = {0, 0, 0, 0, 0};
+    mold_taken taken = {0, 0, 0, 0, 0};
     uint64_t number = 0;
     for (int times = 0; times < 2; times++) {
         mold_listener listener = listener_at(1, 65536);
         mold_checker checker = checker_of_none();
         mold_publisher publisher = publisher_of(64);
         for (uint64_t i = 0; i < 1000; i++) {
-            CODE(take(&listener, MOLD_LINE_A, packet_of(3 + 7 * i, 3, 40), &told), MOLD_DONE);
+            CODE(take(&listener, MOLD_LINE_A, packet_of(3 + 7 * i, 3, 40), &taken), MOLD_DONE);
             CODE(give(&checker, packet_of(3 + 7 * i, 3, 40), &number), MOLD_DONE);
             CODE(publish(&publisher, (int)i, 40, &number), MOLD_DONE);
         }
-        CODE(take(&listener, MOLD_ANSWER, packet_of(1, 2, 40), &told), MOLD_DONE);
-        CHECK(is_told(&told, 5, 0, 0) && is_verdict(&checker, 0, 0, 0, 1000));
+        CODE(take(&listener, MOLD_ANSWER, packet_of(1, 2, 40), &taken), MOLD_DONE);
+        CHECK(is_taken(&taken, 5, 0, 0) && is_verdict(&checker, 0, 0, 0, 1000));
         mold_free(&listener);
         mold_free(&checker);
         mold_free(&publisher);
@@ -220,7 +220,7 @@ static void full_handles_are_freed(void) {
 static void from_publisher_to_listener(void) {
     mold_publisher publisher = publisher_of(200);
     mold_listener listener = listener_at(1, 16);
-    mold_told told = {0, 0, 0, 0, 0};
+    mold_taken taken = {0, 0, 0, 0, 0};
     uint8_t room[200], request[20];
     uint64_t number = 0;
     size_t size = 0;
@@ -229,14 +229,14 @@ static void from_publisher_to_listener(void) {
         CODE(publish(&publisher, i, (size_t)i % 60, &number), MOLD_DONE);
     for (int sent = 0; mold_publisher_datagram(&publisher, room, sizeof room, &size) == MOLD_DONE; sent++) {
         if (sent % 3 != 0)
-            CODE(mold_listener_take(&listener, MOLD_LINE_A, room, size, &told), MOLD_DONE);
+            CODE(mold_listener_take(&listener, MOLD_LINE_A, room, size, &taken), MOLD_DONE);
     }
     CODE(mold_publisher_close(&publisher, &number), MOLD_DONE);
     CODE(mold_publisher_end(&publisher, room, sizeof room, &size), MOLD_DONE);
-    CODE(mold_listener_take(&listener, MOLD_LINE_B, room, size, &told), MOLD_DONE);
+    CODE(mold_listener_take(&listener, MOLD_LINE_B, room, size, &taken), MOLD_DONE);
     for (int turns = 0; turns < 200 && mold_listener_wanted(&listener, request); turns++) {
         CODE(mold_server_answer(mold_server_of(&publisher), request, 20, room, sizeof room, &number), MOLD_DONE);
-        CODE(mold_listener_take(&listener, MOLD_ANSWER, room, (size_t)number, &told), MOLD_DONE);
+        CODE(mold_listener_take(&listener, MOLD_ANSWER, room, (size_t)number, &taken), MOLD_DONE);
     }
     CHECK(mold_listener_finished(&listener) && mold_listener_count(&listener) == 100);
     for (int i = 1; i <= 100; i++)
@@ -246,25 +246,30 @@ static void from_publisher_to_listener(void) {
 }
 
 static void codes_have_texts(void) {
-    mold_bytes texts[CODES + 2];
+    const char *texts[CODES + 2];
     for (uint32_t code = 0; code < CODES + 2; code++) {
-        texts[code].at = NULL;
-        texts[code].length = 0;
-        mold_text(code < CODES + 1 ? code : UINT32_MAX, &texts[code]);
-        CHECK(texts[code].length > 0 && texts[code].at != NULL);
-        for (size_t i = 0; i < texts[code].length; i++)
-            CHECK(texts[code].at[i] >= 0x20 && texts[code].at[i] <= 0x7e);
+        uint32_t number = code < CODES + 1 ? code : UINT32_MAX;
+        mold_bytes text = MOLD_NO_BYTES;
+        texts[code] = mold_code_text(number);
+        mold_terminated_text(number, &text);
+        CHECK(text.length > 1 && text.length == strlen(texts[code]) + 1 && (const char *)text.at == texts[code]);
+        for (size_t i = 0; i + 1 < text.length; i++)
+            CHECK(text.at[i] >= 0x20 && text.at[i] <= 0x7e);
         for (uint32_t other = 0; other < code && code < CODES; other++)
-            CHECK(texts[other].length != texts[code].length ||
-                  memcmp(texts[other].at, texts[code].at, texts[code].length) != 0);
+            CHECK(strcmp(texts[other], texts[code]) != 0);
     }
+    CHECK(strcmp(texts[CODES], "unknown code") == 0 && strcmp(texts[CODES + 1], "unknown code") == 0);
 }
 
-/* Every code was returned except two: MOLD_MEMORY, which failing.c tests, and MOLD_NUMBERS, which takes more messages
+static void versions_are_equal(void) {
+    CHECK(mold_library_version() == MOLD_LIBRARY_VERSION);
+}
+
+/* Every code was returned except two: MOLD_E_MEMORY, which failing.c tests, and MOLD_E_NUMBERS, which takes more messages
  * than a test can publish. */
 static void each_code_came(void) {
     for (uint32_t code = 0; code < CODES; code++)
-        CHECK(answered[code] == (code != MOLD_MEMORY && code != MOLD_NUMBERS));
+        CHECK(answered[code] == (code != MOLD_E_MEMORY && code != MOLD_E_NUMBERS));
 }
 
 void test_handles(void) {
@@ -276,5 +281,6 @@ void test_handles(void) {
     full_handles_are_freed();
     from_publisher_to_listener();
     codes_have_texts();
+    versions_are_equal();
     each_code_came();
 }

@@ -103,12 +103,12 @@ static size_t ring_bytes(size_t window) {
 
 static void count_batch(size_t length, uint16_t at_once) {
     mold_listener listener = listener_at(1, 64);
-    mold_told told = {0, 0, 0, 0, 0};
+    mold_taken taken = {0, 0, 0, 0, 0};
     seen found = {0, 0};
     size_t count = 0, last = 0;
     CHECK(held <= ring_bytes(64) + small);
     for (most = held; count < count_of(length); count += at_once) {
-        CODE(take(&listener, MOLD_LINE_A, packet_of(count + 1, at_once, length), &told), MOLD_DONE);
+        CODE(take(&listener, MOLD_LINE_A, packet_of(count + 1, at_once, length), &taken), MOLD_DONE);
         measure(&found, (count + at_once) * (length + batch_message), ring_bytes(64));
     }
     last = held;
@@ -208,8 +208,8 @@ static void count_ranges(void) {
 
 /* Passes a datagram with one message to a listener, and clears the batch. */
 static void store_one(mold_listener *listener, size_t number, size_t length) {
-    mold_told told = {0, 0, 0, 0, 0};
-    CODE(take(listener, MOLD_LINE_A, packet_of(number, 1, length), &told), MOLD_DONE);
+    mold_taken taken = {0, 0, 0, 0, 0};
+    CODE(take(listener, MOLD_LINE_A, packet_of(number, 1, length), &taken), MOLD_DONE);
     CODE(mold_listener_clear(listener), MOLD_DONE);
 }
 
@@ -271,5 +271,5 @@ int main(int count, char **words) {
     count_advancing(1024, 1400);
     count_filled(65536, 100);
     count_advancing(65536, 100);
-    return told_checks();
+    return report_checks();
 }

@@ -25,21 +25,21 @@ static void packets_are_decoded(void) {
 
 static void packets_are_refused(void) {
     mold_packet packet = {0, 0, 0, 0, {0}};
-    CODE(mold_decode(NULL, 0, &packet), MOLD_SHORT);
+    CODE(mold_decode(NULL, 0, &packet), MOLD_E_SHORT);
     CHECK(packet.detail == 0);
-    CODE(decoded(of_hex(SESSION_HEX "000000000000000100"), &packet), MOLD_SHORT);
+    CODE(decoded(of_hex(SESSION_HEX "000000000000000100"), &packet), MOLD_E_SHORT);
     CHECK(packet.detail == 19);
-    CODE(decoded(of_hex(SESSION_HEX "0000000000000001000200015800"), &packet), MOLD_BLOCK_CUT);
+    CODE(decoded(of_hex(SESSION_HEX "0000000000000001000200015800"), &packet), MOLD_E_BLOCK_CUT);
     CHECK(packet.detail == 1);
-    CODE(decoded(of_hex(SESSION_HEX "00000000000000010001"), &packet), MOLD_BLOCK_CUT);
+    CODE(decoded(of_hex(SESSION_HEX "00000000000000010001"), &packet), MOLD_E_BLOCK_CUT);
     CHECK(packet.detail == 0);
-    CODE(decoded(of_hex(SESSION_HEX "000000000000000100010002aa"), &packet), MOLD_BLOCK_CUT);
+    CODE(decoded(of_hex(SESSION_HEX "000000000000000100010002aa"), &packet), MOLD_E_BLOCK_CUT);
     CHECK(packet.detail == 0);
-    CODE(decoded(of_hex(SESSION_HEX "0000000000000003ffff00"), &packet), MOLD_TRAILING);
+    CODE(decoded(of_hex(SESSION_HEX "0000000000000003ffff00"), &packet), MOLD_E_TRAILING);
     CHECK(packet.detail == 20);
-    CODE(decoded(of_hex(SESSION_HEX "00000000000000030000ffff"), &packet), MOLD_TRAILING);
+    CODE(decoded(of_hex(SESSION_HEX "00000000000000030000ffff"), &packet), MOLD_E_TRAILING);
     CHECK(packet.detail == 20);
-    CODE(decoded(of_hex(SESSION_HEX "000000000000000100020002414200005a"), &packet), MOLD_TRAILING);
+    CODE(decoded(of_hex(SESSION_HEX "000000000000000100020002414200005a"), &packet), MOLD_E_TRAILING);
     CHECK(packet.detail == 26);
 }
 
@@ -57,9 +57,9 @@ static void places_are_read(void) {
     CODE(mold_read(given.at, given.length, &packet, places, 4), MOLD_DONE);
     CHECK(is_place(places[2], 28, 1) && is_place(places[3], 7, 7) && given.at[28] == 'Z');
     places[0].offset = 99;
-    CODE(mold_read(given.at, given.length - 1, &packet, places, 4), MOLD_BLOCK_CUT);
+    CODE(mold_read(given.at, given.length - 1, &packet, places, 4), MOLD_E_BLOCK_CUT);
     CHECK(packet.detail == 2 && places[0].offset == 99 && is_place(places[2], 28, 1));
-    CODE(mold_read(given.at, 12, &packet, places, 4), MOLD_SHORT);
+    CODE(mold_read(given.at, 12, &packet, places, 4), MOLD_E_SHORT);
     CHECK(packet.detail == 12 && places[0].offset == 99);
     free(given.at);
 }
@@ -87,9 +87,9 @@ static void requests_are_read_and_written(void) {
     mold_request request = {9, 9, {0}};
     uint8_t bytes[21];
     unhex(SESSION_HEX "00000000000000020003ff", bytes);
-    CODE(mold_request_decode(bytes, 21, &request), MOLD_REQUEST_LENGTH);
-    CODE(mold_request_decode(bytes, 19, &request), MOLD_REQUEST_LENGTH);
-    CODE(mold_request_decode(NULL, 0, &request), MOLD_REQUEST_LENGTH);
+    CODE(mold_request_decode(bytes, 21, &request), MOLD_E_REQUEST_LENGTH);
+    CODE(mold_request_decode(bytes, 19, &request), MOLD_E_REQUEST_LENGTH);
+    CODE(mold_request_decode(NULL, 0, &request), MOLD_E_REQUEST_LENGTH);
     CHECK(request.sequence == 9 && request.count == 9);
     CODE(mold_request_decode(bytes, 20, &request), MOLD_DONE);
     CHECK(request.sequence == 2 && request.count == 3 && memcmp(request.session, SESSION, 10) == 0);
@@ -105,24 +105,24 @@ static void a_packet_is_packed(void) {
     datagram room = of_length(64);
     mold_packer packer = MOLD_PACKER(room.at, room.length);
     CHECK(!mold_packer_fits(&packer, 0));
-    CODE(mold_packer_add(&packer, bytes, 1), MOLD_FULL);
+    CODE(mold_packer_add(&packer, bytes, 1), MOLD_E_FULL);
     CODE(mold_packer_start(&packer, session, 7), MOLD_DONE);
     HEX(packer.buffer, packer.used, SESSION_HEX "00000000000000070000");
     CHECK(mold_packer_fits(&packer, 42) && !mold_packer_fits(&packer, 43) && !mold_packer_fits(&packer, SIZE_MAX / 2));
     CODE(mold_packer_add(&packer, bytes, 20), MOLD_DONE);
     CODE(mold_packer_add(&packer, NULL, 0), MOLD_DONE);
     CHECK(packer.used == 44 && packer.count == 2 && mold_packer_fits(&packer, 18) && !mold_packer_fits(&packer, 19));
-    CODE(mold_packer_add(&packer, bytes, 19), MOLD_FULL);
+    CODE(mold_packer_add(&packer, bytes, 19), MOLD_E_FULL);
     CODE(mold_packer_add(&packer, bytes, 18), MOLD_DONE);
     HEX(packer.buffer, packer.used,
         SESSION_HEX "00000000000000070003" "00140101010101010101010101010101010101010101"
         "0000" "0012010101010101010101010101010101010101");
     CHECK(packer.used == 64 && !mold_packer_fits(&packer, 0));
-    CODE(mold_packer_add(&packer, NULL, 0), MOLD_FULL);
+    CODE(mold_packer_add(&packer, NULL, 0), MOLD_E_FULL);
     CODE(mold_packer_end(&packer, session, 10), MOLD_DONE);
     HEX(packer.buffer, packer.used, SESSION_HEX "000000000000000affff");
     CHECK(!mold_packer_fits(&packer, 0));
-    CODE(mold_packer_add(&packer, bytes, 1), MOLD_FULL);
+    CODE(mold_packer_add(&packer, bytes, 1), MOLD_E_FULL);
     free(room.at);
 }
 
@@ -131,18 +131,18 @@ static void limits_of_packers(void) {
     const size_t bad[] = {0, 63, 65508};
     for (size_t i = 0; i < 3; i++) {
         mold_packer packer = MOLD_PACKER(room.at, bad[i]);
-        CODE(mold_packer_start(&packer, session, 1), MOLD_LIMIT);
-        CODE(mold_packer_end(&packer, session, 1), MOLD_LIMIT);
+        CODE(mold_packer_start(&packer, session, 1), MOLD_E_LIMIT);
+        CODE(mold_packer_end(&packer, session, 1), MOLD_E_LIMIT);
         CHECK(packer.used == 0 && packer.count == 0 && !packer.open && room.at[0] == 0);
     }
     mold_packer none = MOLD_PACKER(NULL, 0);
-    CODE(mold_packer_start(&none, session, 1), MOLD_LIMIT);
+    CODE(mold_packer_start(&none, session, 1), MOLD_E_LIMIT);
     CHECK(!mold_packer_fits(&none, 0));
     mold_packer packer = MOLD_PACKER(room.at, 65507);
     CODE(mold_packer_start(&packer, session, 1), MOLD_DONE);
     for (unsigned i = 0; i < 32743; i++)
         CODE(mold_packer_add(&packer, NULL, 0), MOLD_DONE);
-    CODE(mold_packer_add(&packer, NULL, 0), MOLD_FULL);
+    CODE(mold_packer_add(&packer, NULL, 0), MOLD_E_FULL);
     CHECK(packer.count == 32743 && packer.used == 65506);
     free(room.at);
 }
@@ -157,7 +157,7 @@ static void packers_that_cannot_be(void) {
         mold_packer packer = wrong[i];
         packer.buffer = room.at;
         packer.limit = room.length;
-        CODE(mold_packer_add(&packer, byte, 1), MOLD_BROKEN);
+        CODE(mold_packer_add(&packer, byte, 1), MOLD_E_BROKEN);
         CHECK(packer.used == wrong[i].used && packer.count == wrong[i].count && room.at[0] == 0 && room.at[31] == 0);
     }
     free(room.at);

@@ -44,7 +44,7 @@ static void read_apart(const uint8_t *bytes, size_t length, reading *said) {
     refuse(said, MOLD_DONE, 0);
     said->count = 0;
     if (length < 20) {
-        refuse(said, MOLD_SHORT, length);
+        refuse(said, MOLD_E_SHORT, length);
         return;
     }
     size_t stated = (size_t)big_endian(bytes + 18, 2), at = 20;
@@ -52,7 +52,7 @@ static void read_apart(const uint8_t *bytes, size_t length, reading *said) {
         stated = 0;
     while (said->count < stated) {
         if (at + 2 > length || at + 2 + big_endian(bytes + at, 2) > length) {
-            refuse(said, MOLD_BLOCK_CUT, said->count);
+            refuse(said, MOLD_E_BLOCK_CUT, said->count);
             return;
         }
         said->offsets[said->count] = at + 2;
@@ -60,7 +60,7 @@ static void read_apart(const uint8_t *bytes, size_t length, reading *said) {
         at += 2 + said->lengths[said->count++];
     }
     if (at < length)
-        refuse(said, MOLD_TRAILING, at);
+        refuse(said, MOLD_E_TRAILING, at);
 }
 
 /* Writes a random datagram that encodes a packet, and returns its length. */
@@ -145,6 +145,6 @@ int main(int words, char **word) {
         compare(exact, length, places, &apart);
         free(exact);
     }
-    CHECK(answered[MOLD_DONE] && answered[MOLD_SHORT] && answered[MOLD_BLOCK_CUT] && answered[MOLD_TRAILING]);
-    return told_checks();
+    CHECK(answered[MOLD_DONE] && answered[MOLD_E_SHORT] && answered[MOLD_E_BLOCK_CUT] && answered[MOLD_E_TRAILING]);
+    return report_checks();
 }

@@ -12,5 +12,5 @@ int main(void) {
     test_sessions();
     test_ample();
     test_handles();
-    return told_checks();
+    return report_checks();
 }

@@ -5,4 +5,5 @@ mod LoanLemmas
 mod PlaceLemmas
 mod Reading
 mod ServerLemmas
+mod TextLemmas
 mod Walking

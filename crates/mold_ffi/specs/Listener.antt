@@ -2,7 +2,7 @@
 pub mod BatchedArbiter
 pub mod Calls
 pub mod Hearing
-pub mod MoldHeard
+pub mod MoldDelivery
 pub mod MoldReport
-pub mod MoldTold
+pub mod MoldTaken
 pub mod Origin

@@ -43,7 +43,7 @@ pub const CONFLICT: u32 = 14;
 pub const LINE: u32 = 15;
 /// A listener that begins at sequence number 0.
 pub const NEXT_ZERO: u32 = 16;
-/// A window outside 1 to 65,536 messages.
+/// A window outside 1 to 1,048,576 messages.
 pub const WINDOW: u32 = 17;
 /// There is nothing to return: no such message, or no datagram to send.
 pub const ABSENT: u32 = 18;

@@ -11,3 +11,4 @@ mod listener;
 mod packets;
 mod publisher;
 mod server;
+mod version;

@@ -1,5 +1,7 @@
--- The text of each code, as `mold_text` returns it.
+-- The text of each code, with a zero byte at its end as `mold_terminated_text` returns it, and without as `mold_text`
+-- does.
 use Rattle.std.specs.Prelude.{ℕ, List, [], ◌∷◌, get_or}
+use Rattle.std.specs.Ffi.{without_last}
 use Rattle.mold_ffi.specs.declared.code.texts.TheConstants as text
 
 -- The texts of the codes, from code 0 on.
@@ -41,6 +43,11 @@ texts =
     text.DAMAGED.now ∷
     []
 
--- The text for a number: that of the code with this number, or `unknown code` if there is no such code.
+-- The text for a number, with a zero byte at its end: that of the code with this number, or `unknown code` if there is no
+-- such code.
+abbrev pub terminated_text_of : ℕ → List ℕ
+terminated_text_of code = get_or texts code text.UNKNOWN.now
+
+-- The text for a number, without the zero byte.
 abbrev pub text_of : ℕ → List ℕ
-text_of code = get_or texts code text.UNKNOWN.now
+text_of code = without_last (terminated_text_of code)

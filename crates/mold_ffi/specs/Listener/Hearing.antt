@@ -13,10 +13,10 @@ use Rattle.mold_wire.specs.Reading.{reading}
 use Rattle.mold_ffi.specs.Code.Refusal.{refusal_code}
 use Rattle.mold_ffi.specs.Listener.BatchedArbiter.{BatchedArbitration, cleared}
 use Rattle.mold_ffi.specs.Listener.Calls.{taking_code}
-use Rattle.mold_ffi.specs.Listener.MoldHeard.{hearing_fields, unheard_fields}
+use Rattle.mold_ffi.specs.Listener.MoldDelivery.{hearing_fields, unheard_fields}
 use Rattle.mold_ffi.specs.declared.handle.held.Held.{Held}
 use Rattle.mold_ffi.specs.declared.handle.held.Held.TheVariants.{Listener}
-use Rattle.mold_ffi.specs.declared.listener.mold_heard.MoldHeard.{MoldHeard}
+use Rattle.mold_ffi.specs.declared.listener.mold_delivery.MoldDelivery.{MoldDelivery}
 
 -- The datagram's own messages.
 abbrev pub own_in : BatchedArbitration → List ℕ → List (List ℕ)
@@ -39,7 +39,7 @@ received_own origin bytes old (Err refusal) = record {
 -- The code, the fields and the listener are those of the result `answer` of the receiving rule. If the datagram was
 -- taken, its bytes from the offset on are the blocks of its own messages.
 pub record HasHeardOwn (origin : Origin) (bytes : List ℕ) (old : BatchedArbitration)
-    (answer : Result Reception Refusal) (code : ℕ) (fields : MoldHeard) (new : Option Held) : Type 0 where
+    (answer : Result Reception Refusal) (code : ℕ) (fields : MoldDelivery) (new : Option Held) : Type 0 where
   pub by_code : code ≡ taking_code answer
   pub by_fields : fields ≡ hearing_fields old.arbitration.view bytes answer
   pub held : new ≡ Some (Listener (received_own origin bytes old answer))
@@ -47,7 +47,7 @@ pub record HasHeardOwn (origin : Origin) (bytes : List ℕ) (old : BatchedArbitr
       drop fields.offset bytes ≡ blocks (own_in old bytes)
 
 -- An allocation for stored messages failed. The receiving rule takes the datagram, but only the batch was emptied.
-pub record LacksRoom (bytes : List ℕ) (old : BatchedArbitration) (code : ℕ) (fields : MoldHeard)
+pub record LacksRoom (bytes : List ℕ) (old : BatchedArbitration) (code : ℕ) (fields : MoldDelivery)
     (new : Option Held) : Type 0 where
   pub by_code : code ≡ refusal_code Memory
   pub by_fields : fields ≡ unheard_fields Memory
@@ -55,7 +55,7 @@ pub record LacksRoom (bytes : List ℕ) (old : BatchedArbitration) (code : ℕ) 
   pub held : new ≡ Some (Listener (cleared old))
 
 -- A listener took a datagram without copying its messages, refused it, or lacked memory for it.
-abbrev pub Hears : Origin → List ℕ → BatchedArbitration → ℕ → MoldHeard → Option Held → Type 0
+abbrev pub Hears : Origin → List ℕ → BatchedArbitration → ℕ → MoldDelivery → Option Held → Type 0
 Hears origin bytes old code fields new =
     HasHeardOwn origin bytes old (receive old.arbitration.view bytes) code fields new
     ⊎ LacksRoom bytes old code fields new

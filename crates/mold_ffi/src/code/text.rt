@@ -1,7 +1,8 @@
-//! The call that returns the text of a code.
+//! The calls that return the text of a code.
 
 ghost use Rattle.std.specs.Prelude.{◌≡◌};
-ghost use Rattle.mold_ffi.specs.Code.Text.{text_of};
+ghost use Rattle.std.specs.Ffi.{IsNulTerminated};
+ghost use Rattle.mold_ffi.specs.Code.Text.{terminated_text_of, text_of};
 
 use crate::code::{
     ABSENT, AHEAD, BAD_FLAG, BAD_MAGIC, BLOCK_CUT, BROKEN, BURST, CLOSED, CONFLICT, COUNT_DIFFERS,
@@ -10,13 +11,11 @@ use crate::code::{
     TOO_LONG, TRAILING, UNSENT, WINDOW, WRONG_SESSION, texts,
 };
 
-/// Writes the text of a code, without a zero byte at its end. For a number that is not a code, the text is `unknown
-/// code`. The slice is valid forever.
-#[unsafe(no_mangle)]
-pub extern "C" fn mold_text(code: u32, text: &mut &'static [u8])
-    ensures { text.new.now ≡ text_of code }
+// The text of a code, with a zero byte at its end.
+fn terminated(code: u32) -> &'static [u8]
+    ensures { result.now ≡ terminated_text_of code }
 {
-    *text = match code {
+    match code {
         DONE => texts::DONE,
         SHORT => texts::SHORT,
         BLOCK_CUT => texts::BLOCK_CUT,
@@ -52,5 +51,25 @@ pub extern "C" fn mold_text(code: u32, text: &mut &'static [u8])
         COUNT_DIFFERS => texts::COUNT_DIFFERS,
         DAMAGED => texts::DAMAGED,
         _ => texts::UNKNOWN,
-    };
+    }
+}
+
+/// Writes the text of a code, without a zero byte at its end. For a number that is not a code, the text is `unknown
+/// code`. The slice is valid forever.
+#[unsafe(no_mangle)]
+pub extern "C" fn mold_text(code: u32, text: &mut &'static [u8])
+    ensures { text.new.now ≡ text_of code }
+{
+    let bytes = terminated(code);
+    *text = &bytes[..bytes.len() - 1];
+}
+
+/// Writes the text of a code with a zero byte at its end, so that its address is a string of C. It has no other zero
+/// byte. Otherwise it is as that of `mold_text`.
+#[unsafe(no_mangle)]
+pub extern "C" fn mold_terminated_text(code: u32, text: &mut &'static [u8])
+    ensures text { text.new.now ≡ terminated_text_of code }
+    ensures ends { IsNulTerminated text.new.now }
+{
+    *text = terminated(code);
 }

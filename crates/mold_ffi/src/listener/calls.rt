@@ -14,7 +14,7 @@ use crate::code::{BROKEN, DONE, LINE, MEMORY, NEXT_ZERO, WINDOW};
 use crate::handle::held::Held;
 use crate::handle::mold_handle::MoldHandle;
 use crate::listener::batched_arbiter::BatchedArbiter;
-use crate::listener::mold_told::MoldTold;
+use crate::listener::mold_taken::MoldTaken;
 use crate::listener::origin::origin_of;
 use mold_receiver::ReceiverError;
 use mold_wire::Session;
@@ -59,16 +59,16 @@ pub extern "C" fn mold_listener_take(
     listener: &mut MoldHandle,
     line: u32,
     bytes: &[u8],
-    told: &mut MoldTold,
+    taken: &mut MoldTaken,
 ) -> u32
     ensures takes { (batched : BatchedArbitration) (origin : AnOrigin) →
         listener.old.handle.value ≡ Some (AListener batched) → origin_at line ≡ Some origin →
-        Takes origin bytes.now batched told.old.unused result told.new listener.new.handle.value }
+        Takes origin bytes.now batched taken.old.unused result taken.new listener.new.handle.value }
     ensures line { (batched : BatchedArbitration) →
         listener.old.handle.value ≡ Some (AListener batched) → origin_at line ≡ None →
-        (result ≡ codes.LINE) × (told.new ≡ told.old) × (listener.new.handle.value ≡ listener.old.handle.value) }
+        (result ≡ codes.LINE) × (taken.new ≡ taken.old) × (listener.new.handle.value ≡ listener.old.handle.value) }
     ensures broken { IsNoListener listener.old.handle.value →
-        (result ≡ codes.BROKEN) × (told.new ≡ told.old) × (listener.new.handle.value ≡ listener.old.handle.value) }
+        (result ≡ codes.BROKEN) × (taken.new ≡ taken.old) × (listener.new.handle.value ≡ listener.old.handle.value) }
 {
     if !listener.live {
         return BROKEN;
@@ -80,11 +80,11 @@ pub extern "C" fn mold_listener_take(
         return LINE;
     };
     match held.take(origin, bytes) {
-        Ok(taken) => {
-            told.write_taken(taken);
+        Ok(counts) => {
+            taken.write_taken(counts);
             DONE
         }
-        Err(refused) => told.write_refused(refused),
+        Err(refused) => taken.write_refused(refused),
     }
 }
 

@@ -13,48 +13,53 @@ use crate::code::{BROKEN, DONE, LINE};
 use crate::handle::held::Held;
 use crate::handle::mold_handle::MoldHandle;
 use crate::listener::batched_arbiter::BatchedArbiter;
-use crate::listener::mold_heard::MoldHeard;
+use crate::listener::mold_delivery::MoldDelivery;
 use crate::listener::origin::{line_of, origin_of};
 
 // Takes a datagram that is not one of the usual ones.
 // For the optimizer: it has the parameters of its caller, which jumps to it and saves no registers for it.
 #[cold]
 #[inline(never)]
-fn hear_slowly(held: &mut BatchedArbiter, line: u32, bytes: &[u8], heard: &mut MoldHeard) -> u32
+fn hear_slowly(
+    held: &mut BatchedArbiter,
+    line: u32,
+    bytes: &[u8],
+    delivery: &mut MoldDelivery,
+) -> u32
     ensures hears { (origin : AnOrigin) → origin_at line ≡ Some origin →
-        Hears origin bytes.now held.old result heard.new (Some (AListener held.new)) }
+        Hears origin bytes.now held.old result delivery.new (Some (AListener held.new)) }
     ensures line { origin_at line ≡ None →
-        (result ≡ codes.LINE) × (heard.new ≡ heard.old) × (held.new ≡ held.old) }
+        (result ≡ codes.LINE) × (delivery.new ≡ delivery.old) × (held.new ≡ held.old) }
 {
     let Some(origin) = origin_of(line) else {
         return LINE;
     };
     match held.hear(origin, bytes) {
         Ok(found) => {
-            heard.write_heard(bytes.len(), &found);
+            delivery.write_heard(bytes.len(), &found);
             DONE
         }
-        Err(refused) => heard.write_unheard(refused),
+        Err(refused) => delivery.write_unheard(refused),
     }
 }
 
 // Takes a datagram.
 #[inline(always)]
-fn hear(held: &mut BatchedArbiter, line: u32, bytes: &[u8], heard: &mut MoldHeard) -> u32
+fn hear(held: &mut BatchedArbiter, line: u32, bytes: &[u8], delivery: &mut MoldDelivery) -> u32
     ensures hears { (origin : AnOrigin) → origin_at line ≡ Some origin →
-        Hears origin bytes.now held.old result heard.new (Some (AListener held.new)) }
+        Hears origin bytes.now held.old result delivery.new (Some (AListener held.new)) }
     ensures line { origin_at line ≡ None →
-        (result ≡ codes.LINE) × (heard.new ≡ heard.old) × (held.new ≡ held.old) }
+        (result ≡ codes.LINE) × (delivery.new ≡ delivery.old) × (held.new ≡ held.old) }
 {
     let Some(known) = line_of(line) else {
-        return hear_slowly(held, line, bytes, heard);
+        return hear_slowly(held, line, bytes, delivery);
     };
     match held.hear_quickly(known, bytes) {
         Some(found) => {
-            heard.write_heard(bytes.len(), &found);
+            delivery.write_heard(bytes.len(), &found);
             DONE
         }
-        None => hear_slowly(held, line, bytes, heard),
+        None => hear_slowly(held, line, bytes, delivery),
     }
 }
 
@@ -66,17 +71,17 @@ pub extern "C" fn mold_listener_hear(
     listener: &mut MoldHandle,
     line: u32,
     bytes: &[u8],
-    heard: &mut MoldHeard,
+    delivery: &mut MoldDelivery,
 ) -> u32
     ensures hears { (batched : BatchedArbitration) (origin : AnOrigin) →
         listener.old.handle.value ≡ Some (AListener batched) → origin_at line ≡ Some origin →
-        Hears origin bytes.now batched result heard.new listener.new.handle.value }
+        Hears origin bytes.now batched result delivery.new listener.new.handle.value }
     ensures line { (batched : BatchedArbitration) →
         listener.old.handle.value ≡ Some (AListener batched) → origin_at line ≡ None →
-        (result ≡ codes.LINE) × (heard.new ≡ heard.old)
+        (result ≡ codes.LINE) × (delivery.new ≡ delivery.old)
         × (listener.new.handle.value ≡ listener.old.handle.value) }
     ensures broken { IsNoListener listener.old.handle.value →
-        (result ≡ codes.BROKEN) × (heard.new ≡ heard.old)
+        (result ≡ codes.BROKEN) × (delivery.new ≡ delivery.old)
         × (listener.new.handle.value ≡ listener.old.handle.value) }
 {
     if !listener.live {
@@ -85,5 +90,5 @@ pub extern "C" fn mold_listener_hear(
     let Held::Listener(held) = listener.handle.lend() else {
         return BROKEN;
     };
-    hear(held, line, bytes, heard)
+    hear(held, line, bytes, delivery)
 }

@@ -1,8 +1,8 @@
-use Rattle.std.proofs.Common.{sym, arith}
-use Rattle.std.proofs.lemmas.List.{get_or_past}
-use Rattle.mold_ffi.specs.Code.Text.{texts}
-use Rattle.mold_ffi.specs.declared.code.texts.TheConstants.{UNKNOWN}
+use Rattle.std.proofs.Common.{sym, subst}
+use Rattle.std.specs.Ffi.{IsNulTerminated}
+use Rattle.mold_ffi.proofs.TextLemmas.{terminated_text_ends}
 use Rattle.mold_ffi.proofs.code.text.mold_text.Goals as goal
 
-pub returns-in_default : goal.returns-in_default
-returns-in_default c = sym (get_or_past texts c.args.code UNKNOWN.now (omega (arith, c.in_default)))
+pub slice_bounds-text-count : goal.slice_bounds-text-count
+slice_bounds-text-count c =
+    (subst IsNulTerminated (sym c.terminated-bytes.ensures) (terminated_text_ends c.args.code)).nonempty

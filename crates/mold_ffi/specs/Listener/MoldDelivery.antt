@@ -9,26 +9,26 @@ use Rattle.mold_rule.specs.declared.refusal.Refusal.{Refusal}
 use Rattle.mold_wire.specs.Block.{blocks}
 use Rattle.mold_wire.specs.Reading.{reading}
 use Rattle.mold_ffi.specs.Code.Refusal.{refusal_number}
-use Rattle.mold_ffi.specs.declared.listener.mold_heard.MoldHeard.{MoldHeard}
+use Rattle.mold_ffi.specs.declared.listener.mold_delivery.MoldDelivery.{MoldDelivery}
 
 -- The fields for a datagram of `len` bytes that was taken: where the blocks of its own messages begin, how many they
 -- are, how many messages the batch has, and the other counts.
-abbrev pub own_fields : ℕ → List Message → Taken → MoldHeard
+abbrev pub own_fields : ℕ → List Message → Taken → MoldDelivery
 own_fields len own taken = record {
   detail = 0;
   offset = len - length (blocks own);
   own = length own;
   stored = taken.handed - length own;
   kept = taken.kept;
-  beyond = taken.beyond;
+  dropped = taken.beyond;
 }
 
 -- The fields for a refusal: the number that goes with it.
-abbrev pub unheard_fields : Refusal → MoldHeard
+abbrev pub unheard_fields : Refusal → MoldDelivery
 unheard_fields refusal =
-    record { detail = refusal_number refusal; offset = 0; own = 0; stored = 0; kept = 0; beyond = 0 }
+    record { detail = refusal_number refusal; offset = 0; own = 0; stored = 0; kept = 0; dropped = 0 }
 
 -- The fields of a result of the receiving rule.
-abbrev pub hearing_fields : View → List ℕ → Result Reception Refusal → MoldHeard
+abbrev pub hearing_fields : View → List ℕ → Result Reception Refusal → MoldDelivery
 hearing_fields v bytes (Ok reception) = own_fields (length bytes) (own_read v (reading bytes)) reception.taken
 hearing_fields v bytes (Err refusal) = unheard_fields refusal

@@ -2,7 +2,7 @@
 
 ghost use Rattle.std.specs.Prelude.{◌≡◌, ◌≤◌, length};
 ghost use Rattle.mold_ffi.specs.Code.Refusal.{refusal_code};
-ghost use Rattle.mold_ffi.specs.Listener.MoldHeard.{own_fields, unheard_fields};
+ghost use Rattle.mold_ffi.specs.Listener.MoldDelivery.{own_fields, unheard_fields};
 ghost use Rattle.mold_wire.specs.Block.{blocks};
 
 use crate::code::refusal::code_of_refusal;
@@ -11,7 +11,7 @@ use mold_receiver::{Heard, Refusal};
 /// What a datagram delivers without a copy. If it was taken, `detail` is 0; if it was refused, the other fields are 0.
 #[repr(C)]
 #[derive(Clone, Copy)]
-pub struct MoldHeard {
+pub struct MoldDelivery {
     /// The number that goes with a refusal: a length, an index, an offset, an end or a sequence number; 0 if the
     /// refusal has none.
     pub detail: u64,
@@ -24,10 +24,10 @@ pub struct MoldHeard {
     /// The number of messages of the datagram that were stored.
     pub kept: u32,
     /// The number of messages of the datagram above the window, which are dropped.
-    pub beyond: u32,
+    pub dropped: u32,
 }
 
-impl MoldHeard {
+impl MoldDelivery {
     /// Writes what a datagram of `len` bytes that was taken delivers.
     // For the optimizer: this runs for each datagram. A call would pass `heard` through memory.
     #[inline(always)]
@@ -42,22 +42,22 @@ impl MoldHeard {
         self.own = own;
         self.stored = heard.taken.handed - own;
         self.kept = heard.taken.kept;
-        self.beyond = heard.taken.beyond;
+        self.dropped = heard.taken.beyond;
     }
 
     /// Writes the number that goes with a refusal, and returns its code.
     pub(crate) fn write_unheard(&mut self, refused: Refusal) -> u32
         ensures code { result ≡ refusal_code refused }
-        ensures heard { self.new ≡ unheard_fields refused }
+        ensures fields { self.new ≡ unheard_fields refused }
     {
         let (code, detail) = code_of_refusal(refused);
-        *self = MoldHeard {
+        *self = MoldDelivery {
             detail,
             offset: 0,
             own: 0,
             stored: 0,
             kept: 0,
-            beyond: 0,
+            dropped: 0,
         };
         code
     }
