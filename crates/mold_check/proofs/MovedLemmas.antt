@@ -96,3 +96,12 @@ sent_as old new text now is = subst (Appends old new) is
 pub front_as : (old new : Option (List ℕ)) (text now : List ℕ) → now ≡ text → AppendsPrefix old new now →
     AppendsPrefix old new text
 front_as old new text now is = subst (AppendsPrefix old new) is
+
+-- No part of the text is left.
+pub moves_end : (old new : Option (List ℕ)) (all text : List ℕ) → Moves old new all (text ++ []) → Moves old new all text
+moves_end old new all text = subst (Moves old new all) (append-nil text)
+
+-- What was written is a prefix of the text.
+pub moves_written : (old new : Option (List ℕ)) (all left : List ℕ) → Moves old new all left → AppendsPrefix old new all
+moves_written old new all left moves =
+    record { front = moves.front; rest = left; parts = moves.parts; appended = moves.appended }

@@ -1,15 +1,15 @@
 -- What was written of a text whose last line was just appended.
-use Rattle.std.proofs.Common.{◌≡◌, ℕ, List, [], ◌++◌, Option, length, take, refl, sym, ap, subst, ◌∙◌, append-nil, append_assoc}
-use Rattle.std.specs.Prelude.{Result, Ok, Err, IfOk, OnErr, OnOk}
+use Rattle.std.proofs.Common.{◌≡◌, ℕ, List, [], ◌++◌, Option, length, take, refl, sym, subst, append-nil}
+use Rattle.std.specs.Prelude.{Ok, Err}
 use Rattle.std.specs.Io.KnownBytes.{Appends}
-use Rattle.mold_devices.specs.Devices.{AppendsPrefix, Counts, one_more}
-use Rattle.mold_devices.specs.Faults.{CountsSink, CountsSinkFault}
+use Rattle.mold_devices.specs.Devices.{AppendsPrefix, one_more}
+use Rattle.mold_devices.specs.Faults.{CountsSinkFault}
 use Rattle.mold_devices.specs.Writing.{EndsWith}
 use Rattle.mold_devices.specs.declared.fault.CommandFault.{CommandFault}
 use Rattle.mold_devices.specs.declared.fault.CommandFault.TheVariants.{Memory, Write}
 use Rattle.mold_devices.proofs.WritingLemmas.{ends_front, ends_sink, ends_whole}
 use Rattle.mold_check.specs.Report.{Printed}
-use Rattle.mold_check.proofs.ReportLemmas.{front_former, front_none, keeps_former}
+use Rattle.mold_check.proofs.ReportLemmas.{front_former, keeps_former}
 
 front_all : (old new : Option (List ℕ)) (text : List ℕ) → Appends old new text → AppendsPrefix old new text
 front_all old new text sent = record { front = text; rest = []; parts = sym (append-nil text); appended = sent }

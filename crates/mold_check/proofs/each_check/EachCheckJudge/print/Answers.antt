@@ -1,4 +1,4 @@
-use Rattle.std.proofs.Common.{◌∙◌, ap, refl, sym}
+use Rattle.std.proofs.Common.{◌∙◌, ap, sym}
 use Rattle.std.specs.Prelude.{◌++◌}
 use Rattle.mold_check.specs.EachCheck.{each_text}
 use Rattle.mold_check.proofs.EachLemmas.{each_front, each_sent, status_none, status_some}
