@@ -1,21 +1,23 @@
 -- A check of several sessions, and the table of their states.
-use Rattle.std.proofs.Common.{◌++◌, ◌≡◌, ℕ, Bool, true, List, refl, sym, ap, ◌∙◌, subst, true≢false, arith}
-use Rattle.std.specs.Prelude.{IfSome, None, Option, Some, Result, Ok, Err, OnOk, max, position, slice_get, ⊤}
+use Rattle.std.proofs.Common.{◌++◌, ◌≡◌, ℕ, Bool, true, false, List, [], ◌∷◌, length, refl, sym, ap, ◌∙◌, subst, true≢false, arith}
+use Rattle.std.specs.Prelude.{IfSome, None, Option, Some, Result, Ok, Err, OnOk, ◌==◌, max, position, slice_get, ⊤}
+use Rattle.std.specs.Io.KnownBytes.{Appends}
 use Rattle.std.specs.List.{IsDistinct}
 use Rattle.std.specs.Map.{keys_of, values_of}
+use Rattle.std.proofs.lemmas.Bool.Decides.{nat_tests}
 use Rattle.std.specs.Str.{bytes_eq}
 use Rattle.std.proofs.lemmas.Slice.Eq.{bytes_eq-Decides}
 use Rattle.indexmap.specs.IndexMap.{insert_entry, set_value_at}
 use Rattle.mold_devices.specs.Devices.{AppendsPrefix}
 use Rattle.mold_devices.specs.Writing.{Moves}
 use Rattle.mold_wire.specs.declared.session.Session.{Session}
-use Rattle.mold_check.specs.EachCheck.{EachState, each_text, entries_added, entries_text, same_key, same_name}
+use Rattle.mold_check.specs.EachCheck.{EachState, each_text, entries_added, entries_statuses, entries_text, greatest, greatest_status, same_key, same_name}
 use Rattle.mold_check.specs.Groups.{stepped}
 use Rattle.mold_check.specs.Judge.{Judging}
 use Rattle.mold_check.specs.contracts.session_key.SessionKeyPartialEq.TheImpl.{eq-value}
 use Rattle.mold_check.specs.declared.session_key.SessionKey.{SessionKey}
 use Rattle.mold_check.proofs.GroupLemmas.{IsSame, more_at, more_new, place_of}
-use Rattle.mold_check.proofs.MovedLemmas.{rest_front}
+use Rattle.mold_check.proofs.MovedLemmas.{rest_front, rest_sent}
 
 -- ---- equality of sessions
 
@@ -125,3 +127,32 @@ pub each_front : {S : Type 0} (judging : Judging S) (names : ℕ → List ℕ) (
 each_front {S} judging names old mid new text left entries refused now is moves front =
     subst (λ (s : EachState S). AppendsPrefix old new (text ++ each_text judging names s)) is
     (rest_front old mid new _ left moves front)
+
+-- All of it was written.
+pub each_sent : {S : Type 0} (judging : Judging S) (names : ℕ → List ℕ) (old mid new : Option (List ℕ))
+    (text left : List ℕ) (entries : List (SessionKey × S)) (refused : ℕ) (now : EachState S) →
+    record { entries = entries; refused = refused } ≡ now →
+    Moves old mid (text ++ entries_text judging names refused entries) left → Appends mid new left →
+    Appends old new (text ++ each_text judging names now)
+each_sent {S} judging names old mid new text left entries refused now is moves sent =
+    subst (λ (s : EachState S). Appends old new (text ++ each_text judging names s)) is
+    (rest_sent old mid new _ left moves sent)
+
+is_some : {T : Type 0} (first : T) (others : List T) → (length (first ∷ others) == 0) ≡ true → ⊥
+is_some first others none = grind (arith, nat_tests)
+
+-- Without a session the status is 1.
+pub status_none : {S : Type 0} (judging : Judging S) (entries : List (SessionKey × S)) (refused : ℕ) (now : EachState S) →
+    record { entries = entries; refused = refused } ≡ now → (length entries == 0) ≡ true →
+    1 ≡ greatest_status (entries_statuses judging now.entries)
+status_none judging [] refused now is none = ap (λ s. greatest_status (entries_statuses judging s.entries)) is
+status_none judging (entry ∷ entries) refused now is none = absurd (is_some entry entries none)
+
+-- With a session it is the greatest one.
+pub status_some : {S : Type 0} (judging : Judging S) (entries : List (SessionKey × S)) (refused : ℕ) (now : EachState S)
+    (status : ℕ) → record { entries = entries; refused = refused } ≡ now → (length entries == 0) ≡ false →
+    status ≡ greatest (entries_statuses judging entries) →
+    status ≡ greatest_status (entries_statuses judging now.entries)
+status_some judging [] refused now status is some found = absurd (true≢false some)
+status_some judging (entry ∷ entries) refused now status is some found =
+    found ∙ ap (λ s. greatest_status (entries_statuses judging s.entries)) is

@@ -1,5 +1,6 @@
 pub mod OrderLemmas
 pub mod ReportLemmas
+pub mod PrintedLemmas
 pub mod MovedLemmas
 pub mod CheckedLemmas
 pub mod VerdictLemmas

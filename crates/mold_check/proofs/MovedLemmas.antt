@@ -1,5 +1,5 @@
 -- A text that is written in pieces.
-use Rattle.std.proofs.Common.{◌≡◌, [], ◌++◌, List, Option, ℕ, ap, sym, ◌∙◌, append_assoc, append-nil}
+use Rattle.std.proofs.Common.{◌≡◌, [], ◌++◌, List, Option, ℕ, ap, subst, sym, ◌∙◌, append_assoc, append-nil}
 use Rattle.std.proofs.KnownBytes.{Appends-trans}
 use Rattle.std.specs.Io.KnownBytes.{Appends}
 use Rattle.mold_devices.specs.Devices.{AppendsPrefix}
@@ -69,3 +69,39 @@ rest_front old mid new text left moves front = record {
       ∙ sym (append_assoc moves.front front.front front.rest);
   appended = Appends-trans old mid new moves.front front.front moves.appended front.appended;
 }
+
+-- The text with a line and more was written. The line was appended to the text before.
+pub sent_line : (old new : Option (List ℕ)) (text line more now : List ℕ) → now ≡ text ++ line →
+    Appends old new (now ++ more) → Appends old new (text ++ (line ++ more))
+sent_line old new text line more now is =
+    subst (Appends old new) (ap (λ (t : List ℕ). t ++ more) is ∙ append_assoc text line more)
+
+-- The same of a prefix.
+pub front_line : (old new : Option (List ℕ)) (text line more now : List ℕ) → now ≡ text ++ line →
+    AppendsPrefix old new (now ++ more) → AppendsPrefix old new (text ++ (line ++ more))
+front_line old new text line more now is =
+    subst (AppendsPrefix old new) (ap (λ (t : List ℕ). t ++ more) is ∙ append_assoc text line more)
+
+-- The rest of the text was written.
+pub rest_sent : (old mid new : Option (List ℕ)) (text left : List ℕ) → Moves old mid text left →
+    Appends mid new left → Appends old new text
+rest_sent old mid new text left moves sent =
+    subst (Appends old new) (sym moves.parts) (Appends-trans old mid new moves.front left moves.appended sent)
+
+-- A text that is given in other terms was written.
+pub sent_as : (old new : Option (List ℕ)) (text now : List ℕ) → now ≡ text → Appends old new now → Appends old new text
+sent_as old new text now is = subst (Appends old new) is
+
+-- The same of a prefix.
+pub front_as : (old new : Option (List ℕ)) (text now : List ℕ) → now ≡ text → AppendsPrefix old new now →
+    AppendsPrefix old new text
+front_as old new text now is = subst (AppendsPrefix old new) is
+
+-- No part of the text is left.
+pub moves_end : (old new : Option (List ℕ)) (all text : List ℕ) → Moves old new all (text ++ []) → Moves old new all text
+moves_end old new all text = subst (Moves old new all) (append-nil text)
+
+-- What was written is a prefix of the text.
+pub moves_written : (old new : Option (List ℕ)) (all left : List ℕ) → Moves old new all left → AppendsPrefix old new all
+moves_written old new all left moves =
+    record { front = moves.front; rest = left; parts = moves.parts; appended = moves.appended }

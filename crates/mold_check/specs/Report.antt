@@ -1,8 +1,12 @@
 -- What `mold check` prints, and its exit status.
 use Rattle.std.specs.Prelude.{ℕ, ◌-◌, List, [], ◌∷◌, ◌++◌, length, map, slice_index_or, codes, decimal, Option}
-use Rattle.std.specs.Prelude.{None, Some}
+use Rattle.std.specs.Prelude.{None, Some, ◌≡◌, Result, IfErr, IfOk, OnOk}
 use Rattle.std.specs.Io.KnownBytes.{Appends}
 use Rattle.std.specs.List.{flat_map}
+use Rattle.mold_devices.specs.Devices.{AppendsPrefix}
+use Rattle.mold_devices.specs.Faults.{CountsSink}
+use Rattle.mold_devices.specs.declared.fault.CommandFault.{CommandFault}
+use Rattle.mold_devices.specs.declared.fault.CommandFault.TheVariants.{Memory}
 use Rattle.mold_rule.specs.Ranges.{Range}
 use Rattle.mold_text.specs.Line.{line_of}
 use Rattle.mold_text.specs.Text.{refusal_words, refused_line}
@@ -61,3 +65,13 @@ report {entries} checked =
 pub record Keeps (old new : Option (List ℕ)) (text : List ℕ) : Type 0 where
   pub more : List ℕ
   pub appended : Appends old new (text ++ more)
+
+-- The effect of writing `before` and a line that was just appended to it. If the line could not be appended, `before`
+-- was written. `left` is the text that remains.
+pub record Printed (old new : Option (List ℕ)) (failed_old failed_new : ℕ) (before line : List ℕ) (status : ℕ)
+    (left : List ℕ) (result : Result ℕ CommandFault) : Type 0 where
+  pub whole : IfOk result (λ s. Appends old new (before ++ line) × (s ≡ status))
+  pub empty : OnOk result (left ≡ [])
+  pub front : AppendsPrefix old new (before ++ line)
+  pub kept : IfErr result (λ fault. fault ≡ Memory → Keeps old new before)
+  pub failures : CountsSink failed_old failed_new result

@@ -1,19 +1,17 @@
 //! Checks datagrams one by one, up to the first refused one.
 
-ghost use Rattle.std.specs.Prelude.{◌≡◌, ◌++◌, IfErr, IfOk};
-ghost use Rattle.std.specs.Io.KnownBytes.{Appends};
+ghost use Rattle.std.specs.Prelude.{◌≡◌};
 ghost use Rattle.mold_check.specs.Judgement.{refused_text};
-ghost use Rattle.mold_check.specs.Report.{Keeps};
-ghost use Rattle.mold_devices.specs.Devices.{AppendsPrefix};
-ghost use Rattle.mold_devices.specs.Faults.{CountsSink};
+ghost use Rattle.mold_check.specs.Report.{Printed};
 
 use crate::fresh_judge::FreshJudge;
 use crate::judge::Judge;
 use crate::naming::Naming;
+use crate::printing::print_pushed;
 use crate::refused_datagram::RefusedDatagram;
 use crate::report::print_verdict;
 use mold_capture::{Checker, Refusal};
-use mold_devices::{CommandFault, Sink, end_with, send};
+use mold_devices::{CommandFault, Sink};
 use mold_rule::laws::lacking_law;
 use std::alloc::{AllocError, Global};
 use std::marker::Model;
@@ -120,20 +118,10 @@ pub(crate) fn print_refused<K: Sink, N: Naming>(
     naming: &N,
     datagram: RefusedDatagram,
 ) -> Result<u8, CommandFault>
-    ensures whole { IfOk result (λ status. Appends (K.held sink.old) (K.held sink.new)
-        (text.old.items ++ refused_text (N.named naming.now) datagram) × (status ≡ 2)) }
-    ensures front { AppendsPrefix (K.held sink.old) (K.held sink.new)
-        (text.old.items ++ refused_text (N.named naming.now) datagram) }
-    ensures kept { IfErr result (λ fault. fault ≡ CommandFault.Memory →
-        Keeps (K.held sink.old) (K.held sink.new) text.old.items) }
-    ensures failures { CountsSink (K.failed sink.old) (K.failed sink.new) result }
+    ensures { Printed (K.held sink.old) (K.held sink.new) (K.failed sink.old) (K.failed sink.new) text.old.items
+        (refused_text (N.named naming.now) datagram) 2 text.new.items result }
 {
-    let told = text.len();
-    match naming.push_refused(text, datagram.number, datagram.why) {
-        Ok(()) => {
-            send(sink, text)?;
-            Ok(2)
-        }
-        Err(_) => Err(end_with(sink, text, told, CommandFault::Memory)),
-    }
+    let len = text.len();
+    let pushed = naming.push_refused(text, datagram.number, datagram.why);
+    print_pushed(sink, text, len, pushed, 2)
 }

@@ -1,10 +1,10 @@
 //! Checks digested datagrams one by one, up to the first refused one.
 
-ghost use Rattle.std.specs.Prelude.{◌≡◌, ◌++◌, [], IfOk, OnOk};
+ghost use Rattle.std.specs.Prelude.{◌≡◌, ◌++◌, [], length, take, IfOk, OnErr, OnOk};
 ghost use Rattle.std.specs.Io.KnownBytes.{Appends};
 ghost use Rattle.mold_capture.specs.Outcome.{outcome_in};
 ghost use Rattle.mold_check.specs.DigestCheck.{digest_text, whole_line};
-ghost use Rattle.mold_check.specs.Report.{outcome_status};
+ghost use Rattle.mold_check.specs.Report.{Printed, outcome_status};
 ghost use Rattle.mold_devices.specs.Devices.{AppendsPrefix};
 ghost use Rattle.mold_devices.specs.Faults.{CountsSink};
 
@@ -12,9 +12,10 @@ use crate::datagram_check::{DatagramCheck, print_refused};
 use crate::fresh_judge::FreshJudge;
 use crate::judge::Judge;
 use crate::naming::Naming;
+use crate::printing::print_pushed;
 use crate::report::print_verdict;
 use mold_capture::Verdict;
-use mold_devices::{CommandFault, Sink, send};
+use mold_devices::{CommandFault, Sink};
 use mold_rule::laws::lacking_law;
 use mold_text::{Word, push_line};
 use std::alloc::{AllocError, Global};
@@ -87,7 +88,8 @@ impl Judge for DigestCheck {
 }
 
 fn push_whole(text: &mut Vec<u8>, messages: u64) -> Result<(), AllocError>
-    ensures { OnOk result (text.new.items ≡ text.old.items ++ whole_line messages) }
+    ensures line { OnOk result (text.new.items ≡ text.old.items ++ whole_line messages) }
+    ensures kept { OnErr result (take (length text.old.items) text.new.items ≡ text.old.items) }
 {
     push_line(
         text,
@@ -102,14 +104,12 @@ fn push_whole(text: &mut Vec<u8>, messages: u64) -> Result<(), AllocError>
 
 // Writes the text and that the session is whole by its digests, and returns the exit status.
 fn print_whole<K: Sink>(sink: &mut K, text: &mut Vec<u8>, messages: u64) -> Result<u8, CommandFault>
-    ensures whole { IfOk result (λ status. Appends (K.held sink.old) (K.held sink.new)
-        (text.old.items ++ whole_line messages) × (status ≡ 0)) }
-    ensures front { AppendsPrefix (K.held sink.old) (K.held sink.new) (text.old.items ++ whole_line messages) }
-    ensures failures { CountsSink (K.failed sink.old) (K.failed sink.new) result }
+    ensures { Printed (K.held sink.old) (K.held sink.new) (K.failed sink.old) (K.failed sink.new) text.old.items
+        (whole_line messages) 0 text.new.items result }
 {
-    push_whole(text, messages)?;
-    send(sink, text)?;
-    Ok(0)
+    let len = text.len();
+    let pushed = push_whole(text, messages);
+    print_pushed(sink, text, len, pushed, 0)
 }
 
 // Writes the text and what the verdict on digested datagrams reports, and returns the exit status.

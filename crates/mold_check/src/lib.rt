@@ -17,6 +17,7 @@ pub mod laws;
 mod line_check;
 mod lines;
 mod naming;
+mod printing;
 mod refused_datagram;
 mod report;
 mod session_key;

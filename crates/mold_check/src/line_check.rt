@@ -1,19 +1,20 @@
 //! Checks datagrams given as lines of hexadecimal digits, line by line.
 
-ghost use Rattle.std.specs.Prelude.{◌≡◌, ◌++◌, None, length, take, IfErr, IfOk, OnErr, OnOk};
+ghost use Rattle.std.specs.Prelude.{◌≡◌, ◌++◌, length, take, IfOk, OnErr, OnOk};
 ghost use Rattle.std.specs.Io.KnownBytes.{Appends};
 ghost use Rattle.hex.specs.Hex.{decode_of};
 ghost use Rattle.mold_check.specs.CheckLines.{count_line};
 ghost use Rattle.mold_check.specs.Checking.{beginning, beginning_over, checking_status, checking_text};
 ghost use Rattle.mold_check.specs.Checking.{judged_digits, not_hex_text, taken};
-ghost use Rattle.mold_check.specs.Report.{Keeps};
+ghost use Rattle.mold_check.specs.Report.{Printed};
 ghost use Rattle.mold_devices.specs.Devices.{AppendsPrefix};
 ghost use Rattle.mold_devices.specs.Faults.{CountsSink};
 
 use crate::fresh_judge::FreshJudge;
 use crate::judge::Judge;
 use crate::naming::Counted;
-use mold_devices::{CommandFault, Sink, end_with, send};
+use crate::printing::print_pushed;
+use mold_devices::{CommandFault, Sink, send};
 use mold_text::{Word, push_line};
 use std::alloc::{AllocError, Global};
 use std::marker::Model;
@@ -174,20 +175,10 @@ fn push_not_hex(text: &mut Vec<u8>, number: u64) -> Result<(), AllocError>
 // Writes the text and that the line with this number is not hexadecimal, and returns the exit status. If an allocation
 // fails, writes the text.
 fn print_not_hex<K: Sink>(sink: &mut K, text: &mut Vec<u8>, number: u64) -> Result<u8, CommandFault>
-    ensures whole { IfOk result (λ status. Appends (K.held sink.old) (K.held sink.new)
-        (text.old.items ++ not_hex_text number) × (status ≡ 2)) }
-    ensures front { AppendsPrefix (K.held sink.old) (K.held sink.new)
-        (text.old.items ++ not_hex_text number) }
-    ensures kept { IfErr result (λ fault. fault ≡ CommandFault.Memory →
-        Keeps (K.held sink.old) (K.held sink.new) text.old.items) }
-    ensures failures { CountsSink (K.failed sink.old) (K.failed sink.new) result }
+    ensures { Printed (K.held sink.old) (K.held sink.new) (K.failed sink.old) (K.failed sink.new) text.old.items
+        (not_hex_text number) 2 text.new.items result }
 {
-    let told = text.len();
-    match push_not_hex(text, number) {
-        Ok(()) => {
-            send(sink, text)?;
-            Ok(2)
-        }
-        Err(_) => Err(end_with(sink, text, told, CommandFault::Memory)),
-    }
+    let len = text.len();
+    let pushed = push_not_hex(text, number);
+    print_pushed(sink, text, len, pushed, 2)
 }

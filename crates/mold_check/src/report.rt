@@ -5,7 +5,7 @@ ghost use Rattle.std.specs.Io.KnownBytes.{Appends};
 ghost use Rattle.mold_capture.specs.Outcome.{incomplete, outcome_in, whole};
 ghost use Rattle.mold_capture.specs.Verdict.{ranges_of};
 ghost use Rattle.mold_check.specs.Entries.{NamesDiffer};
-ghost use Rattle.mold_check.specs.Report.{Checked, Keeps, counts_line, incomplete_line, missing_line};
+ghost use Rattle.mold_check.specs.Report.{Checked, Keeps, Printed, counts_line, incomplete_line, missing_line};
 ghost use Rattle.mold_check.specs.Report.{missing_text, outcome_status, outcome_text, report};
 ghost use Rattle.mold_devices.specs.Devices.{AppendsPrefix};
 ghost use Rattle.mold_devices.specs.Faults.{CountsSink};
@@ -16,6 +16,7 @@ ghost use Rattle.mold_text.specs.Text.{refusal_words, refused_line};
 
 use crate::datagrams::{lend_bytes, sorted_datagrams};
 use crate::entry::Entry;
+use crate::printing::print_pushed;
 use mold_capture::laws::outcome_law;
 use mold_capture::{Range, Refusal, Verdict, check};
 use mold_devices::{CommandFault, Sink, end_with, send, send_large};
@@ -125,22 +126,12 @@ fn send_missing<K: Sink>(
 
 // Writes the text and that the session is whole, and returns the exit status. If an allocation fails, writes the text.
 fn print_whole<K: Sink>(sink: &mut K, text: &mut Vec<u8>, messages: u64) -> Result<u8, CommandFault>
-    ensures whole { IfOk result (λ status. Appends (K.held sink.old) (K.held sink.new)
-        (text.old.items ++ outcome_text [] (whole messages)) × (status ≡ 0)) }
-    ensures front { AppendsPrefix (K.held sink.old) (K.held sink.new)
-        (text.old.items ++ outcome_text [] (whole messages)) }
-    ensures kept { IfErr result (λ fault. fault ≡ CommandFault.Memory →
-        Keeps (K.held sink.old) (K.held sink.new) text.old.items) }
-    ensures failures { CountsSink (K.failed sink.old) (K.failed sink.new) result }
+    ensures { Printed (K.held sink.old) (K.held sink.new) (K.failed sink.old) (K.failed sink.new) text.old.items
+        (outcome_text [] (whole messages)) 0 text.new.items result }
 {
-    let told = text.len();
-    match push_whole(text, messages) {
-        Ok(()) => {
-            send(sink, text)?;
-            Ok(0)
-        }
-        Err(_) => Err(end_with(sink, text, told, CommandFault::Memory)),
-    }
+    let len = text.len();
+    let pushed = push_whole(text, messages);
+    print_pushed(sink, text, len, pushed, 0)
 }
 
 // Writes the text and the missing ranges, and returns the exit status. If an allocation fails, writes the text and the
@@ -201,22 +192,12 @@ fn print_refusal<K: Sink>(
     name: &[u8],
     reason: Refusal,
 ) -> Result<u8, CommandFault>
-    ensures whole { IfOk result (λ status. Appends (K.held sink.old) (K.held sink.new)
-        (text.old.items ++ refused_line (name.now ∷ refusal_words reason)) × (status ≡ 2)) }
-    ensures front { AppendsPrefix (K.held sink.old) (K.held sink.new)
-        (text.old.items ++ refused_line (name.now ∷ refusal_words reason)) }
-    ensures kept { IfErr result (λ fault. fault ≡ CommandFault.Memory →
-        Keeps (K.held sink.old) (K.held sink.new) text.old.items) }
-    ensures failures { CountsSink (K.failed sink.old) (K.failed sink.new) result }
+    ensures { Printed (K.held sink.old) (K.held sink.new) (K.failed sink.old) (K.failed sink.new) text.old.items
+        (refused_line (name.now ∷ refusal_words reason)) 2 text.new.items result }
 {
-    let told = text.len();
-    match push_refusal(text, &[Word::Text(b"refused"), Word::Text(name)], reason) {
-        Ok(()) => {
-            send(sink, text)?;
-            Ok(2)
-        }
-        Err(_) => Err(end_with(sink, text, told, CommandFault::Memory)),
-    }
+    let len = text.len();
+    let pushed = push_refusal(text, &[Word::Text(b"refused"), Word::Text(name)], reason);
+    print_pushed(sink, text, len, pushed, 2)
 }
 
 /// Checks the entries that are datagrams, in ascending order of the bytes of their names. It writes the outcome

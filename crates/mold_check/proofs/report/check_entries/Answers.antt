@@ -25,6 +25,9 @@ returns-in_err-push_counts-in-Ok-clause-front g c = λ differ checked. front_non
 pub returns-in_err-push_counts-in-Err-clause-front : goal.returns-in_err-push_counts-in-Err-clause-front
 returns-in_err-push_counts-in-Err-clause-front g c = λ differ checked. front_none _ _
 
+pub returns-in-Err-default-Memory-clause-front : goal.returns-in-Err-default-Memory-clause-front
+returns-in-Err-default-Memory-clause-front g c = λ differ checked. front_none _ _
+
 pub overflow_sub-skipped : goal.overflow_sub-skipped
 overflow_sub-skipped g c =
     omega (

@@ -1,6 +1,6 @@
 use Rattle.mold_check.proofs.LineLemmas.{early_text}
 use Rattle.mold_check.proofs.MovedLemmas.{moved_front}
-use Rattle.mold_check.proofs.ReportLemmas.{front_more}
+use Rattle.mold_check.proofs.ReportLemmas.{front_more, front_none}
 use Rattle.std.proofs.Common.{sym}
 use Rattle.mold_check.specs.Checking.{not_hex_text}
 use Rattle.mold_check.proofs.line_check.LineCheck.print.Goals as goal
@@ -18,3 +18,6 @@ returns-in-Some-clause-front g c =
     c.print_not_hex.ensures.front
     (early_text g.J.Judge.judging c.args.self.now _ _ _ _ c.in-Some.number _ _ c.self.view_is c.in-Some.is
     c.new-text.ensures.items c.in_ok-push_count.ensures)
+
+pub returns-in_err-push_count-clause-front : goal.returns-in_err-push_count-clause-front
+returns-in_err-push_count-clause-front g c = front_none _ _

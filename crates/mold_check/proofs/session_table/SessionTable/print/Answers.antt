@@ -1,7 +1,7 @@
 use Rattle.std.proofs.Common.{◌++◌, ◌∙◌}
 use Rattle.mold_check.specs.EachCheck.{entries_statuses, entries_text, entry_status_by, entry_text, greatest}
-use Rattle.mold_check.proofs.EachLemmas.{status_more}
-use Rattle.mold_check.proofs.MovedLemmas.{moves_front, moves_more, moves_sent}
+use Rattle.mold_check.proofs.EachLemmas.{status_all, status_more}
+use Rattle.mold_check.proofs.MovedLemmas.{moves_end, moves_front, moves_more, moves_sent, moves_written}
 use Rattle.mold_check.proofs.session_table.SessionTable.print.Goals as goal
 
 pub loop-key-preserved : goal.loop-key-preserved
@@ -35,3 +35,13 @@ returns-in_err-status-clause-front g c =
     moves_front old mid (g.K.Sink.held c.print_entry.new.sink) all c.loop-key.text.items
     (entry_text judging names c.args.refused (c.in-Some.key.now, c.in-Some.judge.now)) (entries_text judging names c.args.refused c.next.new.self) so
     c.print_entry.ensures.front
+
+pub returns-clause-moved : goal.returns-clause-moved
+returns-clause-moved g c = (
+  moves_end _ _ _ _ (rw c.in-None.ensures.steps.0 at c.loop-key.invariant.moves),
+  status_all _ _ (rw c.in-None.ensures.steps.0 at c.loop-key.invariant.statuses),
+)
+
+pub returns-clause-front : goal.returns-clause-front
+returns-clause-front g c =
+    moves_written _ _ _ _ (rw c.in-None.ensures.steps.0 at c.loop-key.invariant.moves)
