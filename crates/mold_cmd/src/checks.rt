@@ -12,14 +12,8 @@ use mold_words::{ExtractForm, ExtractOrder, InputOrder};
 use std::alloc::Global;
 use std::io::Write;
 
-// Adds the datagrams of the input to the judge, prints what it finds, and flushes standard output once.
-fn check_over<J: Judge>(
-    rt: &HostRuntime,
-    input: &InputOrder,
-    judge: J,
-) -> Result<u8, CommandFault> {
-    let entries = read_entries(rt, input)?;
-    let check = read_check(rt, input, entries.as_slice(), judge)?;
+// Prints what the check finds, and flushes standard output once.
+fn report<J: Judge>(rt: &HostRuntime, check: &InputCheck<'_, J>) -> Result<u8, CommandFault> {
     let mut sink = IntoWrite::new(rt.stdout());
     let outcome = check.print(rt.alloc(), &mut sink);
     let status = flushed(outcome, sink.into_inner().flush())?;
@@ -27,9 +21,36 @@ fn check_over<J: Judge>(
     Ok(status)
 }
 
+// Adds the datagrams of the input to the judge, and reports what it finds.
+fn check_over<J: Judge>(
+    rt: &HostRuntime,
+    input: &InputOrder,
+    judge: J,
+) -> Result<u8, CommandFault> {
+    let entries = read_entries(rt, input)?;
+    let check = read_check(rt, input, entries.as_slice(), judge)?;
+    report(rt, &check)
+}
+
 /// Checks each session of the input by itself.
 pub(crate) fn check_each(rt: &HostRuntime, input: &InputOrder) -> Result<u8, CommandFault> {
     let judge: EachCheck<DatagramCheck> = EachCheck::new(rt.alloc());
+    check_over(rt, input, judge)
+}
+
+// Checks each session of the input by itself, by digests under this key.
+fn check_each_under(
+    rt: &HostRuntime,
+    input: &InputOrder,
+    key: &DigestKey,
+) -> Result<u8, CommandFault> {
+    let judge: Digested<'_, EachCheck<DigestCheck>> = Digested::new(key, rt.alloc());
+    check_over(rt, input, judge)
+}
+
+// Checks the input by digests under this key.
+fn check_under(rt: &HostRuntime, input: &InputOrder, key: &DigestKey) -> Result<u8, CommandFault> {
+    let judge: Digested<'_, DigestCheck> = Digested::new(key, rt.alloc());
     check_over(rt, input, judge)
 }
 
@@ -44,11 +65,9 @@ pub(crate) fn check_by_digest(
         return Err(CommandFault::Read);
     };
     if each {
-        let judge: Digested<'_, EachCheck<DigestCheck>> = Digested::new(&key, rt.alloc());
-        return check_over(rt, input, judge);
+        return check_each_under(rt, input, &key);
     }
-    let judge: Digested<'_, DigestCheck> = Digested::new(&key, rt.alloc());
-    check_over(rt, input, judge)
+    check_under(rt, input, &key)
 }
 
 // Returns the outcome of writing to a file.
@@ -90,6 +109,31 @@ fn save<J: Sink, K: Sink>(
     Ok(status)
 }
 
+// Saves the session of the check, and flushes standard output once.
+fn save_check<J: Sink>(
+    rt: &HostRuntime,
+    check: &InputCheck<'_, DatagramCheck>,
+    file: &mut J,
+) -> Result<u8, CommandFault> {
+    let mut sink = IntoWrite::new(rt.stdout());
+    let outcome = save(rt.alloc(), check, file, &mut sink);
+    let status = flushed(outcome, sink.into_inner().flush())?;
+    check.refer_to_sessions(rt);
+    Ok(status)
+}
+
+// Checks the input, and saves its session.
+fn save_input<J: Sink>(
+    rt: &HostRuntime,
+    input: &InputOrder,
+    file: &mut J,
+) -> Result<u8, CommandFault> {
+    let entries = read_entries(rt, input)?;
+    let judge = DatagramCheck::new(rt.alloc());
+    let check = read_check(rt, input, entries.as_slice(), judge)?;
+    save_check(rt, &check, file)
+}
+
 /// Checks the input. If its session is whole and no capture is at fault, saves it as a journal, whose file is created at
 /// its first write. Flushes standard output once.
 pub(crate) fn check_and_save(
@@ -98,18 +142,8 @@ pub(crate) fn check_and_save(
     journal: &str,
 ) -> Result<u8, ProgramFault> {
     let mut file = open_replaced(rt, journal)?;
-    let entries = read_entries(rt, input)?;
-    let check = read_check(
-        rt,
-        input,
-        entries.as_slice(),
-        DatagramCheck::new(rt.alloc()),
-    )?;
-    let mut sink = IntoWrite::new(rt.stdout());
-    let outcome = save(rt.alloc(), &check, &mut file, &mut sink);
-    let status = unless_locked(flushed(outcome, sink.into_inner().flush()), file)?;
-    check.refer_to_sessions(rt);
-    Ok(status)
+    let outcome = save_input(rt, input, &mut file);
+    unless_locked(outcome, file)
 }
 
 // Writes the messages in the range to the file. If there are none, the file is empty.
@@ -158,19 +192,35 @@ fn extract<J: Sink, K: Sink>(
     Ok(0)
 }
 
+// Extracts messages of the check, and flushes standard output once.
+fn extract_check<J: Sink>(
+    rt: &HostRuntime,
+    check: &InputCheck<'_, DatagramCheck>,
+    order: &ExtractOrder,
+    file: &mut J,
+) -> Result<u8, CommandFault> {
+    let mut sink = IntoWrite::new(rt.stdout());
+    let outcome = extract(rt.alloc(), check, order, file, &mut sink);
+    let status = flushed(outcome, sink.into_inner().flush())?;
+    check.refer_to_sessions(rt);
+    Ok(status)
+}
+
+// Checks the input, and extracts its messages.
+fn extract_input<J: Sink>(
+    rt: &HostRuntime,
+    order: &ExtractOrder,
+    file: &mut J,
+) -> Result<u8, CommandFault> {
+    let entries = read_entries(rt, &order.input)?;
+    let judge = DatagramCheck::new(rt.alloc());
+    let check = read_check(rt, &order.input, entries.as_slice(), judge)?;
+    extract_check(rt, &check, order, file)
+}
+
 /// Extracts messages of the input to a file, which is created at its first write. Flushes standard output once.
 pub(crate) fn run_extract(rt: &HostRuntime, order: &ExtractOrder) -> Result<u8, ProgramFault> {
     let mut file = open_replaced(rt, order.to.as_str())?;
-    let entries = read_entries(rt, &order.input)?;
-    let check = read_check(
-        rt,
-        &order.input,
-        entries.as_slice(),
-        DatagramCheck::new(rt.alloc()),
-    )?;
-    let mut sink = IntoWrite::new(rt.stdout());
-    let outcome = extract(rt.alloc(), &check, order, &mut file, &mut sink);
-    let status = unless_locked(flushed(outcome, sink.into_inner().flush()), file)?;
-    check.refer_to_sessions(rt);
-    Ok(status)
+    let outcome = extract_input(rt, order, &mut file);
+    unless_locked(outcome, file)
 }

@@ -11,6 +11,7 @@ mod watched_lines;
 
 use captures::{check_captures, list_sessions, show_captures};
 use checks::{check_and_save, check_by_digest, check_each, run_extract};
+use mold_check::check_lines;
 use mold_commands::{
     DumpOptions, check_folder, dump_file, run_command, run_pack_journal, run_upgrade,
 };
@@ -101,23 +102,40 @@ fn pack_file(rt: &HostRuntime, order: &PackJournalOrder) -> Result<u8, ProgramFa
 }
 
 // Checks the lines on standard input, and flushes standard output once.
-fn run_check_lines(rt: &HostRuntime, order: &Order) -> Result<u8, CommandFault>
-    requires { IsStreamed order.now }
-{
+fn check_input_lines(rt: &HostRuntime) -> Result<u8, CommandFault> {
     let mut source = WatchedLines::new(FromRead::new(rt.stdin()), Progress::of_unknown(rt));
     let mut sink = IntoWrite::new(rt.stdout());
-    let outcome = run_command(rt.alloc(), order, &mut source, &mut sink);
+    let outcome = check_lines(rt.alloc(), &mut source, &mut sink);
     source.end();
     flushed(outcome, sink.into_inner().flush())
 }
 
 // Checks the folder, and flushes standard output once.
-fn run_check(rt: &HostRuntime, folder: &str) -> Result<u8, CommandFault> {
+fn check_input_folder(rt: &HostRuntime, folder: &str) -> Result<u8, CommandFault> {
     let mut progress = Progress::of_unknown(rt);
     let mut sink = IntoWrite::new(rt.stdout());
     let outcome = check_folder(rt, folder, &mut progress, &mut sink);
     progress.end();
     flushed(outcome, sink.into_inner().flush())
+}
+
+// Checks the datagrams of the input as those of one session.
+fn check_input(rt: &HostRuntime, input: &InputOrder) -> Result<u8, CommandFault> {
+    match input {
+        InputOrder::Lines => check_input_lines(rt),
+        InputOrder::Folder(folder) => check_input_folder(rt, folder.as_str()),
+        InputOrder::Captures(captures) => check_captures(rt, captures),
+    }
+}
+
+fn run_check(rt: &HostRuntime, order: &CheckOrder) -> Result<u8, ProgramFault> {
+    match &order.judging {
+        Judging::Whole { digest: false } => Ok(check_input(rt, &order.input)?),
+        Judging::Whole { digest: true } => Ok(check_by_digest(rt, &order.input, false)?),
+        Judging::Each { digest: false } => Ok(check_each(rt, &order.input)?),
+        Judging::Each { digest: true } => Ok(check_by_digest(rt, &order.input, true)?),
+        Judging::Save { journal } => check_and_save(rt, &order.input, journal.as_str()),
+    }
 }
 
 // Upgrades a journal file. The new file is created when something is written to it.
@@ -167,48 +185,7 @@ fn run(rt: &HostRuntime, order: &Order) -> Result<u8, ProgramFault> {
         Order::Pack(_) => Ok(run_streamed(rt, order)?),
         Order::PackJournal(order) => pack_file(rt, order),
         Order::Sim(_) => Ok(run_streamed(rt, order)?),
-        Order::Check(
-            CheckOrder {
-                input: InputOrder::Folder(folder),
-                judging: Judging::Whole { digest: false },
-            },
-        ) => Ok(run_check(rt, folder.as_str())?),
-        Order::Check(
-            CheckOrder {
-                input: InputOrder::Lines,
-                judging: Judging::Whole { digest: false },
-            },
-        ) => Ok(run_check_lines(rt, order)?),
-        Order::Check(
-            CheckOrder {
-                input: InputOrder::Captures(captures),
-                judging: Judging::Whole { digest: false },
-            },
-        ) => Ok(check_captures(rt, captures)?),
-        Order::Check(
-            CheckOrder {
-                input,
-                judging: Judging::Each { digest: false },
-            },
-        ) => Ok(check_each(rt, input)?),
-        Order::Check(
-            CheckOrder {
-                input,
-                judging: Judging::Save { journal },
-            },
-        ) => check_and_save(rt, input, journal.as_str()),
-        Order::Check(
-            CheckOrder {
-                input,
-                judging: Judging::Whole { digest: true },
-            },
-        ) => Ok(check_by_digest(rt, input, false)?),
-        Order::Check(
-            CheckOrder {
-                input,
-                judging: Judging::Each { digest: true },
-            },
-        ) => Ok(check_by_digest(rt, input, true)?),
+        Order::Check(order) => run_check(rt, order),
         Order::Extract(order) => run_extract(rt, order),
         Order::ShowCaptures(order) => Ok(show_captures(rt, order)?),
         Order::Sessions(order) => Ok(list_sessions(rt, order)?),
