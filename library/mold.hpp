@@ -15,6 +15,7 @@
 #include <cstddef>
 #include <cstdint>
 #include <functional>
+#include <iterator>
 #include <optional>
 #include <string_view>
 #include <utility>
@@ -227,6 +228,54 @@ protected:
     Handle handle_ = MOLD_EMPTY;
 };
 
+/// The messages of a listener's batch, in order, as a range of `Bytes`. It is valid until the next call that changes the
+/// listener.
+class Batch {
+public:
+    class Iterator {
+    public:
+        using iterator_category = std::input_iterator_tag;
+        using value_type = Bytes;
+        using difference_type = std::ptrdiff_t;
+        using pointer = void;
+        using reference = Bytes;
+
+        Iterator(const mold_listener *listener, std::size_t i) noexcept : listener_(listener), i_(i) {}
+
+        Bytes operator*() const noexcept {
+            mold_bytes message = MOLD_NO_BYTES;
+            mold_listener_message(listener_, i_, &message);
+            return message;
+        }
+
+        Iterator &operator++() noexcept {
+            i_++;
+            return *this;
+        }
+
+        Iterator operator++(int) noexcept { return Iterator(listener_, i_++); }
+
+        friend bool operator==(const Iterator &a, const Iterator &b) noexcept { return a.i_ == b.i_; }
+        friend bool operator!=(const Iterator &a, const Iterator &b) noexcept { return a.i_ != b.i_; }
+
+    private:
+        const mold_listener *listener_;
+        std::size_t i_;
+    };
+
+    explicit Batch(const mold_listener *listener) noexcept
+        : listener_(listener), count_(mold_listener_count(listener)) {}
+
+    Iterator begin() const noexcept { return Iterator(listener_, 0); }
+    Iterator end() const noexcept { return Iterator(listener_, count_); }
+    std::size_t size() const noexcept { return count_; }
+    [[nodiscard]] bool empty() const noexcept { return count_ == 0; }
+
+private:
+    const mold_listener *listener_;
+    std::size_t count_;
+};
+
 /// Delivers the messages of a session in order, from two lines and from the responses of a server.
 class Listener : public Owned<mold_listener> {
 public:
@@ -263,6 +312,9 @@ public:
     /// The number of messages of the batch, and the sequence number of the first.
     std::size_t count() const noexcept { return mold_listener_count(&handle_); }
     std::uint64_t first() const noexcept { return mold_listener_first(&handle_); }
+
+    /// The messages of the batch, for `for (mold::Bytes message : listener.batch())`.
+    Batch batch() const noexcept { return Batch(&handle_); }
 
     [[nodiscard]] Code message(std::size_t i, Bytes &message) const noexcept {
         mold_bytes slice = MOLD_NO_BYTES;

@@ -83,11 +83,17 @@ void a_listener_listens() {
     CHECK(listener.message(4, message) == Code::Absent && message.size() == 29 && message[0] == 't');
     std::array<mold_bytes, 8> all{};
     CHECK(listener.messages(all.data(), all.size()) == 4 && mold::Bytes(all[1]).empty() && is_bytes(all[3], "fourth"));
+    std::vector<std::size_t> lengths;
+    for (mold::Bytes each : listener.batch())
+        lengths.push_back(each.size());
+    CHECK(lengths == std::vector<std::size_t>{5, 0, 29, 6} && listener.batch().size() == 4 && !listener.batch().empty());
+    const mold::Batch batch = listener.batch();
+    CHECK(std::count_if(batch.begin(), batch.end(), [](mold::Bytes each) { return each.empty(); }) == 1);
     std::array<std::uint8_t, 8> room{};
     std::size_t size = 0;
     CHECK(listener.copy(0, room, size) == Code::Done && size == 5 && room[4] == 't');
     CHECK(listener.copy(2, room, size) == Code::Room && size == 29);
-    CHECK(listener.clear() == Code::Done && listener.count() == 0);
+    CHECK(listener.clear() == Code::Done && listener.count() == 0 && listener.batch().empty());
     listener.reset();
     CHECK(!listener && listener.next() == 0 && listener.open(name, 7, 1) == Code::Done && listener.next() == 7);
 }
