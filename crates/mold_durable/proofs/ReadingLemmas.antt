@@ -7,7 +7,7 @@ use Rattle.std.proofs.lemmas.List.{length-take-le, drop-drop, drop-append-le, ni
 use Rattle.std.specs.Prelude.{slice_index}
 use Rattle.byteorder.specs.Endian.{big_number}
 use Rattle.mold_wire.specs.Block.{be16}
-use Rattle.mold_session.specs.Checking.{HasBlock, HasRecord}
+use Rattle.mold_session.specs.Checking.{BeginsRecord, HasBlock, HasRecord}
 use Rattle.mold_session.specs.FileFault.{IsDamaged, no_gate, no_kind, bad_kind, cut_closing, cut_message}
 use Rattle.mold_session.specs.FileFault.{IsLongRecord, RecordFault, RecordsFault}
 use Rattle.mold_session.specs.Journal.{AreMessages}
@@ -107,30 +107,21 @@ record_next most len rest body starts block = record {
       );
 }
 
--- The first four bytes of the whole record of a message, as a number.
-pub whole_parts : (most len : ℕ) (rest : List ℕ) → ((i : ℕ) → slice_index rest i < 256) → 4 ≤ length rest →
-    16777216 ≤ big_number 4 (take 4 rest) → len ≡ big_number 4 (take 4 rest) - 16777216 → len ≤ most → most ≤ 65535 →
-    len ≤ length (drop 4 rest) → HasRecord most rest (drop (4 + len) rest)
-whole_parts most len [] small long high is low bound fits = absurd (omega (arith, long))
-whole_parts most len (a ∷ []) small long high is low bound fits = absurd (omega (arith, long))
-whole_parts most len (a ∷ b ∷ []) small long high is low bound fits = absurd (omega (arith, long))
-whole_parts most len (a ∷ b ∷ c ∷ []) small long high is low bound fits = absurd (omega (arith, long))
-whole_parts most len (a ∷ b ∷ c ∷ d ∷ more) small long high is low bound fits =
-    let first : a ≡ 1 = omega (arith, small 0, small 1, small 2, small 3, high, is, low, bound) in
-    let second : b ≡ 0 = omega (arith, small 0, small 1, small 2, small 3, high, is, low, bound) in
-    let stated : len ≡ c * 256 + d = omega (arith, first, second, is, high) in
-    let message = take len more in
-    let size : length message ≡ len = length-take-le len more fits in
-    let number : be16 (length message) ≡ c ∷ d ∷ [] = ap be16 size ∙ be16_of c d len (small 2) (small 3) stated in
+-- The whole record of a message, which begins the bytes.
+pub whole_parts : (most len : ℕ) (rest : List ℕ) → BeginsRecord most rest len → 4 + len ≤ length rest →
+    HasRecord most rest (drop (4 + len) rest)
+whole_parts most len rest begins fits =
+    let message = take len (drop 4 rest) in
+    let size : length message ≡ len = length-take-le len (drop 4 rest) (omega (arith, fits, length-drop 4 rest)) in
     record {
       message = message;
-      within = omega (arith, size, low);
+      within = omega (arith, size, begins.within);
       parts =
-          ap (λ (n : ℕ). n ∷ b ∷ c ∷ d ∷ more) first
-          ∙ ap (λ (n : ℕ). 1 ∷ n ∷ c ∷ d ∷ more) second
-          ∙ ap (λ (t : List ℕ). 1 ∷ 0 ∷ (t ++ more)) (sym number)
-          ∙ ap (λ (t : List ℕ). 1 ∷ 0 ∷ (be16 (length message) ++ t)) (sym (take-append-drop len more))
-          ∙ ap (λ (t : List ℕ). record_of message ++ t) (drop-drop len 4 (a ∷ b ∷ c ∷ d ∷ more));
+          sym (take-append-drop 4 rest)
+          ∙ ap (λ (t : List ℕ). t ++ drop 4 rest) begins.starts
+          ∙ ap (λ (n : ℕ). 1 ∷ 0 ∷ (be16 n ++ drop 4 rest)) (sym size)
+          ∙ ap (λ (t : List ℕ). 1 ∷ 0 ∷ (be16 (length message) ++ t)) (sym (take-append-drop len (drop 4 rest)))
+          ∙ ap (λ (t : List ℕ). record_of message ++ t) (drop-drop len 4 rest);
     }
 
 -- No record was read yet.

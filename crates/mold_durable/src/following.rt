@@ -10,13 +10,13 @@ ghost use Rattle.mold_durable.specs.GrowingFile.{Passes};
 ghost use Rattle.mold_durable.specs.Reading.{CountsOpen, HeadFault, IsOfDevice, file_error};
 
 use crate::error::OpenError;
-use crate::gate::{OPEN_GATE, SHUT_GATE};
-use crate::group::RECORD_HEAD;
+use crate::gate::SHUT_GATE;
 use crate::growing_file::GrowingFile;
 use crate::head::{HEAD_LENGTH, split_head};
 use crate::records::{NextRecord, next_record};
 use crate::recovery::Records;
 use mold_messages::MessageList;
+use mold_session::{OPEN_GATE, RECORD_HEAD};
 use mold_wire::Session;
 
 /// The number of bytes that are read first. Most records are shorter.

@@ -7,9 +7,7 @@ ghost use Rattle.mold_durable.specs.Storage.{IsKept, LeavesOnly};
 
 use crate::storage::{Storage, write_synced};
 use mold_devices::DeviceFault;
-
-/// The gate before a record. A record whose gate has another value does not count.
-pub const OPEN_GATE: u8 = 1;
+use mold_session::OPEN_GATE;
 
 /// The gate that a writer puts after the last record.
 pub const SHUT_GATE: u8 = 0;

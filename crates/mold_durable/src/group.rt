@@ -6,24 +6,15 @@ ghost use Rattle.mold_wire.specs.Block.{be16};
 ghost use Rattle.mold_durable.specs.Group.{GroupState, HasRecord, IsTextOf, last_gate_of};
 ghost use Rattle.mold_session.specs.Records.{record_of};
 
-use crate::gate::{OPEN_GATE, SHUT_GATE};
+use crate::gate::SHUT_GATE;
 use byteorder::{BigEndian, ByteOrder};
+use mold_session::{CLOSING_KIND, MESSAGE_KIND, OPEN_GATE, RECORD_HEAD};
 use std::alloc::{AllocError, Global};
 use std::marker::Model;
 
-/// The byte after the gate of a message's record.
-pub const MESSAGE: u8 = 0;
-
-/// The byte after the gate of the closing record.
-pub const CLOSING: u8 = 1;
-
-/// The bytes of a record before its message: the gate, the byte that states what the record is, and the message's
-/// length.
-pub const RECORD_HEAD: usize = 4;
-
 /// The bytes that a group keeps after its records: the shut gate, and two more bytes. Once the gate is open, the three
 /// bytes are the closing record.
-const END: [u8; 3] = [SHUT_GATE, CLOSING, SHUT_GATE];
+const END: [u8; 3] = [SHUT_GATE, CLOSING_KIND, SHUT_GATE];
 
 /// Messages that wait to be committed. They are kept as the records that a commit writes, so a commit copies nothing.
 /// A message takes its bytes and 4 more. The group keeps its memory until it is dropped.
@@ -138,7 +129,7 @@ fn record_head(message: &[u8]) -> [u8; RECORD_HEAD]
 {
     let mut length = [0; 2];
     BigEndian::write_u16(&mut length, message.len() as u16);
-    [OPEN_GATE, MESSAGE, length[0], length[1]]
+    [OPEN_GATE, MESSAGE_KIND, length[0], length[1]]
 }
 
 // Puts the record of the message before the last three bytes, which are those of `END`.

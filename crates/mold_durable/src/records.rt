@@ -9,17 +9,13 @@ ghost use Rattle.mold_durable.specs.MessageTaker.{HasTaken, HoldsOpen};
 ghost use Rattle.mold_durable.specs.Reading.{IsNextRecord, SkipsRecords, file_error};
 
 use crate::error::OpenError;
-use crate::gate::OPEN_GATE;
-use crate::group::{CLOSING, MESSAGE, RECORD_HEAD};
 use crate::message_taker::MessageTaker;
 use byteorder::{BigEndian, ByteOrder};
-use mold_session::MAX_MESSAGES;
+use mold_session::{
+    CLOSING_KIND, MAX_MESSAGES, MESSAGE_KIND, OPEN_GATE, RECORD_HEAD, recorded_length,
+};
 use mold_wire::LENGTH_BYTES;
 use std::alloc::AllocError;
-
-/// The first four bytes of the record of an empty message, as a number. In the record of another message, its length is
-/// added.
-const EMPTY_RECORD: u32 = 0x0100_0000;
 
 /// A message's record, or the end of the records.
 #[derive(Clone, Copy)]
@@ -79,13 +75,8 @@ fn whole_record(most: u16, rest: &[u8]) -> Option<usize>
     if rest.len() < RECORD_HEAD + usize::from(most) {
         return None;
     }
-    let (head, _) = rest.split_at(RECORD_HEAD);
-    // For the optimizer: the number of another record wraps around to more than any length, so one comparison suffices.
-    let len = BigEndian::read_u32(head).wrapping_sub(EMPTY_RECORD);
-    if len > u32::from(most) {
-        return None;
-    }
-    Some(RECORD_HEAD + len as usize)
+    let len = recorded_length(most, rest)?;
+    Some(RECORD_HEAD + usize::from(len))
 }
 
 // Reads the record at the start of the bytes, part by part. `count` messages precede it.
@@ -104,13 +95,13 @@ fn checked_record(most: u16, count: u64, rest: &[u8]) -> Result<NextRecord, Open
     let Some((kind, body)) = record.split_first() else {
         return Err(damaged);
     };
-    if *kind == MESSAGE {
+    if *kind == MESSAGE_KIND {
         return match block_length(most, count, body) {
             Ok(len) => Ok(NextRecord::Message { len: 2 + len }),
             Err(error) => Err(error),
         };
     }
-    if *kind != CLOSING {
+    if *kind != CLOSING_KIND {
         return Err(damaged);
     }
     if body.is_empty() {

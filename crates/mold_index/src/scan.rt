@@ -8,8 +8,8 @@ ghost use Rattle.mold_index.specs.Scan.{BeginsNoMessage, EndAfter, FindsMessage,
 
 use crate::error::NoMessage;
 use byteorder::{BigEndian, ByteOrder};
-use mold_session::{FileVersion, MESSAGE_KIND, OPEN_GATE};
-use mold_wire::LENGTH_BYTES;
+use mold_session::{FileVersion, RECORD_HEAD, recorded_length};
+use mold_wire::{LENGTH_BYTES, MAX_MESSAGE};
 
 // Returns the message of the block at the start of the bytes, and the bytes after it.
 fn split_block(bytes: &[u8]) -> Option<(&[u8], &[u8])>
@@ -32,15 +32,12 @@ fn split_record(bytes: &[u8]) -> Option<(&[u8], &[u8])>
     ensures { MatchOption result (BeginsNoMessage record_of bytes.now)
         (λ found. IsMessageAndRest record_of bytes.now found.0.now found.1.now) }
 {
-    let (gate, record) = bytes.split_first()?;
-    if *gate != OPEN_GATE {
+    let len = usize::from(recorded_length(MAX_MESSAGE, bytes)?);
+    let (_, rest) = bytes.split_at(RECORD_HEAD);
+    if rest.len() < len {
         return None;
     }
-    let (kind, body) = record.split_first()?;
-    if *kind != MESSAGE_KIND {
-        return None;
-    }
-    split_block(body)
+    Some(rest.split_at(len))
 }
 
 /// Returns the message at the start of a piece of a file of this version, and the bytes after it. If the bytes do not

@@ -2,8 +2,9 @@
 use Rattle.std.specs.Prelude.{◌≡◌, ℕ, ◌+◌, ◌<◌, Bool, false, if◌then◌else◌, nat_le, List, [], length, Option, None}
 use Rattle.std.specs.Prelude.{Some}
 use Rattle.mold_session.specs.Records.{records}
+use Rattle.mold_session.specs.declared.records.TheConstants.{RECORD_HEAD}
 use Rattle.mold_recorder.specs.declared.commit_plan.CommitPlan.{CommitPlan}
-use Rattle.mold_recorder.specs.declared.commit_plan.TheConstants.{BUSY_SPAN, IDLE_SPAN, MOST_WAITING, RECORD_HEAD}
+use Rattle.mold_recorder.specs.declared.commit_plan.TheConstants.{BUSY_SPAN, IDLE_SPAN, MOST_WAITING}
 
 -- The plan while no message waits.
 abbrev pub plan_of_none : CommitPlan

@@ -4,11 +4,10 @@ ghost use Rattle.std.specs.Prelude.{◌≡◌, ◌+◌, ◌<◌, ◌^◌, ℕ, N
 ghost use Rattle.mold_recorder.specs.CommitPlan.{is_due, plan_after, plan_of_none};
 ghost use Rattle.mold_recorder.specs.declared.commit_plan.TheConstants.{MOST_WAITING};
 
+use mold_session::RECORD_HEAD;
+
 /// When records of this many bytes wait, they are committed. This is 1 MiB.
 pub(crate) const MOST_WAITING: usize = 1_048_576;
-
-/// The bytes that a record has besides its message.
-const RECORD_HEAD: usize = 4;
 
 /// How long a message waits while no port has a datagram: 20 milliseconds, in nanoseconds.
 const IDLE_SPAN: u64 = 20_000_000;

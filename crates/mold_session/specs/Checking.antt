@@ -1,8 +1,8 @@
 -- How the bytes of a file are checked without memory for its messages.
-use Rattle.std.specs.Prelude.{◌≡◌, ℕ, ◌≤◌, Bool, List, ◌++◌, length, map, take, drop}
+use Rattle.std.specs.Prelude.{◌≡◌, ℕ, ◌≤◌, Bool, List, ◌∷◌, ◌++◌, length, map, take, drop}
 use Rattle.std.specs.List.{AllByRecursion}
 use Rattle.byteorder.specs.Endian.{big_number}
-use Rattle.mold_wire.specs.Block.{block, blocks}
+use Rattle.mold_wire.specs.Block.{be16, block, blocks}
 use Rattle.mold_wire.specs.declared.block.TheConstants.{MAX_MESSAGE}
 use Rattle.mold_session.specs.FileFault.{IsBody1, IsBody2, IsBody3, HasRecords}
 use Rattle.mold_session.specs.Journal.{AreMessages, IsWithin}
@@ -36,6 +36,12 @@ pub record HasRecord (most : ℕ) (bytes behind : List ℕ) : Type 0 where
   pub message : List ℕ
   pub within : IsWithin most message
   pub parts : bytes ≡ record_of message ++ behind
+
+-- The bytes begin with the record of a message of `len` bytes, at most `most`, up to the message: an open gate, the byte
+-- 0 and the length.
+pub record BeginsRecord (most : ℕ) (bytes : List ℕ) (len : ℕ) : Type 0 where
+  pub within : len ≤ most
+  pub starts : take 4 bytes ≡ 1 ∷ 0 ∷ be16 len
 
 -- The bytes are the records of `count` messages with at most `most` bytes, and then the bytes `rest`.
 pub record HasCountedRecords (most count : ℕ) (bytes rest : List ℕ) : Type 0 where

@@ -17,13 +17,14 @@ use Rattle.mold_session.specs.declared.file_version.FileVersion.{FileVersion}
 use Rattle.mold_session.specs.declared.file_version.FileVersion.TheVariants.{One, Two, Three}
 use Rattle.mold_session.specs.declared.journal.TheConstants.{MAX_MESSAGES}
 use Rattle.mold_session.specs.declared.loading.FileHead.{FileHead}
+use Rattle.mold_session.specs.declared.piece.TheConstants.{PIECE}
 use Rattle.mold_session.specs.declared.records.NextMessage.{NextMessage}
 use Rattle.mold_session.specs.declared.records.NextMessage.TheVariants.{Message, End}
 
 -- An upper bound of the work that remains for a loop over the file, which each iteration decreases. It counts the reads
 -- that the source still allows, and the bytes that were read and not used.
 abbrev pub work_left : ℕ → List ℕ → ℕ
-work_left bound rest = bound * 32769 + length rest
+work_left bound rest = bound * (PIECE + 1) + length rest
 
 -- The number of a version.
 abbrev pub version_number : FileVersion → ℕ

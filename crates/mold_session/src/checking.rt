@@ -17,7 +17,9 @@ use crate::journal::MAX_MESSAGES;
 use crate::length_taker::LengthTaker;
 use crate::loading::check_count;
 use crate::magic::{MAGIC_LENGTH, first_magic, second_magic, third_magic};
-use crate::records::{CLOSING_KIND, MESSAGE_KIND, OPEN_GATE, record_fault};
+use crate::records::{
+    CLOSING_KIND, MESSAGE_KIND, OPEN_GATE, RECORD_HEAD, record_fault, recorded_length,
+};
 use byteorder::{BigEndian, ByteOrder};
 use mold_wire::{LENGTH_BYTES, MAX_MESSAGE};
 
@@ -209,21 +211,19 @@ fn block_length(most: u16, bytes: &[u8]) -> Option<(u16, &[u8])>
 fn record_length(most: u16, bytes: &[u8]) -> Option<(u16, &[u8])>
     ensures { IfSome result (λ found. HasLength record_of most bytes.now found.0 found.1.now) }
 {
-    let (gate, record) = bytes.split_first()?;
-    if *gate != OPEN_GATE {
+    let len = recorded_length(most, bytes)?;
+    let (_, behind) = bytes.split_at(RECORD_HEAD);
+    if behind.len() < usize::from(len) {
         return None;
     }
-    let (kind, body) = record.split_first()?;
-    if *kind != MESSAGE_KIND {
-        return None;
-    }
-    block_length(most, body)
+    let (_, after) = behind.split_at(usize::from(len));
+    Some((len, after))
 }
 
 // Returns the length of the whole message at the start of the bytes of a file of this version, and the bytes after it.
 // For the optimizer: a call for each message would take longer than the check.
 #[inline(always)]
-fn message_length(version: FileVersion, most: u16, bytes: &[u8]) -> Option<(u16, &[u8])>
+fn whole_length(version: FileVersion, most: u16, bytes: &[u8]) -> Option<(u16, &[u8])>
     ensures { IfSome result (λ found. HasLength (message_spelling version) most bytes.now found.0 found.1.now) }
 {
     match version {
@@ -247,7 +247,7 @@ pub fn whole_messages<T: LengthTaker>(
     let mut rest = bytes;
     let mut count = 0;
     'passed: while count < limit {
-        let Some((len, behind)) = message_length(version, most, rest) else {
+        let Some((len, behind)) = whole_length(version, most, rest) else {
             break;
         };
         if !taker.take(len) {

@@ -38,7 +38,7 @@ pub use mold_wire::MAX_BURST;
 pub use plan::Plan;
 pub use publisher::Publisher;
 pub use reader::JournalReader;
-pub use records::{CLOSING_KIND, MESSAGE_KIND, OPEN_GATE};
+pub use records::{CLOSING_KIND, MESSAGE_KIND, OPEN_GATE, RECORD_HEAD, recorded_length};
 pub use served_journal::ServedJournal;
 pub use server::Server;
 pub use upgrading::{Upgraded, upgrade};

@@ -1,9 +1,10 @@
 //! Reads the records of a file of version 3.
 
-ghost use Rattle.std.specs.Prelude.{◌≡◌, ◌<◌, ◌≤◌, ◌∷◌, ℕ, IfOk, IfErr, IfSome, OnOk};
+ghost use Rattle.std.specs.Prelude.{◌≡◌, ◌<◌, ◌≤◌, ◌∷◌, ℕ, IfOk, IfErr, IfSome, MatchOption, OnOk};
 ghost use Rattle.std.specs.Io.KnownBytes.{IsAtEnd, prepend_known};
 ghost use Rattle.mold_wire.specs.declared.limits.TheConstants.{MAX_NUMBER};
 ghost use Rattle.mold_devices.specs.Faults.{CountsRead};
+ghost use Rattle.mold_session.specs.Checking.{BeginsRecord};
 ghost use Rattle.mold_session.specs.FileFault.{RecordFault, RecordsFault};
 ghost use Rattle.mold_session.specs.Journal.{AreMessages};
 ghost use Rattle.mold_session.specs.Loading.{work_left, AreRecords, CountsLoad, ReadsRecord, Refuses, StartsRecord};
@@ -15,6 +16,7 @@ use crate::error::FileError;
 use crate::journal::MAX_MESSAGES;
 use crate::loading::next_block;
 use crate::piece::{Piece, has_more, next_byte};
+use byteorder::{BigEndian, ByteOrder};
 use mold_devices::{ReadFault, Source};
 use mold_messages::MessageList;
 use std::alloc::Global;
@@ -27,6 +29,13 @@ pub const MESSAGE_KIND: u8 = 0;
 
 /// The second byte of the closing record.
 pub const CLOSING_KIND: u8 = 1;
+
+/// The bytes of a record before its message: the gate, the kind of the record and the length of the message.
+pub const RECORD_HEAD: usize = 4;
+
+/// The first four bytes of the record of an empty message, as a number. In the record of another message, its length is
+/// added.
+const EMPTY_RECORD: u32 = 0x0100_0000;
 
 /// What follows in a file of version 3.
 #[derive(Clone, Copy)]
@@ -72,6 +81,24 @@ fn start_record<S: Source>(
         return Err(damaged);
     };
     Ok(NextMessage::End { closed: true })
+}
+
+/// Returns the length of the message if the bytes begin with its record, up to the message, and the message has at most
+/// `most` bytes. The bytes of the message may be cut.
+// For the optimizer: the number of another record wraps around to more than any length, so one comparison suffices.
+#[inline(always)]
+pub fn recorded_length(most: u16, bytes: &[u8]) -> Option<u16>
+    ensures { MatchOption result ((len : ℕ) → ¬ BeginsRecord most bytes.now len) (BeginsRecord most bytes.now) }
+{
+    if bytes.len() < RECORD_HEAD {
+        return None;
+    }
+    let (head, _) = bytes.split_at(RECORD_HEAD);
+    let len = BigEndian::read_u32(head).wrapping_sub(EMPTY_RECORD);
+    if len > u32::from(most) {
+        return None;
+    }
+    Some(len as u16)
 }
 
 /// Returns the fault of a record whose block has this fault.
