@@ -158,6 +158,7 @@ def calls_of_captures():
         Call("check of captures, refused", ["check", *both], files=files, status=2),
         Call("check of captures, at fault", ["check", "--capture", "-", *filters], cut, status=2),
         Call("check --each of captures", ["check", *both, "--each"], files=files, status=1),
+        Call("check --each --digest of captures", ["check", *both, "--each", "--digest"], files=files, status=1),
         Call("check --journal of captures", ["check", *both, *filters, "--journal", "@new"], files=files,
              made=("new",)),
         Call("extract of captures", ["extract", *both, *filters, "--blocks", "--to", "@new"], files=files,

@@ -20,8 +20,3 @@ pub fn holds_at(rt: &impl Abort, fact: bool, what: &str, at: usize) {
 pub fn same_text(rt: &impl Abort, found: &[u8], wanted: &[u8], at: usize) {
     assert_eq!(rt; found, wanted, "at {at}");
 }
-
-/// Fails if the bytes are not these.
-pub fn same_bytes(rt: &impl Abort, found: &[u8], wanted: &[u8]) {
-    assert_eq!(rt; found, wanted);
-}

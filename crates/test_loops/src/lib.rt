@@ -1,22 +1,14 @@
 //! Tests of `mold_wire`, `mold_devices`, `mold_ports`, `mold_port_set`, of the loops of `mold_send`, `mold_serve`,
-//! `mold_listen`, `mold_loop`, `mold_receive` and `mold_recorder`, over ports in memory, and of `mold_pacing`, `mold_audit`,
-//! `mold_repair`, `mold_durable` and `mold_durable_publisher`, and of the comparison of `mold_feeder`.
+//! `mold_listen`, `mold_loop` and `mold_receive`, over ports in memory, and of `mold_pacing`, `mold_repair` and
+//! `mold_durable`.
 #![tactic(auto)]
 
-#[cfg(test)]
-mod audit;
-#[cfg(test)]
-mod comparing;
 #[cfg(test)]
 mod comparisons;
 #[cfg(test)]
 mod crashes;
 #[cfg(test)]
-mod delays;
-#[cfg(test)]
 mod devices;
-#[cfg(test)]
-mod example;
 #[cfg(test)]
 mod failures;
 #[cfg(test)]
@@ -28,8 +20,6 @@ mod journals;
 #[cfg(test)]
 mod listen;
 #[cfg(test)]
-mod opening;
-#[cfg(test)]
 mod pacer;
 #[cfg(test)]
 mod parts;
@@ -40,11 +30,7 @@ mod ports;
 #[cfg(test)]
 mod publish;
 #[cfg(test)]
-mod publishing;
-#[cfg(test)]
 mod receiving;
-#[cfg(test)]
-mod recording;
 #[cfg(test)]
 mod reopening;
 #[cfg(test)]

@@ -1,7 +1,7 @@
 //! `listen_loop` over ports in memory. A case is a constant, and one function runs each case.
 
 use crate::comparisons::holds_at;
-use crate::scripts::{Given, Sent, expect_sent, expect_written, give, silent, sink};
+use crate::scripts::{Given, Sent, expect_sent, expect_written, give, silent};
 use mold_devices::{CommandFault, MemorySink, Sink};
 use mold_input::MessageFormat;
 use mold_listen::listen_loop;
@@ -36,16 +36,8 @@ struct Case {
     a: &'static [Given],
     b: &'static [Given],
     responses: &'static [Given],
-    /// For each port, the index of the receive before which one more receive fails.
-    failures: [Option<usize>; 3],
-    /// The number of the request whose send fails. If it is 0, no send fails.
-    send_fails: u64,
-    /// The number of the write, of one byte, that fails. If it is 0, no write fails.
-    write_fails: u64,
     burst: u16,
-    turns: u64,
     reporting: bool,
-    status: u8,
     text: &'static [u8],
     /// How many steps of each port are left.
     left: [usize; 3],
@@ -68,11 +60,9 @@ fn silent_ports(alloc: Global) -> Ports {
 }
 
 fn give_ports(alloc: Global, ports: &mut Ports, case: &Case) -> Result<(), AllocError> {
-    give(alloc, &mut ports.a, case.a, case.failures[0])?;
-    give(alloc, &mut ports.b, case.b, case.failures[1])?;
-    give(alloc, &mut ports.requests, case.responses, case.failures[2])?;
-    ports.requests.fail_send(case.send_fails);
-    Ok(())
+    give(alloc, &mut ports.a, case.a)?;
+    give(alloc, &mut ports.b, case.b)?;
+    give(alloc, &mut ports.requests, case.responses)
 }
 
 fn listen_with(
@@ -90,7 +80,7 @@ fn listen_with(
         SERVER,
         arbiter,
         case.burst,
-        case.turns,
+        5,
         case.reporting,
         MessageFormat::Lines,
         sink,
@@ -98,7 +88,7 @@ fn listen_with(
     )
 }
 
-// An arbiter that begins at message 1, with a window of 4, listens.
+// An arbiter that begins at message 1, with a window of 4, listens for five turns.
 fn listen(
     alloc: Global,
     ports: &mut Ports,
@@ -121,9 +111,9 @@ fn expect_listened(
     case: &Case,
     at: usize,
 ) -> Result<(), Fail> {
-    let mut sink = sink(rt.alloc(), case.write_fails);
+    let mut sink = MemorySink::new(rt.alloc());
     let outcome = listen(rt.alloc(), ports, case, &mut sink)?;
-    expect_written(rt, &sink, outcome, (Ok(case.status), case.text), at);
+    expect_written(rt, &sink, outcome, case.text, at);
     expect_ports(rt, ports, case, at);
     Ok(())
 }
@@ -141,13 +131,8 @@ const EXAMPLE: Case = Case {
     a: &[DATA_1, DATA_2, Given::Fail, END_3],
     b: &[Given::Quiet; 5],
     responses: &[],
-    failures: [None; 3],
-    send_fails: 0,
-    write_fails: 0,
     burst: 1,
-    turns: 5,
     reporting: false,
-    status: 0,
     text: b"1 41\n2 42\nfinished next 3 failed 1\n",
     left: [0, 1, 0],
     requests: &[],
@@ -172,77 +157,11 @@ finished next 4 failed 1
 ",
     left: [0, 0, 0],
     requests: &[REQUEST],
-    ..EXAMPLE
 };
 
-/// Message 2 is received only as the response to the second request.
-const GAP: Case = Case {
-    a: &[DATA_1, DATA_3, Given::Quiet, END_4],
-    b: &[],
-    responses: &[Given::Quiet, DATA_2],
-    turns: 4,
-    text: b"1 41\n2 42\n3 43\nfinished next 4 failed 0\n",
-    left: [0, 0, 0],
-    requests: &[REQUEST; 2],
-    ..EXAMPLE
-};
-
+/// `tests/io-errors` makes each receive, send and write of the command fail.
 #[test]
 fn examples_of_a_listener(rt: HostRuntime) -> Result<(), Fail> {
     expect(&rt, &EXAMPLE, 0)?;
-    expect(&rt, &REPORTED, 0)
-}
-
-// A write fails, and then one more receive of a line. If it is one of line A, the end packet is received one turn
-// later.
-fn expect_failures(rt: &(impl Abort + AllocGlobal), at: usize) -> Result<(), Fail> {
-    let mut case = EXAMPLE;
-    case.write_fails = (at as u64).saturating_add(1);
-    expect(rt, &case, at)?;
-    case.write_fails = 0;
-    case.text = b"1 41\n2 42\nfinished next 3 failed 2\n";
-    case.failures = [None, Some(at % 4), None];
-    case.left = [0, 2, 0];
-    expect(rt, &case, at)?;
-    case.failures = [Some(at % 4), None, None];
-    case.left = [0, 0, 0];
-    expect(rt, &case, at)
-}
-
-#[test]
-fn failure_at_each_receive_and_write(rt: HostRuntime) -> Result<(), Fail> {
-    for at in 0..EXAMPLE.text.len() {
-        expect_failures(&rt, at)?;
-    }
-    Ok(())
-}
-
-// A request fails, and is made again. A receive of a response fails, so there is one more request. The loop ends in the
-// turn of a request that fails, which receives no response.
-fn expect_requests(rt: &(impl Abort + AllocGlobal), at: usize) -> Result<(), Fail> {
-    let mut case = GAP;
-    case.text = b"1 41\n2 42\n3 43\nfinished next 4 failed 1\n";
-    case.send_fails = (at as u64).saturating_add(1);
-    expect(rt, &case, at)?;
-    case.send_fails = 0;
-    case.failures = [None, None, Some(at)];
-    case.turns = 5;
-    case.requests = &[REQUEST; 3];
-    expect(rt, &case, at)?;
-    case.send_fails = 1;
-    case.failures = [None; 3];
-    case.turns = 2;
-    case.status = 1;
-    case.text = b"1 41\nopen next 2 known 4 failed 1\n";
-    case.left = [2, 0, 2];
-    case.requests = &[];
-    expect(rt, &case, at)
-}
-
-#[test]
-fn failure_at_each_request_and_response(rt: HostRuntime) -> Result<(), Fail> {
-    for at in 0..2usize {
-        expect_requests(&rt, at)?;
-    }
-    Ok(())
+    expect(&rt, &REPORTED, 1)
 }

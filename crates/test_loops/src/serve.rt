@@ -1,7 +1,7 @@
 //! `serve_loop` over a port in memory. A case is a constant, and one function runs each case.
 
 use crate::comparisons::holds_at;
-use crate::scripts::{Given, PEER, Sent, expect_sent, expect_written, give, silent, sink};
+use crate::scripts::{Given, PEER, Sent, expect_sent, expect_written, give, silent};
 use mold_devices::{CommandFault, MemorySink};
 use mold_ports::{Datagrams, MemoryPort};
 use mold_serve::serve_loop;
@@ -44,12 +44,8 @@ const FIVE: (u32, &[u8]) = (
 #[derive(Clone, Copy)]
 struct Case {
     given: &'static [Given],
-    /// The index of the receive before which one more receive fails.
-    failure: Option<usize>,
     /// The number of the send that fails. If it is 0, no send fails.
     send_fails: u64,
-    /// The number of the write, of one byte, that fails. If it is 0, no write fails.
-    write_fails: u64,
     burst: u16,
     turns: u64,
     text: &'static [u8],
@@ -84,9 +80,9 @@ fn expect_served(
     case: &Case,
     at: usize,
 ) -> Result<(), Fail> {
-    let mut sink = sink(rt.alloc(), case.write_fails);
+    let mut sink = MemorySink::new(rt.alloc());
     let outcome = serve(rt, journal, port, case, &mut sink)?;
-    expect_written(rt, &sink, outcome, (Ok(0), case.text), at);
+    expect_written(rt, &sink, outcome, case.text, at);
     expect_sent(rt, port, case.sent, at);
     holds_at(rt, port.left() == 0, "left", at);
     Ok(())
@@ -100,16 +96,14 @@ fn expect(
     at: usize,
 ) -> Result<(), Fail> {
     let mut port = silent(rt.alloc());
-    give(rt.alloc(), &mut port, case.given, case.failure)?;
+    give(rt.alloc(), &mut port, case.given)?;
     port.fail_send(case.send_fails);
     expect_served(rt, journal, &mut port, case, at)
 }
 
 const EXAMPLE: Case = Case {
     given: &[FROM_TWO, Given::Quiet, Given::Fail, SIXTH],
-    failure: None,
     send_fails: 0,
-    write_fails: 0,
     burst: 1,
     turns: 4,
     text: b"answered 2 2\nrefused Ahead 6\nanswered 1 refused 1 quiet 1 failed 1\n",
@@ -127,34 +121,10 @@ const FAILED_SEND: Case = Case {
     ..EXAMPLE
 };
 
-// A write fails, and then one more receive.
-fn expect_failures(
-    rt: &(impl Abort + AllocGlobal),
-    journal: &Journal,
-    at: usize,
-) -> Result<(), Fail> {
-    let mut case = EXAMPLE;
-    case.write_fails = (at as u64).saturating_add(1);
-    expect(rt, journal, &case, at)?;
-    case.write_fails = 0;
-    case.failure = Some(at % 4);
-    case.turns = 5;
-    case.text = b"answered 2 2\nrefused Ahead 6\nanswered 1 refused 1 quiet 1 failed 2\n";
-    expect(rt, journal, &case, at)
-}
-
-fn expect_all(rt: &(impl Abort + AllocGlobal), journal: &Journal) -> Result<(), Fail> {
-    expect(rt, journal, &EXAMPLE, 0)?;
-    expect(rt, journal, &FAILED_SEND, 0)?;
-    for at in 0..EXAMPLE.text.len() {
-        expect_failures(rt, journal, at)?;
-    }
-    Ok(())
-}
-
-/// The worked example, and each receive, send and write that fails.
+/// `tests/io-errors` makes each receive, send and write of the command fail.
 #[test]
 fn serve_over_memory(rt: HostRuntime) -> Result<(), Fail> {
     let journal = new_journal(rt.alloc())?;
-    expect_all(&rt, &journal)
+    expect(&rt, &journal, &EXAMPLE, 0)?;
+    expect(&rt, &journal, &FAILED_SEND, 1)
 }

@@ -1,5 +1,5 @@
-//! A server's journal in a small file of each version: its datagrams, a read that fails, and a file that was damaged
-//! after it was opened.
+//! A server's journal in a small file of each version: its datagrams, and a file that was damaged after it was opened.
+//! `tests/follow` has files that are cut off meanwhile, and `tests/io-errors` makes each read of a served file fail.
 
 use crate::comparisons::{holds, holds_at};
 use mold_durable::ScriptedFile;
@@ -53,48 +53,69 @@ fn file_of(alloc: Global, case: Case, second: u8) -> Result<Vec<u8>, AllocError>
     Ok(file)
 }
 
-/// The indexed file of five messages of twenty bytes, which has these bytes now. The call of the file of this number
-/// fails.
-fn indexed(
-    alloc: Global,
-    version: FileVersion,
-    bytes: Vec<u8>,
-    fails: u64,
-) -> Result<IndexedFile<ScriptedFile>, Fail> {
+// The file of a case, as a script that never changes. Its call number 2 fails: only one read is needed.
+fn scripted(alloc: Global, case: Case, second: u8) -> Result<ScriptedFile, AllocError> {
     let mut snapshots = Vec::new(alloc);
-    snapshots.push(bytes)?;
+    snapshots.push(file_of(alloc, case, second)?)?;
     let mut file = ScriptedFile::new(snapshots, 0);
-    file.fail_at(fails);
-    let head = FileHead {
+    file.fail_at(2);
+    Ok(file)
+}
+
+fn head_of(version: FileVersion) -> FileHead {
+    FileHead {
         session: Session(*b"SESSION001"),
         closed: false,
         version,
-    };
-    let mut indexed = IndexedFile::new(alloc, file, head, 42)?;
+    }
+}
+
+fn push_five(indexed: &mut IndexedFile<ScriptedFile>) -> Result<(), IndexError> {
     for _ in 0..5 {
         indexed.push(20)?;
     }
-    Ok(indexed)
+    Ok(())
 }
 
 /// What a call for the next datagram of a plan returns.
 type Sent = Result<Option<&'static [u8]>, FileError>;
 
-/// The calls for the datagrams of a request for messages below `below` return these results, in order.
-pub fn expect_sent(
-    rt: &(impl Abort + AllocGlobal),
+fn expect_plan(
+    rt: &impl Abort,
     indexed: &mut IndexedFile<ScriptedFile>,
-    below: u64,
-    request: &[u8],
+    server: &mut Server,
     wanted: &[Sent],
 ) -> Result<(), Fail> {
-    let mut server = Server::new(rt.alloc(), 64, 42, 9)?;
-    let mut plan = server.plan_from(indexed, below, request)?;
+    push_five(indexed)?;
+    let mut plan = server.plan_from(indexed, 6, REQUEST)?;
     for index in 0..wanted.len() {
         let sent = server.datagram_from(indexed, &mut plan);
         holds_at(rt, sent == wanted[index], "call", index);
     }
+    holds(rt, indexed.session() == Session(*b"SESSION001"));
+    holds(rt, indexed.max_message() == 42 && indexed.next() == 6);
     Ok(())
+}
+
+fn expect_indexed(
+    rt: &(impl Abort + AllocGlobal),
+    indexed: &mut IndexedFile<ScriptedFile>,
+    wanted: &[Sent],
+) -> Result<(), Fail> {
+    let mut server = Server::new(rt.alloc(), 64, 42, 9)?;
+    expect_plan(rt, indexed, &mut server, wanted)
+}
+
+// The calls for the datagrams of the request return these results, in order.
+fn expect(
+    rt: &(impl Abort + AllocGlobal),
+    case: Case,
+    second: u8,
+    wanted: &[Sent],
+) -> Result<(), Fail> {
+    let file = scripted(rt.alloc(), case, second)?;
+    let mut indexed = IndexedFile::new(rt.alloc(), file, head_of(case.0), 42)?;
+    expect_indexed(rt, &mut indexed, wanted)
 }
 
 /// A server sends the datagrams of a request from a file of each version. The second datagram takes no read: the call
@@ -102,78 +123,58 @@ pub fn expect_sent(
 #[test]
 fn no_allocation_of_datagrams_from_files(rt: HostRuntime) -> Result<(), Fail> {
     for case in CASES {
-        let bytes = file_of(rt.alloc(), case, 20)?;
-        let mut file = indexed(rt.alloc(), case.0, bytes, 2)?;
         let wanted = [Ok(Some(TWO_AND_THREE)), Ok(Some(FOUR_AND_FIVE)), Ok(None)];
-        expect_sent(&rt, &mut file, 6, REQUEST, &wanted)?;
-        holds(&rt, file.session() == Session(*b"SESSION001"));
-        holds(&rt, file.max_message() == 42 && file.next() == 6);
+        expect(&rt, case, 20, &wanted)?;
     }
     Ok(())
 }
 
-/// After a read that failed, the same datagram is read again.
-#[test]
-fn failed_read_of_a_file(rt: HostRuntime) -> Result<(), Fail> {
-    let bytes = file_of(rt.alloc(), CASES[2], 20)?;
-    let mut file = indexed(rt.alloc(), FileVersion::Three, bytes, 1)?;
-    let wanted = [Err(FileError::Read), Ok(Some(TWO_AND_THREE))];
-    expect_sent(&rt, &mut file, 6, REQUEST, &wanted)
-}
-
-/// The error for message `number` in a file of this version.
-fn without(version: FileVersion, number: u64) -> FileError {
+/// The error for message 2 in a file of this version.
+fn without(version: FileVersion) -> FileError {
     match version {
-        FileVersion::Three => FileError::Damaged { number },
-        FileVersion::One | FileVersion::Two { .. } => FileError::BlockCut { number },
+        FileVersion::Three => FileError::Damaged { number: 2 },
+        FileVersion::One | FileVersion::Two { .. } => FileError::BlockCut { number: 2 },
     }
 }
 
-/// A file was cut off within message 4 after it was opened. Each datagram that needs this message is refused. So is the
-/// one before it, since nobody knows whether the message would fit. A plan that ends before the message has its
-/// datagram.
-#[test]
-fn files_cut_off_after_opening(rt: HostRuntime) -> Result<(), Fail> {
-    for case in CASES {
-        let mut bytes = file_of(rt.alloc(), case, 20)?;
-        bytes.truncate(bytes.len().saturating_sub(33));
-        let mut file = indexed(rt.alloc(), case.0, bytes, 0)?;
-        expect_sent(&rt, &mut file, 6, REQUEST, &[Err(without(case.0, 4))])?;
-        expect_sent(&rt, &mut file, 4, REQUEST, &[Ok(Some(TWO_AND_THREE))])?;
-    }
-    Ok(())
-}
-
-/// A file was damaged after it was opened. Message 2 is now too long for a datagram, and is refused. No datagram without
-/// messages is sent.
+/// A file was damaged after it was opened. Message 2 is now too long for a datagram, and is refused. No datagram
+/// without messages is sent.
 #[test]
 fn files_damaged_after_opening(rt: HostRuntime) -> Result<(), Fail> {
     for case in CASES {
-        let bytes = file_of(rt.alloc(), case, 43)?;
-        let mut file = indexed(rt.alloc(), case.0, bytes, 0)?;
-        expect_sent(&rt, &mut file, 6, REQUEST, &[Err(without(case.0, 2))])?;
+        expect(&rt, case, 43, &[Err(without(case.0))])?;
     }
     Ok(())
 }
 
-/// If an allocation fails, the index is unchanged, and takes the message when there is memory again.
+// If an allocation fails, the index is unchanged, and takes the message when there is memory again.
+fn push_again(
+    rt: &impl Abort,
+    indexed: &mut IndexedFile<ScriptedFile>,
+    number: u64,
+) -> Result<(), IndexError> {
+    let mut pushed = indexed.push(20);
+    if pushed == Err(IndexError::Memory) {
+        holds(rt, indexed.next() == number);
+        pushed = indexed.push(20);
+    }
+    pushed?;
+    holds(rt, indexed.next() == number.saturating_add(1));
+    Ok(())
+}
+
+fn push_many(rt: &impl Abort, indexed: &mut IndexedFile<ScriptedFile>) -> Result<(), IndexError> {
+    for number in 1..=400 {
+        push_again(rt, indexed, number)?;
+    }
+    Ok(())
+}
+
 #[test]
 fn out_of_memory_keeps_an_indexed_file(rt: HostRuntime) -> Result<(), Fail> {
-    let head = FileHead {
-        session: Session(*b"SESSION001"),
-        closed: false,
-        version: FileVersion::Three,
-    };
     let file = ScriptedFile::new(Vec::new(rt.alloc()), 0);
+    let head = head_of(FileVersion::Three);
     let mut indexed = IndexedFile::new(rt.alloc(), file, head, 42)?;
-    for number in 1..=400 {
-        let mut pushed = indexed.push(20);
-        if pushed == Err(IndexError::Memory) {
-            holds(&rt, indexed.next() == number);
-            pushed = indexed.push(20);
-        }
-        pushed?;
-        holds(&rt, indexed.next() == number + 1);
-    }
+    push_many(&rt, &mut indexed)?;
     Ok(())
 }

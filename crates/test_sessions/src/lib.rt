@@ -1,5 +1,5 @@
-//! Tests of `mold_session`, `mold_index`, `mold_indexed_file`, `mold_receiver`, `mold_rounds`, `mold_capture` and
-//! `mold_world`.
+//! Tests of `mold_session`, `mold_indexed_file`, `mold_unsent`, `mold_receiver`, `mold_rounds`, `mold_capture`,
+//! `mold_digest` and `mold_world`.
 #![tactic(auto)]
 
 #[cfg(test)]
@@ -9,15 +9,13 @@ mod capture;
 #[cfg(test)]
 mod comparisons;
 #[cfg(test)]
-mod index;
+mod digests;
 #[cfg(test)]
 mod indexed_file;
 #[cfg(test)]
 mod journal_file;
 #[cfg(test)]
 mod journals;
-#[cfg(test)]
-mod opening;
 #[cfg(test)]
 mod publisher;
 #[cfg(test)]
@@ -29,8 +27,8 @@ mod rounds;
 #[cfg(test)]
 mod server;
 #[cfg(test)]
+mod unsent_publisher;
+#[cfg(test)]
 mod world;
 #[cfg(test)]
-mod world_checks;
-#[cfg(test)]
-mod world_constants;
+mod world_of_five;

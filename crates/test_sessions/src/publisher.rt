@@ -81,28 +81,23 @@ fn expect_steps(rt: &impl Abort, publisher: &mut Publisher, name: &str, steps: &
     }
 }
 
-/// A publisher with a limit of 64 bytes. It resumes a journal with two messages, the k-th of which is twenty bytes of
-/// the value k. Or it is new.
+/// A publisher with a limit of 64 bytes. It is new, or resumes an open journal with two messages, the k-th of which is
+/// twenty bytes of the value k.
 #[derive(Clone, Copy)]
 enum Start {
     New,
-    Open,
-    Closed,
+    Resumed,
 }
 
-fn resumed(alloc: Global, closed: bool) -> Result<Publisher, Fail> {
-    let mut journal = journal_of(alloc, 42, &[&[1; 20], &[2; 20]])?;
-    if closed {
-        journal.close();
-    }
+fn resumed(alloc: Global) -> Result<Publisher, Fail> {
+    let journal = journal_of(alloc, 42, &[&[1; 20], &[2; 20]])?;
     Ok(Publisher::resume(alloc, journal, 64)?)
 }
 
 fn publisher_of(alloc: Global, start: Start) -> Result<Publisher, Fail> {
     match start {
         Start::New => Ok(Publisher::new(alloc, SESSION, 64)?),
-        Start::Open => resumed(alloc, false),
-        Start::Closed => resumed(alloc, true),
+        Start::Resumed => resumed(alloc),
     }
 }
 
@@ -146,38 +141,22 @@ const LONGEST_MESSAGE: &[Step] = &[
     Step::Publish(&[1; 43], Err(AppendError::TooLong { len: 43 })),
 ];
 
-/// The two messages are not sent again.
+/// The two messages are not sent again. A message that was retracted leaves its number to the next one.
 const RESUMED: &[Step] = &[
     Step::Unsent(0),
     Step::Datagram(None),
-    Step::Heartbeat(Some(b"SESSION001\0\0\0\0\0\0\0\x03\0\0")),
-    Step::Publish(&[3; 20], Ok(3)),
-    Step::Datagram(Some(THIRD)),
-    Step::Close(Ok(())),
-];
-
-const RESUMED_CLOSED: &[Step] = &[
-    Step::IsClosed(true),
-    Step::Datagram(None),
-    Step::Heartbeat(None),
-    Step::End(Some(b"SESSION001\0\0\0\0\0\0\0\x03\xff\xff")),
-];
-
-/// A message that was retracted leaves its number to the next one.
-const RETRACTED: &[Step] = &[
     Step::Publish(&[4; 21], Ok(3)),
     Step::Retract,
     Step::Unsent(0),
     Step::Publish(&[3; 20], Ok(3)),
     Step::Datagram(Some(THIRD)),
+    Step::Close(Ok(())),
 ];
 
 #[test]
 fn examples_of_a_publisher(rt: HostRuntime) -> Result<(), Fail> {
     expect_part(&rt, Start::New, Part::Steps(&[], LONGEST_MESSAGE))?;
-    expect_part(&rt, Start::Open, Part::Steps(&[], RESUMED))?;
-    expect_part(&rt, Start::Open, Part::Steps(&[], RETRACTED))?;
-    expect_part(&rt, Start::Closed, Part::Steps(&[], RESUMED_CLOSED))
+    expect_part(&rt, Start::Resumed, Part::Steps(&[], RESUMED))
 }
 
 /// `publisher-limit-64`: messages of 20 and 20 bytes go in one datagram of exactly 64.

@@ -1,11 +1,10 @@
-//! The receiver: worked examples, which refusal comes first, and its state after an allocation has failed.
-//! `tests/out-of-memory` makes each allocation of the tests for it fail.
+//! The receiver: worked examples, which refusal comes first, and its state after an allocation has failed. `tests/out-of-memory` makes each
+//! allocation of the tests for it fail. `tests/long-run` and the library's tests compare receivers with models.
 
-use crate::comparisons::holds_at;
 use crate::receiver_steps::{
-    DATA_1, DATA_1_2, DATA_1_3, DATA_2, DATA_2_3, DATA_3, END_3, END_4, Reception, SESSION, Step,
+    DATA_1, DATA_1_2, DATA_1_3, DATA_2, DATA_2_3, DATA_3, END_3, END_4, Reception, Step,
 };
-use mold_receiver::{Receiver, ReceiverError, Refusal};
+use mold_receiver::Refusal;
 use mold_wire::DecodeError;
 use std::process::Abort;
 use std::test::Fail;
@@ -105,12 +104,18 @@ const BEGINS_AT_2: &[Step] = &[
 ];
 
 /// The number of a receiver's first message, its window, and its steps.
-const EXAMPLES: &[(&str, u64, u32, &[Step])] = &[
+type Example = (&'static str, u64, u32, &'static [Step]);
+
+/// A table for each test: the proof of a test grows with the square of the references in its table.
+const NAMED: &[Example] = &[
     ("receiver-backwards", 1, 4, BACKWARDS),
     ("beyond-the-window", 1, 4, BEYOND),
     ("packet-longer-than-window", 1, 1, LONGER_THAN_WINDOW),
     ("top-of-numbers", 1, 4, TOP),
     ("conflict", 1, 4, CONFLICT),
+];
+
+const OTHERS: &[Example] = &[
     ("a forged message", 1, 4, FORGED),
     ("packets past the end", 1, 4, BOUNDED),
     ("the order of refusals", 5, 4, IN_ORDER),
@@ -146,33 +151,21 @@ fn expect_part(
     act(rt, &mut reception, part)
 }
 
-#[test]
-fn examples_of_a_receiver(rt: HostRuntime) -> Result<(), Fail> {
-    for (name, next, window, steps) in EXAMPLES {
-        expect_part(&rt, (*next, *window), Part::Steps(name, steps))?;
+fn expect_examples(rt: &(impl Abort + AllocGlobal), examples: &[Example]) -> Result<(), Fail> {
+    for (name, next, window, steps) in examples {
+        expect_part(rt, (*next, *window), Part::Steps(name, steps))?;
     }
     Ok(())
 }
 
-/// A window of more than 65,537 messages is that of a wide receiver.
-const REFUSED_RECEIVERS: &[(u64, u32, ReceiverError)] = &[
-    (0, 0, ReceiverError::NextZero),
-    (1, 0, ReceiverError::Window),
-    (1, 65537, ReceiverError::Window),
-    (0, 1048577, ReceiverError::NextZero),
-    (1, 1048577, ReceiverError::Window),
-];
+#[test]
+fn examples_of_a_receiver(rt: HostRuntime) -> Result<(), Fail> {
+    expect_examples(&rt, NAMED)
+}
 
 #[test]
-fn receivers_are_refused_in_order(rt: HostRuntime) {
-    for (next, window, wanted) in REFUSED_RECEIVERS {
-        let made = if *window > 65537 {
-            Receiver::wide(rt.alloc(), SESSION, *next, *window)
-        } else {
-            Receiver::new(rt.alloc(), SESSION, *next, *window)
-        };
-        holds_at(&rt, made.err() == Some(*wanted), "window", *window as usize);
-    }
+fn other_examples_of_a_receiver(rt: HostRuntime) -> Result<(), Fail> {
+    expect_examples(&rt, OTHERS)
 }
 
 const FIVE: &[u8] = b"SESSION001\0\0\0\0\0\0\0\x05\0\x01\0\x01E";

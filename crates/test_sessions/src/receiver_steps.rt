@@ -76,13 +76,8 @@ pub enum Step {
 pub type State = (u64, u64, u32, usize, Option<u64>);
 
 impl Reception {
-    /// A receiver of this window, which may be wide.
     pub fn new(alloc: Global, next: u64, window: u32) -> Result<Reception, ReceiverError> {
-        let receiver = if window <= 65536 {
-            Receiver::new(alloc, SESSION, next, window)?
-        } else {
-            Receiver::wide(alloc, SESSION, next, window)?
-        };
+        let receiver = Receiver::new(alloc, SESSION, next, window)?;
         Ok(Reception {
             receiver,
             batch: Batch::new(alloc),

@@ -2,7 +2,7 @@
 
 use crate::comparisons::{holds, holds_at};
 use crate::journals::journal_of;
-use mold_session::{AnswerError, Journal, Plan, Server, ServerError};
+use mold_session::{AnswerError, Journal, Plan, Server};
 use std::alloc::Global;
 use std::process::Abort;
 use std::test::Fail;
@@ -245,24 +245,4 @@ fn no_allocation_of_a_server(rt: HostRuntime) -> Result<(), Fail> {
         expect_example(&rt, name, *burst, steps)?;
     }
     Ok(())
-}
-
-/// The limit, the longest message and the burst of a server, and why it is refused, if it is.
-const SERVERS: &[(usize, u16, u16, Option<ServerError>)] = &[
-    (64, 43, 1, Some(ServerError::Limit)),
-    (63, 0, 1, Some(ServerError::Limit)),
-    (65508, 0, 1, Some(ServerError::Limit)),
-    (64, 42, 0, Some(ServerError::Burst)),
-    (64, 42, 65, Some(ServerError::Burst)),
-    (63, 0, 0, Some(ServerError::Limit)),
-    (64, 42, 1, None),
-    (65507, 65485, 64, None),
-];
-
-#[test]
-fn limits_bursts_and_messages_that_fit_are_taken(rt: HostRuntime) {
-    for (i, (limit, max_message, burst, wanted)) in SERVERS.iter().enumerate() {
-        let found = Server::new(rt.alloc(), *limit, *max_message, *burst).err();
-        holds_at(&rt, found == *wanted, "server", i);
-    }
 }
