@@ -80,20 +80,18 @@ fn push_five(indexed: &mut IndexedFile<ScriptedFile>) -> Result<(), IndexError> 
 /// What a call for the next datagram of a plan returns.
 type Sent = Result<Option<&'static [u8]>, FileError>;
 
-fn expect_plan(
-    rt: &impl Abort,
+// The server is owned here, since the borrow checker does not cover the comparison with one that is borrowed.
+fn expect_sent(
+    rt: &(impl Abort + AllocGlobal),
     indexed: &mut IndexedFile<ScriptedFile>,
-    server: &mut Server,
     wanted: &[Sent],
 ) -> Result<(), Fail> {
-    push_five(indexed)?;
+    let mut server = Server::new(rt.alloc(), 64, 42, 9)?;
     let mut plan = server.plan_from(indexed, 6, REQUEST)?;
     for index in 0..wanted.len() {
         let sent = server.datagram_from(indexed, &mut plan);
         holds_at(rt, sent == wanted[index], "call", index);
     }
-    holds(rt, indexed.session() == Session(*b"SESSION001"));
-    holds(rt, indexed.max_message() == 42 && indexed.next() == 6);
     Ok(())
 }
 
@@ -102,8 +100,11 @@ fn expect_indexed(
     indexed: &mut IndexedFile<ScriptedFile>,
     wanted: &[Sent],
 ) -> Result<(), Fail> {
-    let mut server = Server::new(rt.alloc(), 64, 42, 9)?;
-    expect_plan(rt, indexed, &mut server, wanted)
+    push_five(indexed)?;
+    expect_sent(rt, indexed, wanted)?;
+    holds(rt, indexed.session() == Session(*b"SESSION001"));
+    holds(rt, indexed.max_message() == 42 && indexed.next() == 6);
+    Ok(())
 }
 
 // The calls for the datagrams of the request return these results, in order.
