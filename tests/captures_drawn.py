@@ -1,5 +1,5 @@
 """Random captures, by a seed, for tests/captures: datagrams of sessions in frames of all link types, in files of all
-formats, with filters. Some frames and files are damaged."""
+formats, and calls of the commands that read them, with filters. Some frames and files are damaged."""
 from dataclasses import dataclass
 
 import captures_model as captures
@@ -12,6 +12,7 @@ LINKS += [captures.IPV4_LINK, captures.IPV6_LINK]
 UNREAD_LINKS = [6, 12, 105, 127, 147, 65535]
 GROUPS_4, GROUPS_6 = ["239.1.1.1", "239.1.1.2", "10.0.0.9"], ["ff02::1:2", "2001:db8::9"]
 PORTS = [26400, 26401, 1, 65535]
+SESSIONS = [model.padded(it) for it in (generators.NAME, "SESSION002", "A")]
 ORDERS, UNITS = ["big", "little"], ["microseconds", "nanoseconds"]
 RESOLUTIONS = [None, 0, 3, 6, 9, 12, 19, 20, 127, 128, 138, 191, 192, 255]
 # tshark computes wrong times with resolutions above 10^10 or so, because its numbers of 64 bits overflow.
@@ -19,6 +20,12 @@ PLAIN_RESOLUTIONS = [None, None, 3, 6, 9, 138, 148]
 OFFSETS = [None, None, 1, 1700000000, -1, -5, (1 << 63) - 1, -(1 << 63)]
 # What a block of a kind that is not read is, or of the obsolete packet block.
 OTHER_KINDS = [2, 4, 5, 0x0BAD, 0x80000001, 0xFFFFFFFF]
+# The commands with an option of `check`, or the form of `extract`. One that is in the list more often is drawn more
+# often.
+CALLS = 2 * [("check", ""), ("check", "--journal"), ("extract", "--lines"), ("extract", "--blocks")]
+CALLS += [("check", "--each"), ("check", "--digest"), *3 * [("show", ""), ("sessions", "")]]
+# The file that `check --journal` or `extract` writes.
+MADE = "made"
 
 
 @dataclass
@@ -28,10 +35,23 @@ class Case:
     command: str
     arguments: list
     chosen: captures.Filter
-    # The files with their names. The file `-` is standard input.
+    # The captures with their names. The file `-` is standard input.
     files: list
-    # An option of `check`, or nothing. The arguments have it too.
+    # An option of `check`, the form of `extract`, or nothing. The arguments have it too.
     option: str = ""
+    # The values of `--from` and `--count` of `extract`.
+    numbers: tuple = ()
+    # What the file MADE has before the call, or None if it does not exist.
+    former: bytes = None
+
+    def before(self):
+        """All files before the call."""
+        return self.files + ([] if self.former is None else [(MADE, self.former)])
+
+    def expected(self):
+        """The text, the status, what the file MADE has after the call, and the text on standard error."""
+        text, status, file, errors = captures.run(self.command, self.chosen, self.files, self.option, self.numbers)
+        return text, status, self.former if file is None else file, errors
 
 
 def units(chance, is_plain=False):
@@ -106,13 +126,17 @@ def frame(chance, link, payload, target, port, is_plain=False):
     return generators.damaged(chance, made) if has(chance, 0.08) else made
 
 
+def some_session(chance, counts=(0, 1, 3, 12), longest=42):
+    """The name of a session, and messages. There are as many as one of the counts."""
+    return chance.choice(SESSIONS), [generators.message(chance, longest) for _ in range(chance.choice(counts))]
+
+
 def payloads(chance):
     """The payloads of a capture with their destinations. Mostly they are those of one session."""
     drawn = []
     for _ in range(chance.choice([1, 1, 1, 2])):
         group, port = chance.choice(GROUPS_4 * 2 + GROUPS_6), chance.choice(PORTS)
-        session = chance.choice([generators.NAME.encode(), b"SESSION002", b"A".ljust(10)])
-        messages = [generators.message(chance) for _ in range(chance.choice([0, 1, 3, 12]))]
+        session, messages = some_session(chance)
         sent = [generators.captured(chance, session, messages) for _ in range(chance.choice([0, 0, 1, 3, 8]))]
         packets = model.packing(chance.choice([64, 100, 1400]), session, 1, messages)
         sent += [model.encoding(it) for it in packets if has(chance, 0.9)]
@@ -122,6 +146,19 @@ def payloads(chance):
     if has(chance, 0.3):
         chance.shuffle(drawn)
     return drawn
+
+
+def whole_payloads(chance):
+    """The payloads of a whole session that is sent on one or two lines, with their destinations."""
+    # The program writes files in pieces of about 64 KiB.
+    counts, longest, limits = ([400], 1378, [1400, 9000]) if has(chance, 0.03) else ([0, 1, 3, 12], 42, [64, 100, 1400])
+    (session, messages), drawn = some_session(chance, counts, longest), []
+    for group in chance.sample(GROUPS_4 + GROUPS_6, chance.choice([1, 2])):
+        packets = model.packing(chance.choice(limits), session, 1, messages)
+        packets.append(model.Packet("end", session, len(messages) + 1))
+        port = chance.choice(PORTS)
+        drawn += [(model.encoding(it), group, port) for it in packets]
+    return chance.sample(drawn, len(drawn)) if has(chance, 0.3) else drawn
 
 
 def fitting(chance, link, group):
@@ -217,42 +254,60 @@ def damaged_file(chance, file):
 def some_filter(chance, datagrams):
     """A filter that mostly lets datagrams of these pass, and its arguments."""
     chosen, arguments = captures.Filter(), []
-    groups, ports = {group for _, group, _ in datagrams}, {port for _, _, port in datagrams}
+    groups, ports = [group for _, group, _ in datagrams], [port for _, _, port in datagrams]
     if has(chance, 0.3):
-        chosen.ports = sorted(chance.sample(sorted(ports | {PORTS[0]}), 1) + chance.choice([[], [PORTS[1]], [26400]]))
+        chosen.ports = sorted([chance.choice(ports + PORTS[:1]), *chance.choice([[], [PORTS[1]], [26400]])])
         arguments += [["--port", str(it)] for it in chosen.ports]
     if has(chance, 0.3):
-        drawn = chance.sample(sorted(groups | {GROUPS_4[0]}), 1) + chance.choice([[], [GROUPS_6[0]]])
+        drawn = [chance.choice(groups + GROUPS_4[:1]), *chance.choice([[], [GROUPS_6[0]]])]
         chosen.groups = [captures.address(it) for it in drawn]
         arguments += [["--group", captures.address_text(it)] for it in chosen.groups]
     return chosen, arguments
 
 
-def case(chance):
-    command = chance.choice(list(captures.COMMANDS))
-    datagrams, files = payloads(chance), []
-    parts = chance.choice([1, 1, 1, 2, 3])
+def files_of(chance, datagrams, is_plain):
+    """Captures of these datagrams with their names. Some are damaged. If they are plain, no frame is."""
+    files, parts = [], chance.choice([1, 1, 1, 2, 3])
     for number in range(parts):
         part = datagrams[len(datagrams) * number // parts : len(datagrams) * (number + 1) // parts]
-        file = chance.choice([classic, pcapng])(chance, part)
+        file = chance.choice([classic, pcapng])(chance, part, is_plain)
         files.append((f"file{number}", damaged_file(chance, file) if has(chance, 0.2) else file))
     if has(chance, 0.2):
         at = chance.randrange(parts)
         files[at] = ("-", files[at][1])
-    chosen, arguments = some_filter(chance, datagrams)
+    return files
+
+
+def own_arguments(chance, command, option):
+    """The arguments of a command that are neither captures nor filters, and the numbers of a range of messages."""
+    if command == "extract":
+        options, given = generators.number_range(chance)
+        written = [generators.option_arguments(chance, {name: it}) for name, it in (options | {"to": MADE}).items()]
+        return [[option], *written], tuple(given.values())
+    if option == "--journal":
+        return [generators.option_arguments(chance, {"journal": MADE})], ()
+    return [[option]] if option else [], ()
+
+
+def case(chance):
+    command, option = chance.choice(CALLS)
+    is_writing = command == "extract" or option == "--journal"
+    # Few of the other payloads are those of a whole session.
+    is_whole = is_writing and has(chance, 0.7)
+    datagrams = whole_payloads(chance) if is_whole else payloads(chance)
+    files = files_of(chance, datagrams, is_whole and has(chance, 0.6))
+    chosen, others = some_filter(chance, datagrams)
     if command != "sessions" and has(chance, 0.3):
-        session = chance.choice([generators.NAME, "SESSION002", "A"])
-        chosen.session = model.padded(session)
-        arguments.append(["--session", session])
-    option = chance.choice(sorted(captures.OPTIONS)) if command == "check" and has(chance, 0.5) else ""
-    arguments += [[option]] if option else []
-    arguments += [["--capture", name] for name, _ in files]
+        names = [it[:10] for it, _, _ in datagrams if it[:10] in SESSIONS]
+        chosen.session = chance.choice(names + SESSIONS)
+        others.append(["--session", chosen.session.decode().rstrip()])
+    own, numbers = own_arguments(chance, command, option)
     # The order of the files is that of their options.
-    others = [it for it in arguments if it[0] != "--capture"]
-    for it in others:
-        arguments.remove(it)
+    arguments = [["--capture", name] for name, _ in files]
+    for it in others + own:
         arguments.insert(chance.randint(0, len(arguments)), it)
-    return Case(command, [word for words in arguments for word in words], chosen, files, option)
+    former = chance.choice(generators.FORMER) if is_writing else None
+    return Case(command, [word for words in arguments for word in words], chosen, files, option, numbers, former)
 
 
 def plain_file(chance):

@@ -1,6 +1,7 @@
-"""An independent model of captures: writers of capture files and their frames, and the output of `check --capture`,
-`show --capture` and `sessions`. It was written from the rule and from the public descriptions of the formats, without
-the program's definitions. `tests/captures` compares the program with it. tests/model.py has the rules of packets.
+"""An independent model of captures: writers of capture files and their frames, and the output and the files of
+`check --capture`, `extract --capture`, `show --capture` and `sessions`. It was written from the rule and from the
+public descriptions of the formats, without the program's definitions. `tests/captures` compares the program with it.
+tests/model.py has the rules of packets, and of what is checked and written.
 """
 import re
 import socket
@@ -515,8 +516,8 @@ def first_lines(reading):
     return "\n".join([f"{counts} partial {reading.partial} unread {reading.unread}", *reading.faults])
 
 
-def check_text(chosen, files):
-    """The text, the status, and the text on standard error."""
+def check_of(chosen, files):
+    """The check of captures, and the text on standard error."""
     reading, taken = read(chosen, files), []
 
     def taking(datagram):
@@ -524,13 +525,31 @@ def check_text(chosen, files):
         return datagram.payload
 
     captured = [(f"datagram {number}", lambda it=it: taking(it)) for number, (_, it) in enumerate(reading.datagrams, 1)]
-    text, status = model.check_named(first_lines(reading), captured)
-    is_other = status == 2 and len(taken) > 1 and target_of(taken[-1]) != target_of(taken[0])
-    return text, 2 if reading.faults else status, b"see mold sessions\n" if is_other else b""
+    check = model.check_of(first_lines(reading), captured, bool(reading.faults))
+    is_other = check.refusal and target_of(taken[-1]) != target_of(taken[0])
+    return check, b"see mold sessions\n" if is_other else b""
+
+
+def check_text(chosen, files):
+    """The text, the status, no file, and the text on standard error."""
+    check, errors = check_of(chosen, files)
+    return *check.report(), None, errors
+
+
+def check_and_save(chosen, files):
+    """The text and the status of `check --journal`, the journal, or None, and the text on standard error."""
+    check, errors = check_of(chosen, files)
+    return *check.save(), errors
+
+
+def extract(chosen, files, form, first, count):
+    """The text and the status of `extract`, the file that it writes, or None, and the text on standard error."""
+    check, errors = check_of(chosen, files)
+    return *check.extract(form, first, count), errors
 
 
 def check_by_digest(chosen, files):
-    """The same for `check --digest`."""
+    """The same as `check_text`, for `check --digest`."""
     text, *others = check_text(chosen, files)
     return re.sub(rb"^(whole \d+)$", rb"\1 by digest", text, flags=re.MULTILINE), *others
 
@@ -596,10 +615,14 @@ def line_of_session(target, session, packets):
 
 COMMANDS = {"check": check_text, "show": show_text, "sessions": sessions_text}
 # The options of `check`.
-OPTIONS = {"--each": check_each, "--digest": check_by_digest}
+OPTIONS = {"--each": check_each, "--digest": check_by_digest, "--journal": check_and_save}
 
 
-def run(command, chosen, files, option=""):
-    """The text, the status, and the text on standard error of a command, which may have an option."""
-    text, status, *errors = (OPTIONS[option] if option else COMMANDS[command])(chosen, files)
-    return text, status, errors[0] if errors else b""
+def run(command, chosen, files, option="", numbers=()):
+    """The text and the status of a command, the file that it writes, or None, and the text on standard error. `check`
+    may have an option. For `extract` the option is the form of the messages, and its numbers are `--from` and
+    `--count`."""
+    if command == "extract":
+        return extract(chosen, files, option, *numbers)
+    found = (OPTIONS[option] if option else COMMANDS[command])(chosen, files)
+    return (*found, None, b"")[:4]

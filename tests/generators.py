@@ -20,6 +20,8 @@ BAD_EVENTS += [b"ask -1", b"ask 18446744073709551615", b"ask 1844674407370955161
 # The flags of each form of messages in an input or an output. Those of `none` are invalid.
 FLAGS = {"lines": [], "blocks": ["--blocks"], "blocks to empty": ["--blocks", "--end-at-empty"]}
 FLAGS["none"] = ["--end-at-empty"]
+# What a file that a command writes has before, or None if it does not exist.
+FORMER = [None, b"", b"what was there before", 999 * b"x"]
 # Valid and almost valid texts of option values.
 SESSIONS = [NAME, "A", " ", "~", "a=b", "-x", "--to", "ten bytes.", "", "SESSION0012", "é", "a\x1fb", "a\x7f", "a\tb"]
 # The first address belongs to no machine, so that no program can bind it.
@@ -385,15 +387,20 @@ def file(chance):
 
 
 def upgrade(chance):
-    others = {"close": has(chance, 0.5), "former": chance.choice([None, b"", b"what was there before"])}
+    others = {"close": has(chance, 0.5), "former": chance.choice(FORMER)}
     return Case(others, [(file(chance),)], ["--close"] if others["close"] else [])
 
 
-def dump(chance):
-    first, count = chance.choice([1, 2, 9, max(1, number(chance))]), chance.choice([0, 1, 5, number(chance)])
-    drawn = {"from": first, "count": count}
+def number_range(chance):
+    """The options of a range of messages, each of which may be left out, and the range: a first number and a count."""
+    first, count = [1, 1, 2, 3, 9, max(1, number(chance))], [0, 1, 2, 5, number(chance), model.GREATEST]
+    drawn = {"from": chance.choice(first), "count": chance.choice(count)}
     options = {name: value for name, value in drawn.items() if has(chance, 0.6)}
-    given = {name: options.get(name, model.DEFAULTS[name]) for name in drawn}
+    return options, {name: options.get(name, model.DEFAULTS[name]) for name in drawn}
+
+
+def dump(chance):
+    options, given = number_range(chance)
     form = chance.choice(["lines", "blocks", "blocks to empty"])
     arguments = option_arguments(chance, options) + FLAGS[form]
     return Case(given | {"form": form}, [(file(chance),)], arguments)

@@ -864,40 +864,78 @@ class Capture:
         marks = [0, *sorted(self.carried), self.known]
         return [(a + 1, b - 1) for a, b in zip(marks, marks[1:]) if a + 1 < b]
 
+    def verdict(self):
+        """The lines and the status."""
+        missing = self.missing()
+        if self.end is not None and not missing:
+            return [f"whole {self.end - 1}"], 0
+        incomplete = f"incomplete end {'none' if self.end is None else self.end}"
+        return [incomplete] + [f"missing {first} {last}" for first, last in missing], 1
 
-def check_named(first_line, captured):
-    """The text, which begins with a given line, and the status for named datagrams. A function returns or refuses each
-    datagram."""
+
+@dataclass
+class Check:
+    """A check that has read its input: the text before its verdict, the state of the session, the line of a refused
+    datagram, or None, and whether a part of the input is at fault."""
+
+    first: str
+    capture: Capture
+    refusal: str = None
+    is_at_fault: bool = False
+
+    def report(self):
+        """The text and the status of `check`."""
+        lines, status = ([self.refusal], 2) if self.refusal else self.capture.verdict()
+        return text_of([self.first, *lines]), 2 if self.is_at_fault else status
+
+    def save(self):
+        """The text and the status of `check --journal`, and the journal, or None."""
+        text, status = self.report()
+        if status:
+            return text, status, None
+        messages = [self.capture.carried[number] for number in sorted(self.capture.carried)]
+        return text + text_of([f"saved {len(messages)}"]), 0, journal_file(self.capture.session, messages, True)
+
+    def extract(self, form, first, count):
+        """The text and the status of `extract`, and the file that it writes, or None."""
+        below = first + count
+        numbers = [number for number in sorted(self.capture.carried) if first <= number < below]
+        wanted = min(below, GREATEST if self.capture.end is None else self.capture.end)
+        if self.refusal or (form == "--blocks" and len(numbers) < max(wanted - first, 0)):
+            return *self.report(), None
+        messages = [self.capture.carried[number] for number in numbers]
+        lines = [f"{number} {printed_message(message)}" for number, message in zip(numbers, messages)]
+        file = blocks(messages) if form == "--blocks" else text_of(lines)
+        return text_of([self.first, f"extracted {len(numbers)}"]), 2 if self.is_at_fault else 0, file
+
+
+def check_of(first, captured, is_at_fault=False):
+    """The check of named datagrams. A function returns or refuses each datagram."""
     capture = Capture()
     for name, datagram in captured:
         try:
             capture.add(datagram())
         except Refused as why:
-            return text_of([first_line, f"refused {name} {why}"]), 2
-    missing = capture.missing()
-    if capture.end is not None and not missing:
-        return text_of([first_line, f"whole {capture.end - 1}"]), 0
-    incomplete = f"incomplete end {'none' if capture.end is None else capture.end}"
-    return text_of([first_line, incomplete] + [f"missing {first} {last}" for first, last in missing]), 1
+            return Check(first, capture, f"refused {name} {why}", is_at_fault)
+    return Check(first, capture, None, is_at_fault)
 
 
 def check(entries):
     """The entries of a folder are names with bytes, or with None for an entry that is not read."""
     captured = sorted((name.encode(), some_bytes) for name, some_bytes in entries if name.endswith(".pkt"))
     first_line = f"files {len(captured)} skipped {len(entries) - len(captured)}"
-    return check_named(first_line, [(name.decode(), lambda it=it: it) for name, it in captured])
-
-
-def check_lines(some_bytes):
-    lines = [(number, line) for number, line in enumerate(lines_of(some_bytes), 1) if line]
-    first_line = f"datagrams {len(lines)}"
-    return check_named(first_line, [(f"line {number}", lambda it=it: bytes_of(it)) for number, it in lines])
+    return check_of(first_line, [(name.decode(), lambda it=it: it) for name, it in captured]).report()
 
 
 def named_lines(some_bytes):
     """The lines that are not empty, with their names."""
     lines = [(number, line) for number, line in enumerate(lines_of(some_bytes), 1) if line]
     return [(f"line {number}", lambda it=it: bytes_of(it)) for number, it in lines]
+
+
+def check_of_lines(some_bytes):
+    named = named_lines(some_bytes)
+    return check_of(f"datagrams {len(named)}", named)
 
 
 def session_or_none(datagram):
@@ -916,7 +954,7 @@ def each_session(captured):
         if session is None:
             checked, status = text_of(["session none", f"refused {len(of_session)}"]), 2
         else:
-            checked, status = check_named(f"session {session.hex()}", of_session)
+            checked, status = check_of(f"session {session.hex()}", of_session).report()
         text, statuses = text + checked, [*statuses, status]
     return text, statuses
 
@@ -932,37 +970,3 @@ def check_each_line(some_bytes):
             break
     text, statuses = each_session(captured)
     return text_of([f"datagrams {len(named)}"]) + text + text_of(last), max([*statuses, *[2 for _ in last]], default=1)
-
-
-def captured_lines(some_bytes):
-    """The state of the session of lines, none of which is refused."""
-    capture = Capture()
-    for _, datagram in named_lines(some_bytes):
-        capture.add(datagram())
-    return capture
-
-
-def save_lines(some_bytes):
-    """The text, the status, and the journal that `check --journal` saves, or None."""
-    text, status = check_lines(some_bytes)
-    if status:
-        return text, status, None
-    capture = captured_lines(some_bytes)
-    messages = [capture.carried[number] for number in sorted(capture.carried)]
-    return text + text_of([f"saved {len(messages)}"]), 0, journal_file(capture.session, messages, True)
-
-
-def extract_lines(some_bytes, form, first, count):
-    """The text, the status, and the file that `extract` writes, or None."""
-    text, status = check_lines(some_bytes)
-    if status == 2:
-        return text, status, None
-    capture, below = captured_lines(some_bytes), first + count
-    numbers = [number for number in sorted(capture.carried) if first <= number < below]
-    wanted = min(below, GREATEST if capture.end is None else capture.end)
-    if form == "--blocks" and len(numbers) < max(wanted - first, 0):
-        return text, status, None
-    messages = [capture.carried[number] for number in numbers]
-    lines = [f"{number} {printed_message(message)}" for number, message in zip(numbers, messages)]
-    file = blocks(messages) if form == "--blocks" else text_of(lines)
-    return text.split(b"\n")[0] + b"\n" + text_of([f"extracted {len(numbers)}"]), 0, file

@@ -1,4 +1,5 @@
-"""Runs a program, for the scripts in this folder. Its standard streams are files, so no pipe can fill up."""
+"""Runs a program and compares its outcome with what is expected, for the scripts in this folder. The program's
+standard streams are files, so no pipe can fill up."""
 import os
 import shutil
 import subprocess
@@ -76,6 +77,24 @@ def read_all(file):
 def call(command, some_bytes=b"", environment=None):
     with running(command, some_bytes, environment) as process:
         return finish(process)
+
+
+def differing(what, got, wanted):
+    """How two values differ, or None."""
+    if got == wanted:
+        return None
+    if isinstance(got, bytes) and isinstance(wanted, bytes):
+        for one, other in zip(got.split(b"\n"), wanted.split(b"\n")):
+            if one != other:
+                return f"{what} has {one[:300]!r} instead of {other[:300]!r}"
+    return f"{what} is {str(got)[:300]}, expected {str(wanted)[:300]}"
+
+
+def difference(outcome, text, status, *others, wanted_errors=b""):
+    """What is wrong with an outcome, or None. The others are triples of a name, the actual and the expected value."""
+    compared = [("standard error", outcome.errors, wanted_errors), ("standard output", outcome.text, text)]
+    compared += [("the status", outcome.status, status), *others]
+    return next(filter(None, (differing(*them) for them in compared)), None)
 
 
 def content_of(path):
