@@ -6,15 +6,16 @@
 //     c++ -O2 -std=c++17 library/bench/bench.cpp library/out/libmold.a -pthread -o bench && ./bench
 //
 // Each row of the first table is one kind of work. In each round every receiver does it once. The table has the least
-// time of a round, in nanoseconds a datagram. The plain receiver has two stores; the faster one counts. With --brief
-// there are only a few rounds, and the times are rough. For each receiver the program sums the lengths and the first
-// bytes of the delivered messages. It stops if the sums differ.
+// time of a round, in nanoseconds a datagram. The plain receiver has two stores; the faster one counts. For each
+// receiver the program sums the lengths and the first bytes of the delivered messages. It stops if the sums differ.
 //
 // The second table has the datagrams a second of one, two and four threads, each with its own listener. They are
 // measured by the clock, which needs an idle machine, and by the processor time of the threads.
-#include "bench.hpp"
-#include "../mold.hpp"
-#include "plain.hpp"
+//
+// With --brief there are only a few rounds, and the times are rough. With --rounds N there are N rounds, and only the
+// first table. With --threads there is only the second table. library/bench/run uses these options to link the program
+// in several layouts.
+#include "receivers.hpp"
 
 #include <atomic>
 #include <ctime>
@@ -125,22 +126,7 @@ Work far_ahead(std::uint32_t window) {
     return work;
 }
 
-// ---- The three receivers ----
-
-/// Sums over the delivered messages, so that the compiler cannot omit the work.
-struct Sum {
-    std::uint64_t messages = 0, lengths = 0, first_bytes = 0;
-
-    void add(const std::uint8_t *at, std::size_t length) {
-        messages++;
-        lengths += length;
-        first_bytes += length > 0 ? at[0] : 0;
-    }
-
-    bool operator==(const Sum &other) const {
-        return messages == other.messages && lengths == other.lengths && first_bytes == other.first_bytes;
-    }
-};
+// ---- Rounds ----
 
 /// The time of a round in which the plain receiver passes messages to a function.
 template <bool keeps_memory>
@@ -168,37 +154,6 @@ double by_hearing(const Work &work, Sum &sum) {
             stop("a datagram was refused");
     return since(began);
 }
-
-/// The library's listener, with the method names of the plain one.
-class Library {
-public:
-    explicit Library(std::uint32_t window) {
-        if (mold_listener_new(&listener_, session, 1, window) != MOLD_DONE)
-            stop("the listener cannot be made");
-    }
-
-    Library(const Library &) = delete;
-    Library &operator=(const Library &) = delete;
-    ~Library() { mold_free(&listener_); }
-
-    std::uint32_t take(std::uint32_t line, const std::uint8_t *bytes, std::size_t length, mold_taken &taken) {
-        return mold_listener_take(&listener_, line, bytes, length, &taken);
-    }
-
-    std::size_t messages(mold_bytes *array, std::size_t room) {
-        return mold_listener_messages(&listener_, array, room);
-    }
-
-    void clear() { mold_listener_clear(&listener_); }
-
-private:
-    mold_listener listener_ = MOLD_EMPTY;
-};
-
-template <bool keeps_memory>
-struct Plain : plain::Listener<keeps_memory> {
-    explicit Plain(std::uint32_t window) : plain::Listener<keeps_memory>(session, 1, window) {}
-};
 
 /// The time of a round in which one call returns all messages of the batch, which is then cleared. The batch is read
 /// after `at_once` datagrams.
@@ -245,7 +200,7 @@ void run_row(const Work &work, int rounds) {
         }
     }
     const double count = static_cast<double>(work.arrivals.size());
-    std::printf("%-36s %9.1f %9.1f %7.2f %9.1f %9.1f %7.2f\n", work.name.c_str(), least[0] / count, least[1] / count,
+    std::printf("%-38s %9.2f %9.2f %7.2f %9.2f %9.2f %7.2f\n", work.name.c_str(), least[0] / count, least[1] / count,
                 least[1] / least[0], least[2] / count, least[3] / count, least[3] / least[2]);
     std::fflush(stdout);
 }
@@ -299,7 +254,7 @@ Rates in_threads(const Work &work, unsigned threads, int rounds) {
 void run_threads(int runs) {
     const Work work = in_order(10);
     Rates alone;
-    std::printf("\n%-20s %17s %17s %17s %10s\n", "threads", "datagrams/s", "by one", "by processors", "by one");
+    std::printf("%-20s %17s %17s %17s %10s\n", "threads", "datagrams/s", "by one", "by processors", "by one");
     for (unsigned threads : {1u, 2u, 4u}) {
         Rates most;
         for (int run = 0; run < runs; run++) {
@@ -313,17 +268,29 @@ void run_threads(int runs) {
     }
 }
 
-} // namespace
-
-int main(int count, char **words) {
-    const bool brief = count > 1 && std::string(words[1]) == "--brief";
-    const int rounds = brief ? 3 : 500;
-    const char *const line = "%-36s %9s %9s %7s %9s %9s %7s\n";
+/// Prints the first table.
+void run_rows(int rounds) {
+    const char *const line = "%-38s %9s %9s %7s %9s %9s %7s\n";
     std::printf(line, "nanoseconds a datagram", "function,", "function,", "library", "copied,", "copied,", "library");
     std::printf(line, "", "plain", "library", "/ plain", "plain", "library", "/ plain");
     for (const Work &work : {heartbeats(), in_order(1), in_order(10), in_order(30), in_order_at_once(1), repeated(),
                              two_lines(), stored(), never_empty(), never_empty_behind(), far_ahead(1024), far_ahead(65536)})
         run_row(work, rounds);
-    run_threads(brief ? 3 : 200);
+}
+
+} // namespace
+
+int main(int count, char **words) {
+    const std::vector<std::string> options(words + 1, words + count);
+    const auto has = [&options](const char *name) { return std::count(options.begin(), options.end(), name) > 0; };
+    if (options.size() == 2 && has("--rounds")) {
+        run_rows(std::max(1, std::atoi(words[2])));
+        return 0;
+    }
+    if (!has("--threads")) {
+        run_rows(has("--brief") ? 3 : 500);
+        std::printf("\n");
+    }
+    run_threads(has("--brief") ? 3 : 200);
     return 0;
 }
