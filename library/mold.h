@@ -108,7 +108,9 @@ enum mold_code {
     MOLD_E_BAD_FLAG = 30,       /* the journal's flag is neither open nor closed */
     MOLD_E_FILE_CUT = 31,       /* the journal ends within a message */
     MOLD_E_COUNT_DIFFERS = 32,  /* the journal does not have as many messages as it states */
-    MOLD_E_DAMAGED = 33         /* a record of the journal is damaged */
+    MOLD_E_DAMAGED = 33,        /* a record of the journal is damaged */
+    MOLD_E_NOT_MISSING = 34,    /* not all messages below the number are missing */
+    MOLD_E_BATCH = 35           /* the batch is not empty */
 };
 
 /* A slice: `length` bytes at `at`. */
@@ -252,6 +254,12 @@ void mold_free(void *handle);
 
 /* ---- Listener: two lines and a server's responses, delivered in order ---- */
 
+/* The sequence numbers from `first` to `last`, inclusive. */
+typedef struct mold_range {
+    uint64_t first;
+    uint64_t last;
+} mold_range;
+
 /* What a datagram brought. */
 typedef struct mold_taken {
     uint64_t detail;    /* the number that goes with a refusal; otherwise 0. After a refusal the counts are 0 */
@@ -363,6 +371,24 @@ uint32_t mold_listener_copy(const mold_listener *listener, size_t i, uint8_t *bu
 /* Whether messages are missing. If so, `request` is the request packet to send to the re-request server. It asks for
  * the messages of the first gap, at most 65,534. Otherwise `request` keeps its bytes. */
 bool mold_listener_wanted(const mold_listener *listener, uint8_t request[20]);
+
+/* Writes the ranges of missing messages with numbers from `from` on, ascending, as many as the array has room for, and
+ * returns how many. A message is missing if its number is below mold_listener_known and it was neither delivered nor
+ * stored. If `from` is within a gap, the first range begins at `from`. No two ranges adjoin. The other elements of the
+ * array keep their values. `room` is the number of elements. If the array is full, there may be more ranges: call again
+ * with `from` one more than the last number. */
+size_t mold_listener_ranges(const mold_listener *listener, uint64_t from, mold_range *ranges, size_t room);
+
+/* Gives up all messages below number `to`. They have to be missing, from mold_listener_next on, and there has to be at
+ * least one: so `to` is at most one more than the last number of the first range of mold_listener_ranges. The listener
+ * goes on at `to`, and delivers the stored messages from there up to the next gap. They join the batch, which has to be
+ * empty. It keeps its other stored messages and the reports of the lines.
+ *
+ *   MOLD_E_BROKEN       the handle does not hold a listener.
+ *   MOLD_E_BATCH        the batch is not empty.
+ *   MOLD_E_NOT_MISSING  not all of these messages are missing, or there is none.
+ *   MOLD_E_MEMORY       an allocation failed. */
+uint32_t mold_listener_skip(mold_listener *listener, uint64_t to);
 
 /* Returns the number of the next message to deliver. */
 uint64_t mold_listener_next(const mold_listener *listener);
@@ -523,12 +549,6 @@ uint32_t mold_server_plan(const mold_server *server, const uint8_t *request, siz
 uint32_t mold_server_datagram(const mold_server *server, mold_plan *plan, uint8_t *buffer, size_t room, size_t *size);
 
 /* ---- Checker: whether captured datagrams are one whole session ---- */
-
-/* The sequence numbers from `first` to `last`, inclusive. */
-typedef struct mold_range {
-    uint64_t first;
-    uint64_t last;
-} mold_range;
 
 typedef struct mold_verdict {
     uint64_t messages; /* if the session is whole, its number of messages; otherwise 0 */

@@ -68,6 +68,8 @@ enum class Code : std::uint32_t {
     FileCut = MOLD_E_FILE_CUT,
     CountDiffers = MOLD_E_COUNT_DIFFERS,
     Damaged = MOLD_E_DAMAGED,
+    NotMissing = MOLD_E_NOT_MISSING,
+    Batch = MOLD_E_BATCH,
 };
 
 /// Where a datagram came from.
@@ -339,6 +341,16 @@ public:
 
     [[nodiscard]] bool wanted(std::array<std::uint8_t, 20> &request) const noexcept {
         return mold_listener_wanted(&handle_, request.data());
+    }
+
+    /// Writes the missing ranges from number `from` on, as many as the array has room for, and returns how many.
+    std::size_t ranges(std::uint64_t from, mold_range *array, std::size_t room) const noexcept {
+        return mold_listener_ranges(&handle_, from, array, room);
+    }
+
+    /// Gives up all messages below `to`. The batch has to be empty, and gets the stored messages that follow.
+    [[nodiscard]] Code skip(std::uint64_t to) noexcept {
+        return static_cast<Code>(mold_listener_skip(&handle_, to));
     }
 
     std::uint64_t next() const noexcept { return mold_listener_next(&handle_); }

@@ -36,6 +36,7 @@ static void fill(handles *all) {
 static void read_listener(const mold_listener *listener) {
     mold_bytes message, messages[2];
     mold_report report;
+    mold_range range;
     uint8_t request[20], copy[4];
     size_t size;
     CHECK(mold_listener_count(listener) == 2 && mold_listener_first(listener) == 1);
@@ -45,6 +46,7 @@ static void read_listener(const mold_listener *listener) {
     CHECK(message.at[0] == 2 && mold_listener_messages(listener, messages, 2) == 2);
     CODE(mold_listener_copy(listener, 0, copy, 4, &size), MOLD_DONE);
     CHECK(mold_listener_wanted(listener, request));
+    CHECK(mold_listener_ranges(listener, 0, &range, 1) == 1 && range.first == 3 && range.last == 3);
     CODE(mold_listener_report(listener, MOLD_LINE_B, &report), MOLD_DONE);
 }
 

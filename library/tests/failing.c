@@ -151,6 +151,15 @@ static uint32_t try_hear(mold_listener *listener, datagram given, mold_delivery 
     return code;
 }
 
+static uint32_t try_skip(mold_listener *listener, uint64_t to) {
+    unsigned long before = refused;
+    CHECK(mold_listener_clear(listener) == MOLD_DONE);
+    uint64_t sum = sum_of_listener(listener);
+    uint32_t code = mold_listener_skip(listener, to);
+    CHECK(code != MOLD_E_MEMORY || sum == sum_of_listener(listener));
+    return again(code, before) ? mold_listener_skip(listener, to) : code;
+}
+
 static uint32_t try_publish(mold_publisher *publisher, int value, size_t length) {
     unsigned long before = refused;
     uint64_t number = 0, sum = sum_of_publisher(publisher);
@@ -216,6 +225,19 @@ static void run_listener(void) {
         CHECK(mold_listener_clear(&listener) == MOLD_DONE);
         done(try_take(&listener, varied(mold_listener_next(&listener), 3), &taken));
         CHECK(all_fail || mold_listener_count(&listener) == 3);
+    }
+    mold_free(&listener);
+}
+
+/* The first message is given up, and the stored messages after it are delivered. */
+static void run_giving_up(void) {
+    mold_listener listener = MOLD_EMPTY;
+    mold_taken taken = {0, 0, 0, 0, 0};
+    if (done(try_listener(&listener))) {
+        for (uint64_t number = 40; number > 1; number -= 3)
+            done(try_take(&listener, varied(number, 2), &taken));
+        if (mold_listener_known(&listener) == 42 && done(try_skip(&listener, 4)))
+            CHECK(all_fail || (mold_listener_next(&listener) == 6 && mold_listener_count(&listener) == 2));
     }
     mold_free(&listener);
 }
@@ -352,6 +374,7 @@ static void each_in_turn(const char *name, void (*run)(void)) {
 int main(void) {
     each_in_turn("listener", run_listener);
     each_in_turn("listener without copies", run_without_copies);
+    each_in_turn("giving up", run_giving_up);
     each_in_turn("publisher", run_publisher);
     each_in_turn("server", run_server);
     each_in_turn("checker", run_checker);

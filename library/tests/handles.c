@@ -91,6 +91,7 @@ static void no_listener(mold_listener *handle) {
     mold_taken taken = {9, 9, 9, 9, 9};
     mold_delivery delivery = {9, 9, 9, 9, 9, 9};
     mold_report report = {9, 9, 9};
+    mold_range range = {9, 9};
     mold_bytes bytes = MOLD_NO_BYTES;
     uint8_t room[64] = {7};
     size_t size = 99;
@@ -107,6 +108,8 @@ static void no_listener(mold_listener *handle) {
     CHECK(mold_listener_next(handle) == 0 && mold_listener_known(handle) == 0 && !mold_listener_finished(handle));
     CODE(mold_listener_report(handle, MOLD_LINE_A, &report), MOLD_E_BROKEN);
     CHECK(report.datagrams == 9 && size == 99);
+    CHECK(mold_listener_ranges(handle, 0, &range, 1) == 0 && range.first == 9 && range.last == 9);
+    CODE(mold_listener_skip(handle, 2), MOLD_E_BROKEN);
     CODE(mold_listener_clear(handle), MOLD_E_BROKEN);
 }
 

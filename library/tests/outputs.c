@@ -57,6 +57,7 @@ static void listeners(void) {
     mold_delivery delivery, not_delivered;
     mold_report report, no_report;
     mold_bytes message, absent, all[4];
+    mold_range ranges[2];
     uint8_t *buffer = uninitialized(4), request[20];
     size_t size, needed, no_size;
     CODE(take(&listener, MOLD_LINE_A, packet_of(3, 9, 2), &taken), MOLD_DONE);
@@ -83,6 +84,7 @@ static void listeners(void) {
     CODE(mold_listener_report(&listener, MOLD_LINE_A, &report), MOLD_DONE);
     CHECK(report.datagrams == 1 && report.refused == 1 && report.front == 12);
     CODE(mold_listener_report(&listener, 2, &no_report), MOLD_E_LINE);
+    CHECK(mold_listener_ranges(&listener, 0, ranges, 2) == 1 && ranges[0].first == 5 && ranges[0].last == 11);
     mold_free(&listener);
     free(buffer);
 }

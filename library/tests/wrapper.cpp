@@ -98,6 +98,20 @@ void a_listener_listens() {
     CHECK(!listener && listener.next() == 0 && listener.open(name, 7, 1) == Code::Done && listener.next() == 7);
 }
 
+void a_listener_gives_up() {
+    mold::Publisher publisher;
+    const std::vector<Datagram> sent = session_of(publisher, {"first", "", "third and longest of them all", "fourth"});
+    mold::Listener listener;
+    mold_taken taken{};
+    std::array<mold_range, 2> ranges{};
+    CHECK(listener.skip(2) == Code::Broken && listener.ranges(0, ranges.data(), 2) == 0);
+    CHECK(listener.open(name) == Code::Done && listener.take(Line::A, sent[1], taken) == Code::Done);
+    const std::uint64_t first = listener.known() - taken.kept;
+    CHECK(listener.ranges(0, ranges.data(), ranges.size()) == 1 && ranges[0].first == 1 && ranges[0].last == first - 1);
+    CHECK(listener.skip(first + 1) == Code::NotMissing && listener.skip(first) == Code::Done);
+    CHECK(listener.count() == taken.kept && listener.first() == first && listener.skip(first) == Code::Batch);
+}
+
 void a_listener_copies_nothing() {
     mold::Publisher publisher;
     const std::vector<Datagram> sent = session_of(publisher, {"first", "", "third and longest of them all", "fourth"});
@@ -241,6 +255,7 @@ void texts_are_printed() {
 
 int main() {
     a_listener_listens();
+    a_listener_gives_up();
     a_listener_copies_nothing();
     servers_serve();
     a_checker_checks();

@@ -1,5 +1,6 @@
 mod AsBox
 mod CheckerLemmas
+mod GapLemmas
 mod ListenerLemmas
 mod LoanLemmas
 mod PlaceLemmas

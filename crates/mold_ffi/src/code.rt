@@ -77,3 +77,7 @@ pub const FILE_CUT: u32 = 31;
 pub const COUNT_DIFFERS: u32 = 32;
 /// A file of version 3 with neither a whole record nor a shut gate where one has to be.
 pub const DAMAGED: u32 = 33;
+/// A number up to which not all messages are missing.
+pub const NOT_MISSING: u32 = 34;
+/// A batch that is not empty.
+pub const BATCH: u32 = 35;
