@@ -186,6 +186,33 @@ static uint32_t try_check(mold_checker *checker, datagram given) {
     return code;
 }
 
+static uint32_t try_repairer(mold_repairer *repairer, const mold_repair_options *options) {
+    unsigned long before = refused;
+    uint32_t code = mold_repairer_new(repairer, session, options);
+    CHECK(repairer->live == (code == MOLD_DONE));
+    return again(code, before) ? mold_repairer_new(repairer, session, options) : code;
+}
+
+static uint32_t try_repair(mold_repairer *repairer, uint64_t now, datagram given, mold_taken *taken) {
+    unsigned long before = refused;
+    uint64_t sum = sum_of_listener(mold_listener_of(repairer));
+    uint32_t code = mold_repairer_take(repairer, now, MOLD_LINE_A, given.at, given.length, taken);
+    CHECK(code != MOLD_E_MEMORY || sum == sum_of_listener(mold_listener_of(repairer)));
+    if (again(code, before))
+        code = mold_repairer_take(repairer, now, MOLD_LINE_A, given.at, given.length, taken);
+    free(given.at);
+    return code;
+}
+
+static uint32_t try_lost(mold_repairer *repairer, uint64_t now, mold_range *lost) {
+    unsigned long before = refused;
+    CHECK(mold_listener_clear(mold_listener_of(repairer)) == MOLD_DONE);
+    uint64_t sum = sum_of_listener(mold_listener_of(repairer));
+    uint32_t code = mold_repairer_lost(repairer, now, lost);
+    CHECK(code != MOLD_E_MEMORY || sum == sum_of_listener(mold_listener_of(repairer)));
+    return again(code, before) ? mold_repairer_lost(repairer, now, lost) : code;
+}
+
 /* ---- Runs in which allocations fail ---- */
 
 /* Whether a call succeeded. It may return MOLD_E_MEMORY only in a run in which all later allocations fail. */
@@ -263,6 +290,32 @@ static void run_without_copies(void) {
         CHECK(try_hear(&listener, packet_of(90, 0, 0), &delivery) == MOLD_DONE);
     }
     mold_free(&listener);
+}
+
+/* The first message is missing. It is given up after a request without a response. */
+static void run_repairer(void) {
+    mold_repairer repairer = MOLD_EMPTY;
+    mold_repair_options options;
+    mold_taken taken = {0, 0, 0, 0, 0};
+    mold_range lost = {0, 0};
+    uint8_t request[20];
+    uint32_t server = 9;
+    mold_repair_options_default(&options);
+    options.window = 64;
+    options.give_up = 1;
+    options.audit = 16;
+    if (done(try_repairer(&repairer, &options))) {
+        for (uint64_t number = 40; number > 1; number -= 3)
+            done(try_repair(&repairer, 40 - number, varied(number, 2), &taken));
+        if (mold_listener_known(mold_listener_of(&repairer)) == 42) {
+            for (uint64_t now = 0; now < 4000000; now += 500000)
+                mold_repairer_poll(&repairer, now, request, &server);
+            CHECK(all_fail || server == 0);
+            if (done(try_lost(&repairer, 2000000000, &lost)))
+                CHECK(all_fail || (lost.last == 3 && mold_listener_count(mold_listener_of(&repairer)) == 2));
+        }
+    }
+    mold_free(&repairer);
 }
 
 static void run_publisher(void) {
@@ -375,6 +428,7 @@ int main(void) {
     each_in_turn("listener", run_listener);
     each_in_turn("listener without copies", run_without_copies);
     each_in_turn("giving up", run_giving_up);
+    each_in_turn("repairer", run_repairer);
     each_in_turn("publisher", run_publisher);
     each_in_turn("server", run_server);
     each_in_turn("checker", run_checker);

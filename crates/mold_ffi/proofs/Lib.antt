@@ -5,6 +5,7 @@ mod ListenerLemmas
 mod LoanLemmas
 mod PlaceLemmas
 mod Reading
+mod RepairerLemmas
 mod ServerLemmas
 mod TextLemmas
 mod Walking

@@ -81,3 +81,7 @@ pub const DAMAGED: u32 = 33;
 pub const NOT_MISSING: u32 = 34;
 /// A batch that is not empty.
 pub const BATCH: u32 = 35;
+/// An option outside its range.
+pub const OPTIONS: u32 = 36;
+/// A time of 2^62 nanoseconds or more.
+pub const TIME: u32 = 37;

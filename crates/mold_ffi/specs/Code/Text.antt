@@ -43,6 +43,8 @@ texts =
     text.DAMAGED.now ∷
     text.NOT_MISSING.now ∷
     text.BATCH.now ∷
+    text.OPTIONS.now ∷
+    text.TIME.now ∷
     []
 
 -- The text for a number, with a zero byte at its end: that of the code with this number, or `unknown code` if there is no

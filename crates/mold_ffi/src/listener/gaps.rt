@@ -1,8 +1,8 @@
 //! The calls that write a listener's gaps, and that give up the first one.
 
-ghost use Rattle.std.specs.Prelude.{◌≡◌, Some, length, min};
+ghost use Rattle.std.specs.Prelude.{◌≡◌, None, Some, length, min};
 ghost use Rattle.mold_ffi.specs.Checker.MoldRange.{AreFilled};
-ghost use Rattle.mold_ffi.specs.Handle.Borrow.{IsNoListener};
+ghost use Rattle.mold_ffi.specs.Handle.Borrow.{IsNoListener, listening};
 ghost use Rattle.mold_ffi.specs.Listener.BatchedArbiter.{BatchedArbitration};
 ghost use Rattle.mold_ffi.specs.Listener.Gaps.{Skips, gaps_from};
 ghost use Rattle.mold_ffi.specs.declared.code.TheConstants as codes;
@@ -10,7 +10,7 @@ ghost use Rattle.mold_ffi.specs.declared.handle.held.Held.TheVariants.{Listener 
 
 use crate::checker::mold_range::MoldRange;
 use crate::code::BROKEN;
-use crate::handle::borrow::lend_listener;
+use crate::handle::borrow::lend_arbiter;
 use crate::handle::held::Held;
 use crate::handle::mold_handle::MoldHandle;
 use mold_receiver::Arbiter;
@@ -46,15 +46,15 @@ pub extern "C" fn mold_listener_ranges(
     from: u64,
     ranges: &mut [MoldRange],
 ) -> usize
-    ensures count { (batched : BatchedArbitration) → listener.old.handle.value ≡ Some (AListener batched) →
+    ensures count { (batched : BatchedArbitration) → listening listener.old.handle.value ≡ Some batched →
         result ≡ min (length ranges.old) (length (gaps_from batched.arbitration.view from)) }
-    ensures filled { (batched : BatchedArbitration) → listener.old.handle.value ≡ Some (AListener batched) →
+    ensures filled { (batched : BatchedArbitration) → listening listener.old.handle.value ≡ Some batched →
         AreFilled (gaps_from batched.arbitration.view from) ranges.old ranges.new }
-    ensures broken { IsNoListener listener.old.handle.value → (result ≡ 0) × (ranges.new ≡ ranges.old) }
+    ensures broken { listening listener.old.handle.value ≡ None → (result ≡ 0) × (ranges.new ≡ ranges.old) }
     ensures same { listener.new.handle.value ≡ listener.old.handle.value }
 {
-    match lend_listener(listener) {
-        Some(held) => fill_gaps(held.arbiter(), from, ranges),
+    match lend_arbiter(listener) {
+        Some(arbiter) => fill_gaps(arbiter, from, ranges),
         None => 0,
     }
 }
