@@ -1,4 +1,5 @@
-/* libmold: MoldUDP64 packets, a listener to two lines, a publisher, a re-request server, and a checker of captures.
+/* libmold: MoldUDP64 packets, a listener to two lines, a repairer that also requests what is missing, a publisher, a
+ * re-request server, and a checker of captures.
  *
  * For programs in C (C99 and later) and C++ (C++11 and later), on Linux on x86-64. The library is libmold.a.
  * docs/LIBRARY.md states what is proved of it and what is only tested. The library opens no socket, reads no clock,
@@ -27,24 +28,26 @@
  * uninitialized outputs to all calls under valgrind. An output that a call does not write stays uninitialized, so check
  * the code before you read it.
  *
- * HANDLES. A listener, a publisher, a server or a checker is a handle: 16 bytes of the caller, and memory that the
- * library allocates. A handle begins as MOLD_EMPTY and is then empty. mold_.._new fills it. mold_free frees its memory
- * and makes it empty again. A filled handle must be freed before it is filled again, and before it goes out of scope.
- * If a handle does not hold what a call needs, the call returns MOLD_E_BROKEN and does nothing. A call that returns no
- * code then returns 0 or false. A call that takes a const handle changes neither the handle nor what it holds.
+ * HANDLES. A listener, a repairer, a publisher, a server or a checker is a handle: 16 bytes of the caller, and memory
+ * that the library allocates. A handle begins as MOLD_EMPTY and is then empty. mold_.._new fills it. mold_free frees
+ * its memory and makes it empty again. A filled handle must be freed before it is filled again, and before it goes out
+ * of scope. If a handle does not hold what a call needs, the call returns MOLD_E_BROKEN and does nothing. A call that
+ * returns no code then returns 0 or false. A call that takes a const handle changes neither the handle nor what it
+ * holds.
  *
- * SLICES. A mold_bytes that a listener returns is a slice of the listener's memory. It is valid until the next call on
- * that handle, and the caller never frees it. If its length is 0, its address may no longer be valid: do not read it or
- * compute with it. All other results are written to memory of the caller. The library keeps copies, so whatever is
+ * SLICES. A mold_bytes that a listener or a repairer returns is a slice of its memory. It is valid until the next call
+ * on that handle, and the caller never frees it. If its length is 0, its address may no longer be valid: do not read it
+ * or compute with it. All other results are written to memory of the caller. The library keeps copies, so whatever is
  * passed to a call may be freed when the call returns. There are two exceptions: a packer keeps its buffer, and the
  * messages that mold_listener_hear does not copy are in the datagram.
  *
  * CODES. A call that can be refused returns a code. The code is MOLD_DONE, 0, if the call succeeded. Otherwise it is
  * that of the first reason that applies, in the order in which the call lists them, and its name begins with MOLD_E_.
- * After such a code the handle holds what it held before, except that a line's report counts a refused datagram, and
- * that mold_listener_hear empties the batch. If a call has an output for a number, it then writes the number that goes
- * with the refusal, or 0 if there is none. All other outputs keep their values. A call that returns MOLD_E_BROKEN or
- * MOLD_E_LINE writes nothing at all. Other codes of which this is true are listed with "writes nothing".
+ * After such a code the handle holds what it held before, except that a line's report counts a refused datagram, that
+ * mold_listener_hear empties the batch, and that a repairer learns the time. If a call has an output for a number, it
+ * then writes the number that goes with the refusal, or 0 if there is none. All other outputs keep their values. A call
+ * that returns MOLD_E_BROKEN, MOLD_E_LINE or MOLD_E_TIME writes nothing at all. Other codes of which this is true are
+ * listed with "writes nothing".
  * The meaning of a code never changes.
  *
  * MOLD_E_MEMORY means that an allocation failed. The same call may succeed later.
@@ -108,7 +111,11 @@ enum mold_code {
     MOLD_E_BAD_FLAG = 30,       /* the journal's flag is neither open nor closed */
     MOLD_E_FILE_CUT = 31,       /* the journal ends within a message */
     MOLD_E_COUNT_DIFFERS = 32,  /* the journal does not have as many messages as it states */
-    MOLD_E_DAMAGED = 33         /* a record of the journal is damaged */
+    MOLD_E_DAMAGED = 33,        /* a record of the journal is damaged */
+    MOLD_E_NOT_MISSING = 34,    /* not all messages below the number are missing */
+    MOLD_E_BATCH = 35,          /* the batch is not empty */
+    MOLD_E_OPTIONS = 36,        /* an option is outside its range */
+    MOLD_E_TIME = 37            /* a time is at most 4611686018427387903 nanoseconds */
 };
 
 /* A slice: `length` bytes at `at`. */
@@ -228,6 +235,11 @@ typedef struct mold_listener {
     bool live;
 } mold_listener;
 
+typedef struct mold_repairer {
+    void *at;
+    bool live;
+} mold_repairer;
+
 typedef struct mold_publisher {
     void *at;
     bool live;
@@ -247,10 +259,16 @@ typedef struct mold_checker {
 #define MOLD_EMPTY { NULL, false }
 
 /* Frees what a handle of any kind holds. The handle is then empty, and may be filled again. Freeing an empty handle
- * does nothing. The pointer is that of a mold_listener, mold_publisher, mold_server or mold_checker. */
+ * does nothing. The pointer is that of a mold_listener, mold_repairer, mold_publisher, mold_server or mold_checker. */
 void mold_free(void *handle);
 
 /* ---- Listener: two lines and a server's responses, delivered in order ---- */
+
+/* The sequence numbers from `first` to `last`, inclusive. */
+typedef struct mold_range {
+    uint64_t first;
+    uint64_t last;
+} mold_range;
 
 /* What a datagram brought. */
 typedef struct mold_taken {
@@ -364,6 +382,24 @@ uint32_t mold_listener_copy(const mold_listener *listener, size_t i, uint8_t *bu
  * the messages of the first gap, at most 65,534. Otherwise `request` keeps its bytes. */
 bool mold_listener_wanted(const mold_listener *listener, uint8_t request[20]);
 
+/* Writes the ranges of missing messages with numbers from `from` on, ascending, as many as the array has room for, and
+ * returns how many. A message is missing if its number is below mold_listener_known and it was neither delivered nor
+ * stored. If `from` is within a gap, the first range begins at `from`. No two ranges adjoin. The other elements of the
+ * array keep their values. `room` is the number of elements. If the array is full, there may be more ranges: call again
+ * with `from` one more than the last number. */
+size_t mold_listener_ranges(const mold_listener *listener, uint64_t from, mold_range *ranges, size_t room);
+
+/* Gives up all messages below number `to`. They have to be missing, from mold_listener_next on, and there has to be at
+ * least one: so `to` is at most one more than the last number of the first range of mold_listener_ranges. The listener
+ * goes on at `to`, and delivers the stored messages from there up to the next gap. They join the batch, which has to be
+ * empty. It keeps its other stored messages and the reports of the lines.
+ *
+ *   MOLD_E_BROKEN       the handle does not hold a listener.
+ *   MOLD_E_BATCH        the batch is not empty.
+ *   MOLD_E_NOT_MISSING  not all of these messages are missing, or there is none.
+ *   MOLD_E_MEMORY       an allocation failed. */
+uint32_t mold_listener_skip(mold_listener *listener, uint64_t to);
+
 /* Returns the number of the next message to deliver. */
 uint64_t mold_listener_next(const mold_listener *listener);
 
@@ -384,6 +420,139 @@ uint32_t mold_listener_report(const mold_listener *listener, uint32_t line, mold
  *
  *   MOLD_E_BROKEN  the handle does not hold a listener. */
 uint32_t mold_listener_clear(mold_listener *listener);
+
+/* ---- Repairer: a listener that also decides when to request what, and from which server ---- */
+
+/* A repairer takes datagrams as a listener does, and the time. It has no clock and no socket: the caller sends the
+ * requests that it writes. A loop waits for datagrams until mold_repairer_deadline, takes those that are there, reads
+ * and clears the batch, and then calls mold_repairer_lost and mold_repairer_poll, each until it returns MOLD_E_ABSENT.
+ *
+ * A time is a number of nanoseconds since any moment, as CLOCK_MONOTONIC has it. It is at most 4611686018427387903. A
+ * time below that of an earlier call counts as that of the earlier call. */
+
+/* What a repairer keeps to. mold_repair_options_default writes the defaults. Spans of time are in nanoseconds. Those
+ * without another bound are 1 to 4611686018427387903. */
+typedef struct mold_repair_options {
+    uint64_t size;     /* sizeof(mold_repair_options). A later version may have more fields */
+    uint64_t next;     /* the number of the first message to deliver, at least 1; default 1 */
+    uint64_t patience; /* how long a message has to be missing before it is requested, at most 1,000,000,000. If it is
+                          0, it adapts to the delays between the lines; default 0 */
+    uint64_t timeout;  /* how long a request waits for a response before it is sent again; default 50 ms. Each further
+                          request for a message waits twice as long */
+    uint64_t ceiling;  /* the longest wait, at least `timeout`; default 1 s */
+    uint64_t settle;   /* how long a request still waits after a response without all of its messages; default 2 ms */
+    uint64_t interval; /* the time after which another request may be sent, also 0; default 1 ms */
+    uint32_t window;   /* as that of mold_listener_new, 1 to 1,048,576; default 65,536 */
+    uint32_t bucket;   /* the number of requests that may be sent at once, 1 to 65,535; default 32 */
+    uint32_t places;   /* the greatest number of requests in flight, 1 to 4,096; default 256 */
+    uint32_t servers;  /* the number of re-request servers, 0 to 8; default 1 */
+    uint32_t give_up;  /* after how many requests in a row without a response missing messages are given up, 1 to 1,000.
+                          Without a server, each timeout counts as a request. If it is 0, never; default 0 */
+    uint32_t audit;    /* the number of delivered messages of which digests are kept, at most 1,048,576; default 0. A
+                          datagram that has one of them with other bytes is counted as a contradiction */
+} mold_repair_options;
+
+/* Writes the default of each option, and the size. */
+void mold_repair_options_default(mold_repair_options *options);
+
+/* Makes a repairer for a session. Later, only messages need memory.
+ *
+ *   MOLD_E_BROKEN     the handle is not empty.
+ *   MOLD_E_OPTIONS    the size is not that of this version, or an option other than `next` and `window` is outside its
+ *                     range.
+ *   MOLD_E_NEXT_ZERO  `next` is 0.
+ *   MOLD_E_WINDOW     `window` is not 1 to 1,048,576.
+ *   MOLD_E_MEMORY     an allocation failed; the handle is empty. */
+uint32_t mold_repairer_new(mold_repairer *repairer, const uint8_t session[10], const mold_repair_options *options);
+
+/* Returns a repairer's handle as that of a listener. The calls of a listener that take a const handle accept it, and
+ * mold_listener_clear does too. All others return MOLD_E_BROKEN. */
+static inline mold_listener *mold_listener_of(mold_repairer *repairer) {
+    void *handle = repairer;
+#ifdef __cplusplus
+    return static_cast<mold_listener *>(handle);
+#else
+    return (mold_listener *)handle;
+#endif
+}
+
+/* The origin of a response of server k, k from 0. */
+#define MOLD_SERVER(k) (MOLD_ANSWER + (k))
+
+/* Takes a datagram that arrived at the time `now`, as mold_listener_take does. `origin` is MOLD_LINE_A, MOLD_LINE_B or
+ * MOLD_SERVER(k). What arrived is no longer requested. The codes are those of mold_listener_take, and these come
+ * first:
+ *
+ *   MOLD_E_BROKEN  the handle does not hold a repairer.
+ *   MOLD_E_LINE    there is no such line, or k is not below `servers`.
+ *   MOLD_E_TIME    now is above 4611686018427387903. */
+uint32_t mold_repairer_take(mold_repairer *repairer, uint64_t now, uint32_t origin, const uint8_t *bytes, size_t length,
+                            mold_taken *taken);
+
+/* Writes the next request that may be sent at the time `now`, and the index of the server to send it to. It counts as
+ * sent. While messages are to be given up, no request may be sent: call mold_repairer_lost before. The call allocates
+ * nothing.
+ *
+ *   MOLD_E_BROKEN  the handle does not hold a repairer.
+ *   MOLD_E_TIME    now is above 4611686018427387903.
+ *   MOLD_E_ABSENT  no request may be sent now; writes nothing. */
+uint32_t mold_repairer_poll(mold_repairer *repairer, uint64_t now, uint8_t request[20], uint32_t *server);
+
+/* Writes the time at which to call mold_repairer_lost and mold_repairer_poll next, if no datagram arrives before. Until
+ * then both return MOLD_E_ABSENT. If both returned MOLD_E_ABSENT at the time `now`, it is later than now. It may be
+ * early: then both return MOLD_E_ABSENT again. If only a datagram can change anything, it may be above
+ * 4611686018427387903.
+ *
+ *   MOLD_E_BROKEN  the handle does not hold a repairer.
+ *   MOLD_E_TIME    now is above 4611686018427387903.
+ *   MOLD_E_ABSENT  no message is missing; writes nothing. */
+uint32_t mold_repairer_deadline(mold_repairer *repairer, uint64_t now, uint64_t *deadline);
+
+/* Gives up the first missing messages at the time `now`, if `give_up` requests for them in a row had no response, and
+ * writes their numbers. The repairer goes on after them, and delivers the stored messages from there up to the next
+ * gap. They join the batch, which has to be empty.
+ *
+ *   MOLD_E_BROKEN  the handle does not hold a repairer.
+ *   MOLD_E_TIME    now is above 4611686018427387903.
+ *   MOLD_E_BATCH   the batch is not empty; writes nothing.
+ *   MOLD_E_ABSENT  nothing is to be given up now; writes nothing.
+ *   MOLD_E_MEMORY  an allocation failed; writes nothing. */
+uint32_t mold_repairer_lost(mold_repairer *repairer, uint64_t now, mold_range *lost);
+
+/* What a line brought to a repairer. The counts stop at 18446744073709551615. */
+typedef struct mold_line_stats {
+    uint64_t datagrams; /* the number of datagrams that were taken */
+    uint64_t first;     /* those of which a message was delivered or stored */
+    uint64_t again;     /* the others */
+    uint64_t refused;   /* the number of datagrams that were refused, except with MOLD_E_MEMORY */
+    uint64_t late;      /* the greatest delay after the other line, in nanoseconds, of the last 1,024 datagrams that
+                           both lines brought; 0 if `patience` is not 0 */
+} mold_line_stats;
+
+/* The statistics of a repairer. The counts stop at 18446744073709551615. */
+typedef struct mold_repair_stats {
+    uint64_t next;           /* the number of the next message to deliver */
+    uint64_t known;          /* the greatest known top */
+    uint64_t gap_first;      /* the first number of the first gap; 0 if no message is missing */
+    uint64_t gap_last;       /* the last number of the first gap; 0 if no message is missing */
+    uint64_t missing;        /* the number of missing messages */
+    uint64_t stored;         /* the number of stored messages */
+    uint64_t patience;       /* how long a message now has to be missing before it is requested, in nanoseconds */
+    uint64_t requests;       /* the number of requests that mold_repairer_poll wrote */
+    uint64_t answers;        /* the number of responses that were taken */
+    uint64_t useless;        /* those of which no message was delivered or stored */
+    uint64_t lost;           /* the number of messages that mold_repairer_lost gave up */
+    uint64_t contradictions; /* the number of datagrams that had a delivered message with other bytes, as far as `audit`
+                                finds them */
+    uint64_t contradiction;  /* the least number of such a message in the last of them; 0 if there was none */
+    mold_line_stats a;       /* what line A brought */
+    mold_line_stats b;       /* what line B brought */
+} mold_repair_stats;
+
+/* Writes the statistics.
+ *
+ *   MOLD_E_BROKEN  the handle does not hold a repairer. */
+uint32_t mold_repairer_stats(const mold_repairer *repairer, mold_repair_stats *stats);
 
 /* ---- Publisher: messages in datagrams, and their journal ---- */
 
@@ -523,12 +692,6 @@ uint32_t mold_server_plan(const mold_server *server, const uint8_t *request, siz
 uint32_t mold_server_datagram(const mold_server *server, mold_plan *plan, uint8_t *buffer, size_t room, size_t *size);
 
 /* ---- Checker: whether captured datagrams are one whole session ---- */
-
-/* The sequence numbers from `first` to `last`, inclusive. */
-typedef struct mold_range {
-    uint64_t first;
-    uint64_t last;
-} mold_range;
 
 typedef struct mold_verdict {
     uint64_t messages; /* if the session is whole, its number of messages; otherwise 0 */
@@ -735,6 +898,9 @@ MOLD_FIELD_(mold_packer, open, 26);
 MOLD_SIZE_(mold_listener, 16);
 MOLD_FIELD_(mold_listener, at, 0);
 MOLD_FIELD_(mold_listener, live, 8);
+MOLD_SIZE_(mold_repairer, 16);
+MOLD_FIELD_(mold_repairer, at, 0);
+MOLD_FIELD_(mold_repairer, live, 8);
 MOLD_SIZE_(mold_publisher, 16);
 MOLD_FIELD_(mold_publisher, at, 0);
 MOLD_FIELD_(mold_publisher, live, 8);
@@ -764,6 +930,45 @@ MOLD_SIZE_(mold_report, 24);
 MOLD_FIELD_(mold_report, datagrams, 0);
 MOLD_FIELD_(mold_report, refused, 8);
 MOLD_FIELD_(mold_report, front, 16);
+
+MOLD_SIZE_(mold_repair_options, 80);
+MOLD_FIELD_(mold_repair_options, size, 0);
+MOLD_FIELD_(mold_repair_options, next, 8);
+MOLD_FIELD_(mold_repair_options, patience, 16);
+MOLD_FIELD_(mold_repair_options, timeout, 24);
+MOLD_FIELD_(mold_repair_options, ceiling, 32);
+MOLD_FIELD_(mold_repair_options, settle, 40);
+MOLD_FIELD_(mold_repair_options, interval, 48);
+MOLD_FIELD_(mold_repair_options, window, 56);
+MOLD_FIELD_(mold_repair_options, bucket, 60);
+MOLD_FIELD_(mold_repair_options, places, 64);
+MOLD_FIELD_(mold_repair_options, servers, 68);
+MOLD_FIELD_(mold_repair_options, give_up, 72);
+MOLD_FIELD_(mold_repair_options, audit, 76);
+
+MOLD_SIZE_(mold_line_stats, 40);
+MOLD_FIELD_(mold_line_stats, datagrams, 0);
+MOLD_FIELD_(mold_line_stats, first, 8);
+MOLD_FIELD_(mold_line_stats, again, 16);
+MOLD_FIELD_(mold_line_stats, refused, 24);
+MOLD_FIELD_(mold_line_stats, late, 32);
+
+MOLD_SIZE_(mold_repair_stats, 184);
+MOLD_FIELD_(mold_repair_stats, next, 0);
+MOLD_FIELD_(mold_repair_stats, known, 8);
+MOLD_FIELD_(mold_repair_stats, gap_first, 16);
+MOLD_FIELD_(mold_repair_stats, gap_last, 24);
+MOLD_FIELD_(mold_repair_stats, missing, 32);
+MOLD_FIELD_(mold_repair_stats, stored, 40);
+MOLD_FIELD_(mold_repair_stats, patience, 48);
+MOLD_FIELD_(mold_repair_stats, requests, 56);
+MOLD_FIELD_(mold_repair_stats, answers, 64);
+MOLD_FIELD_(mold_repair_stats, useless, 72);
+MOLD_FIELD_(mold_repair_stats, lost, 80);
+MOLD_FIELD_(mold_repair_stats, contradictions, 88);
+MOLD_FIELD_(mold_repair_stats, contradiction, 96);
+MOLD_FIELD_(mold_repair_stats, a, 104);
+MOLD_FIELD_(mold_repair_stats, b, 144);
 
 MOLD_SIZE_(mold_plan, 32);
 MOLD_FIELD_(mold_plan, from, 0);

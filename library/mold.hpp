@@ -68,6 +68,10 @@ enum class Code : std::uint32_t {
     FileCut = MOLD_E_FILE_CUT,
     CountDiffers = MOLD_E_COUNT_DIFFERS,
     Damaged = MOLD_E_DAMAGED,
+    NotMissing = MOLD_E_NOT_MISSING,
+    Batch = MOLD_E_BATCH,
+    Options = MOLD_E_OPTIONS,
+    Time = MOLD_E_TIME,
 };
 
 /// Where a datagram came from.
@@ -76,6 +80,11 @@ enum class Line : std::uint32_t {
     B = MOLD_LINE_B,
     Answer = MOLD_ANSWER, ///< a server's response
 };
+
+/// The origin of a response of server k, k from 0.
+constexpr Line server(std::uint32_t k) noexcept {
+    return static_cast<Line>(MOLD_SERVER(k));
+}
 
 /// The kinds of packets.
 enum class Kind : std::uint32_t {
@@ -228,7 +237,7 @@ protected:
     Handle handle_ = MOLD_EMPTY;
 };
 
-/// The messages of a listener's batch, in order, as a range of `Bytes`. It is valid until the next call that changes the
+/// The messages of a batch, in order, as a range of `Bytes`. It is valid until the next call that changes the
 /// listener.
 class Batch {
 public:
@@ -276,8 +285,71 @@ private:
     std::size_t count_;
 };
 
+/// Owns a listener or a repairer, and reads what it delivered and what is missing.
+template <class Handle>
+class Delivering : public Owned<Handle> {
+public:
+    /// The number of messages of the batch, and the sequence number of the first.
+    std::size_t count() const noexcept { return mold_listener_count(listener()); }
+    std::uint64_t first() const noexcept { return mold_listener_first(listener()); }
+
+    /// The messages of the batch, for `for (mold::Bytes message : listener.batch())`.
+    Batch batch() const noexcept { return Batch(listener()); }
+
+    [[nodiscard]] Code message(std::size_t i, Bytes &message) const noexcept {
+        mold_bytes slice = MOLD_NO_BYTES;
+        const std::uint32_t code = mold_listener_message(listener(), i, &slice);
+        if (code == MOLD_DONE)
+            message = slice;
+        return static_cast<Code>(code);
+    }
+
+    /// Writes slices of the first messages of the batch, as many as the array has room for, and returns how many.
+    std::size_t messages(mold_bytes *array, std::size_t room) const noexcept {
+        return mold_listener_messages(listener(), array, room);
+    }
+
+    [[nodiscard]] Code copy(std::size_t i, Room buffer, std::size_t &size) const noexcept {
+        return static_cast<Code>(mold_listener_copy(listener(), i, buffer.data(), buffer.size(), &size));
+    }
+
+    [[nodiscard]] bool wanted(std::uint8_t (&request)[20]) const noexcept {
+        return mold_listener_wanted(listener(), request);
+    }
+
+    [[nodiscard]] bool wanted(std::array<std::uint8_t, 20> &request) const noexcept {
+        return mold_listener_wanted(listener(), request.data());
+    }
+
+    /// Writes the missing ranges from number `from` on, as many as the array has room for, and returns how many.
+    std::size_t ranges(std::uint64_t from, mold_range *array, std::size_t room) const noexcept {
+        return mold_listener_ranges(listener(), from, array, room);
+    }
+
+    std::uint64_t next() const noexcept { return mold_listener_next(listener()); }
+    std::uint64_t known() const noexcept { return mold_listener_known(listener()); }
+    [[nodiscard]] bool finished() const noexcept { return mold_listener_finished(listener()); }
+
+    [[nodiscard]] Code report(Line line, mold_report &report) const noexcept {
+        return static_cast<Code>(mold_listener_report(listener(), static_cast<std::uint32_t>(line), &report));
+    }
+
+    Code clear() noexcept { return static_cast<Code>(mold_listener_clear(listener())); }
+
+protected:
+    mold_listener *listener() noexcept {
+        void *handle = this->get();
+        return static_cast<mold_listener *>(handle);
+    }
+
+    const mold_listener *listener() const noexcept {
+        const void *handle = this->get();
+        return static_cast<const mold_listener *>(handle);
+    }
+};
+
 /// Delivers the messages of a session in order, from two lines and from the responses of a server.
-class Listener : public Owned<mold_listener> {
+class Listener : public Delivering<mold_listener> {
 public:
     [[nodiscard]] Code open(const Session &session, std::uint64_t next = 1, std::uint32_t window = 1024) noexcept {
         return static_cast<Code>(mold_listener_new(&handle_, session.data(), next, window));
@@ -309,47 +381,10 @@ public:
         return Code::Done;
     }
 
-    /// The number of messages of the batch, and the sequence number of the first.
-    std::size_t count() const noexcept { return mold_listener_count(&handle_); }
-    std::uint64_t first() const noexcept { return mold_listener_first(&handle_); }
-
-    /// The messages of the batch, for `for (mold::Bytes message : listener.batch())`.
-    Batch batch() const noexcept { return Batch(&handle_); }
-
-    [[nodiscard]] Code message(std::size_t i, Bytes &message) const noexcept {
-        mold_bytes slice = MOLD_NO_BYTES;
-        const std::uint32_t code = mold_listener_message(&handle_, i, &slice);
-        if (code == MOLD_DONE)
-            message = slice;
-        return static_cast<Code>(code);
+    /// Gives up all messages below `to`. The batch has to be empty, and gets the stored messages that follow.
+    [[nodiscard]] Code skip(std::uint64_t to) noexcept {
+        return static_cast<Code>(mold_listener_skip(&handle_, to));
     }
-
-    /// Writes slices of the first messages of the batch, as many as the array has room for, and returns how many.
-    std::size_t messages(mold_bytes *array, std::size_t room) const noexcept {
-        return mold_listener_messages(&handle_, array, room);
-    }
-
-    [[nodiscard]] Code copy(std::size_t i, Room buffer, std::size_t &size) const noexcept {
-        return static_cast<Code>(mold_listener_copy(&handle_, i, buffer.data(), buffer.size(), &size));
-    }
-
-    [[nodiscard]] bool wanted(std::uint8_t (&request)[20]) const noexcept {
-        return mold_listener_wanted(&handle_, request);
-    }
-
-    [[nodiscard]] bool wanted(std::array<std::uint8_t, 20> &request) const noexcept {
-        return mold_listener_wanted(&handle_, request.data());
-    }
-
-    std::uint64_t next() const noexcept { return mold_listener_next(&handle_); }
-    std::uint64_t known() const noexcept { return mold_listener_known(&handle_); }
-    [[nodiscard]] bool finished() const noexcept { return mold_listener_finished(&handle_); }
-
-    [[nodiscard]] Code report(Line line, mold_report &report) const noexcept {
-        return static_cast<Code>(mold_listener_report(&handle_, static_cast<std::uint32_t>(line), &report));
-    }
-
-    Code clear() noexcept { return static_cast<Code>(mold_listener_clear(&handle_)); }
 
 private:
     /// Calls `deliver` with each message of the batch, which has `count` of them. One call returns slices of the first
@@ -365,6 +400,44 @@ private:
             if (message(i, next) == Code::Done)
                 deliver(next);
         }
+    }
+};
+
+/// The options of a repairer, with their defaults.
+struct RepairOptions : mold_repair_options {
+    RepairOptions() noexcept { mold_repair_options_default(this); }
+};
+
+/// Delivers the messages of a session as a Listener does, and decides when to request what, and from which server.
+/// Times are in nanoseconds.
+class Repairer : public Delivering<mold_repairer> {
+public:
+    [[nodiscard]] Code open(const Session &session, const mold_repair_options &options) noexcept {
+        return static_cast<Code>(mold_repairer_new(&handle_, session.data(), &options));
+    }
+
+    [[nodiscard]] Code take(std::uint64_t now, Line origin, Bytes datagram, mold_taken &taken) noexcept {
+        const auto from = static_cast<std::uint32_t>(origin);
+        return static_cast<Code>(
+            mold_repairer_take(&handle_, now, from, datagram.data(), datagram.size(), &taken));
+    }
+
+    /// Writes the next request that may be sent now, and the index of its server.
+    [[nodiscard]] Code poll(std::uint64_t now, std::array<std::uint8_t, 20> &request, std::uint32_t &server) noexcept {
+        return static_cast<Code>(mold_repairer_poll(&handle_, now, request.data(), &server));
+    }
+
+    [[nodiscard]] Code deadline(std::uint64_t now, std::uint64_t &deadline) noexcept {
+        return static_cast<Code>(mold_repairer_deadline(&handle_, now, &deadline));
+    }
+
+    /// Gives up what is to be given up now. The batch has to be empty, and gets the stored messages that follow.
+    [[nodiscard]] Code lost(std::uint64_t now, mold_range &lost) noexcept {
+        return static_cast<Code>(mold_repairer_lost(&handle_, now, &lost));
+    }
+
+    [[nodiscard]] Code stats(mold_repair_stats &stats) const noexcept {
+        return static_cast<Code>(mold_repairer_stats(&handle_, &stats));
     }
 };
 

@@ -9,7 +9,7 @@
 #include <stdlib.h>
 #include <string.h>
 
-#define CODES 34
+#define CODES 38
 
 /* The number of checks, the number of failed checks, and whether a call has returned each code. */
 extern unsigned long checks, faults;

@@ -19,7 +19,7 @@ using Bytes = std::vector<std::uint8_t>;
 
 const std::uint8_t session[] = {'C', 'O', 'M', 'P', 'A', 'R', 'E', ' ', ' ', ' '};
 unsigned long checks, faults;
-unsigned long codes[34];
+unsigned long codes[38];
 
 void check(bool holds, const char *what, unsigned long place) {
     checks++;
@@ -115,7 +115,7 @@ public:
             line, bytes.data(), bytes.size(), other,
             [&batch](std::uint64_t, const std::uint8_t *at, std::size_t length) { batch.push(at, length); });
         const std::uint32_t code = mold_listener_take(&listener_, line, bytes.data(), bytes.size(), &taken);
-        codes[code % 34]++;
+        codes[code % 38]++;
         check(code == wanted && taken.detail == other.detail, "the codes or their numbers differ", place);
         check(taken.delivered == other.delivered && taken.kept == other.kept && taken.dropped == other.dropped,
               "the counts differ", place);

@@ -10,6 +10,7 @@
 
 typedef struct handles {
     mold_listener listener;
+    mold_repairer repairer;
     mold_publisher publisher;
     mold_server server;
     mold_checker checker;
@@ -18,12 +19,20 @@ typedef struct handles {
 /* Makes a handle of each kind. */
 static void fill(handles *all) {
     mold_taken taken;
+    mold_repair_options options;
     uint64_t number;
     datagram given = packet_of(2, 1, 1);
     all->listener = listener_at(1, 4);
     CODE(mold_listener_take(&all->listener, MOLD_LINE_A, given.at, given.length, &taken), MOLD_DONE);
     CODE(take(&all->listener, MOLD_LINE_A, packet_of(4, 1, 1), &taken), MOLD_DONE);
     CODE(take(&all->listener, MOLD_LINE_B, packet_of(1, 1, 1), &taken), MOLD_DONE);
+    mold_repair_options_default(&options);
+    CODE(mold_repairer_new(&all->repairer, session, &options), MOLD_DONE);
+    for (uint64_t i = 0; i < 3; i++) {
+        datagram one = packet_of(i == 1 ? 4 : 1 + i / 2, 1, 1);
+        CODE(mold_repairer_take(&all->repairer, i, MOLD_LINE_B, one.at, one.length, &taken), MOLD_DONE);
+        free(one.at);
+    }
     all->publisher = publisher_of(64);
     CODE(publish(&all->publisher, 1, 3, &number), MOLD_DONE);
     CODE(mold_server_from_publisher(&all->publisher, 2), MOLD_DONE);
@@ -36,6 +45,7 @@ static void fill(handles *all) {
 static void read_listener(const mold_listener *listener) {
     mold_bytes message, messages[2];
     mold_report report;
+    mold_range range;
     uint8_t request[20], copy[4];
     size_t size;
     CHECK(mold_listener_count(listener) == 2 && mold_listener_first(listener) == 1);
@@ -45,7 +55,14 @@ static void read_listener(const mold_listener *listener) {
     CHECK(message.at[0] == 2 && mold_listener_messages(listener, messages, 2) == 2);
     CODE(mold_listener_copy(listener, 0, copy, 4, &size), MOLD_DONE);
     CHECK(mold_listener_wanted(listener, request));
+    CHECK(mold_listener_ranges(listener, 0, &range, 1) == 1 && range.first == 3 && range.last == 3);
     CODE(mold_listener_report(listener, MOLD_LINE_B, &report), MOLD_DONE);
+}
+
+static void read_repairer(const mold_repairer *repairer) {
+    mold_repair_stats stats;
+    CODE(mold_repairer_stats(repairer, &stats), MOLD_DONE);
+    CHECK(stats.next == 3 && stats.known == 5 && stats.missing == 1 && stats.stored == 1);
 }
 
 static void read_publisher(const mold_publisher *publisher) {
@@ -87,12 +104,15 @@ int main(void) {
     fill(all);
     CHECK(mprotect(all, sizeof *all, PROT_READ) == 0);
     read_listener(&all->listener);
+    read_listener(mold_listener_of(&all->repairer));
+    read_repairer(&all->repairer);
     read_publisher(&all->publisher);
     read_server(mold_server_of(&all->publisher), 25);
     read_server(&all->server, 42);
     read_checker(&all->checker);
     CHECK(mprotect(all, sizeof *all, PROT_READ | PROT_WRITE) == 0);
     mold_free(&all->listener);
+    mold_free(&all->repairer);
     mold_free(&all->publisher);
     mold_free(&all->server);
     mold_free(&all->checker);

@@ -151,6 +151,15 @@ static uint32_t try_hear(mold_listener *listener, datagram given, mold_delivery 
     return code;
 }
 
+static uint32_t try_skip(mold_listener *listener, uint64_t to) {
+    unsigned long before = refused;
+    CHECK(mold_listener_clear(listener) == MOLD_DONE);
+    uint64_t sum = sum_of_listener(listener);
+    uint32_t code = mold_listener_skip(listener, to);
+    CHECK(code != MOLD_E_MEMORY || sum == sum_of_listener(listener));
+    return again(code, before) ? mold_listener_skip(listener, to) : code;
+}
+
 static uint32_t try_publish(mold_publisher *publisher, int value, size_t length) {
     unsigned long before = refused;
     uint64_t number = 0, sum = sum_of_publisher(publisher);
@@ -175,6 +184,33 @@ static uint32_t try_check(mold_checker *checker, datagram given) {
         code = mold_checker_take(checker, given.at, given.length, &number);
     free(given.at);
     return code;
+}
+
+static uint32_t try_repairer(mold_repairer *repairer, const mold_repair_options *options) {
+    unsigned long before = refused;
+    uint32_t code = mold_repairer_new(repairer, session, options);
+    CHECK(repairer->live == (code == MOLD_DONE));
+    return again(code, before) ? mold_repairer_new(repairer, session, options) : code;
+}
+
+static uint32_t try_repair(mold_repairer *repairer, uint64_t now, datagram given, mold_taken *taken) {
+    unsigned long before = refused;
+    uint64_t sum = sum_of_listener(mold_listener_of(repairer));
+    uint32_t code = mold_repairer_take(repairer, now, MOLD_LINE_A, given.at, given.length, taken);
+    CHECK(code != MOLD_E_MEMORY || sum == sum_of_listener(mold_listener_of(repairer)));
+    if (again(code, before))
+        code = mold_repairer_take(repairer, now, MOLD_LINE_A, given.at, given.length, taken);
+    free(given.at);
+    return code;
+}
+
+static uint32_t try_lost(mold_repairer *repairer, uint64_t now, mold_range *lost) {
+    unsigned long before = refused;
+    CHECK(mold_listener_clear(mold_listener_of(repairer)) == MOLD_DONE);
+    uint64_t sum = sum_of_listener(mold_listener_of(repairer));
+    uint32_t code = mold_repairer_lost(repairer, now, lost);
+    CHECK(code != MOLD_E_MEMORY || sum == sum_of_listener(mold_listener_of(repairer)));
+    return again(code, before) ? mold_repairer_lost(repairer, now, lost) : code;
 }
 
 /* ---- Runs in which allocations fail ---- */
@@ -220,6 +256,19 @@ static void run_listener(void) {
     mold_free(&listener);
 }
 
+/* The first message is given up, and the stored messages after it are delivered. */
+static void run_giving_up(void) {
+    mold_listener listener = MOLD_EMPTY;
+    mold_taken taken = {0, 0, 0, 0, 0};
+    if (done(try_listener(&listener))) {
+        for (uint64_t number = 40; number > 1; number -= 3)
+            done(try_take(&listener, varied(number, 2), &taken));
+        if (mold_listener_known(&listener) == 42 && done(try_skip(&listener, 4)))
+            CHECK(all_fail || (mold_listener_next(&listener) == 6 && mold_listener_count(&listener) == 2));
+    }
+    mold_free(&listener);
+}
+
 /* The same datagrams, which are not copied. Those without a gap take no memory. */
 static void run_without_copies(void) {
     mold_listener listener = MOLD_EMPTY;
@@ -241,6 +290,32 @@ static void run_without_copies(void) {
         CHECK(try_hear(&listener, packet_of(90, 0, 0), &delivery) == MOLD_DONE);
     }
     mold_free(&listener);
+}
+
+/* The first message is missing. It is given up after a request without a response. */
+static void run_repairer(void) {
+    mold_repairer repairer = MOLD_EMPTY;
+    mold_repair_options options;
+    mold_taken taken = {0, 0, 0, 0, 0};
+    mold_range lost = {0, 0};
+    uint8_t request[20];
+    uint32_t server = 9;
+    mold_repair_options_default(&options);
+    options.window = 64;
+    options.give_up = 1;
+    options.audit = 16;
+    if (done(try_repairer(&repairer, &options))) {
+        for (uint64_t number = 40; number > 1; number -= 3)
+            done(try_repair(&repairer, 40 - number, varied(number, 2), &taken));
+        if (mold_listener_known(mold_listener_of(&repairer)) == 42) {
+            for (uint64_t now = 0; now < 4000000; now += 500000)
+                mold_repairer_poll(&repairer, now, request, &server);
+            CHECK(all_fail || server == 0);
+            if (done(try_lost(&repairer, 2000000000, &lost)))
+                CHECK(all_fail || (lost.last == 3 && mold_listener_count(mold_listener_of(&repairer)) == 2));
+        }
+    }
+    mold_free(&repairer);
 }
 
 static void run_publisher(void) {
@@ -352,6 +427,8 @@ static void each_in_turn(const char *name, void (*run)(void)) {
 int main(void) {
     each_in_turn("listener", run_listener);
     each_in_turn("listener without copies", run_without_copies);
+    each_in_turn("giving up", run_giving_up);
+    each_in_turn("repairer", run_repairer);
     each_in_turn("publisher", run_publisher);
     each_in_turn("server", run_server);
     each_in_turn("checker", run_checker);

@@ -91,6 +91,7 @@ static void no_listener(mold_listener *handle) {
     mold_taken taken = {9, 9, 9, 9, 9};
     mold_delivery delivery = {9, 9, 9, 9, 9, 9};
     mold_report report = {9, 9, 9};
+    mold_range range = {9, 9};
     mold_bytes bytes = MOLD_NO_BYTES;
     uint8_t room[64] = {7};
     size_t size = 99;
@@ -107,7 +108,28 @@ static void no_listener(mold_listener *handle) {
     CHECK(mold_listener_next(handle) == 0 && mold_listener_known(handle) == 0 && !mold_listener_finished(handle));
     CODE(mold_listener_report(handle, MOLD_LINE_A, &report), MOLD_E_BROKEN);
     CHECK(report.datagrams == 9 && size == 99);
+    CHECK(mold_listener_ranges(handle, 0, &range, 1) == 0 && range.first == 9 && range.last == 9);
+    CODE(mold_listener_skip(handle, 2), MOLD_E_BROKEN);
     CODE(mold_listener_clear(handle), MOLD_E_BROKEN);
+}
+
+/* Checks each call of a repairer on a handle that does not hold a repairer. */
+static void no_repairer(mold_repairer *handle) {
+    mold_taken taken = {9, 9, 9, 9, 9};
+    mold_range range = {9, 9};
+    mold_repair_stats stats;
+    datagram given = packet_of(1, 1, 1);
+    uint8_t request[20] = {7};
+    uint32_t server = 9;
+    uint64_t deadline = 99;
+    stats.next = 99;
+    CODE(mold_repairer_take(handle, UINT64_MAX, 9, given.at, given.length, &taken), MOLD_E_BROKEN);
+    CODE(mold_repairer_poll(handle, UINT64_MAX, request, &server), MOLD_E_BROKEN);
+    CODE(mold_repairer_deadline(handle, 0, &deadline), MOLD_E_BROKEN);
+    CODE(mold_repairer_lost(handle, 0, &range), MOLD_E_BROKEN);
+    CODE(mold_repairer_stats(handle, &stats), MOLD_E_BROKEN);
+    CHECK(taken.detail == 9 && request[0] == 7 && server == 9 && deadline == 99 && range.first == 9 && stats.next == 99);
+    free(given.at);
 }
 
 /* Checks each call of a publisher on a handle that does not hold a publisher. */
@@ -156,11 +178,15 @@ static void empty_handles(void) {
     mold_publisher publisher = MOLD_EMPTY;
     mold_server server = MOLD_EMPTY;
     mold_checker checker = MOLD_EMPTY;
+    mold_repairer repairer = MOLD_EMPTY;
     no_listener(&listener);
+    no_listener(mold_listener_of(&repairer));
+    no_repairer(&repairer);
     no_publisher(&publisher);
     no_server(&server);
     no_checker(&checker);
     mold_free(&listener);
+    mold_free(&repairer);
     mold_free(&publisher);
     mold_free(&server);
     mold_free(&checker);
@@ -172,10 +198,16 @@ static void handles_of_another_kind(void) {
     mold_publisher publisher = publisher_of(64);
     mold_server server = server_of_five(1);
     mold_checker checker = checker_of_none();
-    void *const all[] = {&listener, &publisher, &server, &checker};
-    for (size_t i = 0; i < 4; i++) {
-        if (all[i] != (void *)&listener)
+    mold_repairer repairer = MOLD_EMPTY;
+    mold_repair_options options;
+    mold_repair_options_default(&options);
+    CODE(mold_repairer_new(&repairer, session, &options), MOLD_DONE);
+    void *const all[] = {&listener, &publisher, &server, &checker, &repairer};
+    for (size_t i = 0; i < 5; i++) {
+        if (all[i] != (void *)&listener && all[i] != (void *)&repairer)
             no_listener(all[i]);
+        if (all[i] != (void *)&repairer)
+            no_repairer(all[i]);
         if (all[i] != (void *)&publisher)
             no_publisher(all[i]);
         if (all[i] != (void *)&server)
@@ -185,11 +217,12 @@ static void handles_of_another_kind(void) {
         CODE(mold_listener_new(all[i], session, 1, 4), MOLD_E_BROKEN);
         CODE(mold_publisher_new(all[i], session, 64), MOLD_E_BROKEN);
         CODE(mold_checker_new(all[i]), MOLD_E_BROKEN);
+        CODE(mold_repairer_new(all[i], session, &options), MOLD_E_BROKEN);
     }
     CHECK(mold_listener_next(&listener) == 1 && is_verdict(&checker, 0, 0, 0, 0));
-    for (size_t i = 0; i < 8; i++)
-        mold_free(all[i % 4]);
-    CHECK(!listener.live && !publisher.live && !server.live && !checker.live);
+    for (size_t i = 0; i < 10; i++)
+        mold_free(all[i % 5]);
+    CHECK(!listener.live && !publisher.live && !server.live && !checker.live && !repairer.live);
     listener = listener_at(1, 4);
     mold_free(&listener);
 }

@@ -280,6 +280,69 @@ static void datagrams_are_not_heard(void) {
     mold_free(&listener);
 }
 
+static bool is_range(mold_range range, uint64_t first, uint64_t last) {
+    return range.first == first && range.last == last;
+}
+
+/* Messages 3, 4 and 6 are stored, and 9 is known. */
+static void gaps_are_written(void) {
+    mold_listener listener = listener_at(1, 16);
+    mold_taken taken = {0, 0, 0, 0, 0};
+    mold_range ranges[4] = {{9, 9}, {9, 9}, {9, 9}, {9, 9}};
+    CHECK(mold_listener_ranges(&listener, 0, ranges, 4) == 0 && is_range(ranges[0], 9, 9));
+    CODE(take(&listener, MOLD_LINE_A, packet_of(3, 2, 1), &taken), MOLD_DONE);
+    CODE(take(&listener, MOLD_LINE_B, packet_of(6, 1, 1), &taken), MOLD_DONE);
+    CODE(take(&listener, MOLD_LINE_B, packet_of(9, 0, 0), &taken), MOLD_DONE);
+    CHECK(mold_listener_ranges(&listener, 0, NULL, 0) == 0);
+    CHECK(mold_listener_ranges(&listener, 0, ranges, 2) == 2);
+    CHECK(is_range(ranges[0], 1, 2) && is_range(ranges[1], 5, 5) && is_range(ranges[2], 9, 9));
+    CHECK(mold_listener_ranges(&listener, 6, ranges, 2) == 1 && is_range(ranges[0], 7, 8) && is_range(ranges[1], 5, 5));
+    CHECK(mold_listener_ranges(&listener, 2, ranges, 4) == 3);
+    CHECK(is_range(ranges[0], 2, 2) && is_range(ranges[1], 5, 5) && is_range(ranges[2], 7, 8));
+    CHECK(is_range(ranges[3], 9, 9));
+    CHECK(mold_listener_ranges(&listener, 8, ranges, 4) == 1 && is_range(ranges[0], 8, 8));
+    CHECK(mold_listener_ranges(&listener, 9, ranges, 4) == 0);
+    CHECK(mold_listener_ranges(&listener, UINT64_MAX, ranges, 4) == 0);
+    mold_free(&listener);
+}
+
+/* Message 1 is given up, then 2, then 5, and last the known messages 7 and 8. */
+static void gaps_are_given_up(void) {
+    mold_listener listener = listener_at(1, 16);
+    mold_taken taken = {0, 0, 0, 0, 0};
+    mold_range range = {9, 9};
+    CODE(mold_listener_skip(&listener, 2), MOLD_E_NOT_MISSING);
+    CODE(take(&listener, MOLD_LINE_A, packet_of(3, 2, 1), &taken), MOLD_DONE);
+    CODE(take(&listener, MOLD_LINE_A, packet_of(6, 1, 1), &taken), MOLD_DONE);
+    CODE(take(&listener, MOLD_LINE_B, packet_of(9, 0, 0), &taken), MOLD_DONE);
+    CODE(mold_listener_skip(&listener, 0), MOLD_E_NOT_MISSING);
+    CODE(mold_listener_skip(&listener, 1), MOLD_E_NOT_MISSING);
+    CODE(mold_listener_skip(&listener, 4), MOLD_E_NOT_MISSING);
+    CODE(mold_listener_skip(&listener, UINT64_MAX), MOLD_E_NOT_MISSING);
+    CHECK(mold_listener_next(&listener) == 1 && mold_listener_count(&listener) == 0);
+    CODE(mold_listener_skip(&listener, 2), MOLD_DONE);
+    CHECK(mold_listener_next(&listener) == 2 && mold_listener_count(&listener) == 0);
+    CODE(take(&listener, MOLD_LINE_A, packet_of(1, 1, 1), &taken), MOLD_DONE);
+    CHECK(is_taken(&taken, 0, 0, 0));
+    CODE(mold_listener_skip(&listener, 3), MOLD_DONE);
+    CHECK(mold_listener_next(&listener) == 5 && mold_listener_count(&listener) == 2);
+    CHECK(mold_listener_first(&listener) == 3);
+    CHECK(is_message(&listener, 0, 3, 1) && is_message(&listener, 1, 4, 1));
+    CODE(mold_listener_skip(&listener, 6), MOLD_E_BATCH);
+    CODE(mold_listener_skip(&listener, 99), MOLD_E_BATCH);
+    CHECK(mold_listener_next(&listener) == 5 && mold_listener_count(&listener) == 2);
+    CODE(mold_listener_clear(&listener), MOLD_DONE);
+    CODE(mold_listener_skip(&listener, 6), MOLD_DONE);
+    CHECK(mold_listener_next(&listener) == 7 && mold_listener_first(&listener) == 6 && is_message(&listener, 0, 6, 1));
+    CHECK(mold_listener_ranges(&listener, 0, &range, 1) == 1 && is_range(range, 7, 8));
+    CODE(mold_listener_clear(&listener), MOLD_DONE);
+    CODE(mold_listener_skip(&listener, 10), MOLD_E_NOT_MISSING);
+    CODE(mold_listener_skip(&listener, 9), MOLD_DONE);
+    CHECK(mold_listener_next(&listener) == 9 && mold_listener_known(&listener) == 9 && wants(&listener, NULL));
+    CHECK(is_report(&listener, MOLD_LINE_A, 3, 0, 7) && is_report(&listener, MOLD_LINE_B, 1, 0, 9));
+    mold_free(&listener);
+}
+
 void test_listener(void) {
     listeners_that_cannot_be();
     messages_come_backwards();
@@ -293,4 +356,6 @@ void test_listener(void) {
     another_message_is_refused();
     messages_are_not_copied();
     datagrams_are_not_heard();
+    gaps_are_written();
+    gaps_are_given_up();
 }

@@ -1,7 +1,7 @@
 /* Counts the bytes that the library holds: a listener's batch, a publisher, a server of a journal and a checker, with
- * messages of 8, 40 and 1,400 bytes, and a listener's store. tests/library compares the output with docs/LIBRARY.md.
+ * messages of 8, 40 and 1,400 bytes, a listener's store, and a new repairer. tests/library compares the output with docs/LIBRARY.md.
  *
- *     cd library/tests && cc -std=c99 memory.c ../out/libmold.a -o memory && ./memory 10 8 8 4 55 16 1024
+ *     cd library/tests && cc -std=c99 memory.c ../out/libmold.a -o memory && ./memory 10 8 8 4 55 16 1536
  *
  * The arguments are the figures of LIBRARY: the bytes for each message besides its own, of a batch, a publisher, a
  * server and a checker; the bytes for each run of a checker, and for each missing range; and the bytes for everything
@@ -99,6 +99,19 @@ static void take_all(mold_checker *checker, datagram given) {
 /* The bytes of a listener besides: 8.2 for each message of its window. */
 static size_t ring_bytes(size_t window) {
     return 8 * window + window / 5;
+}
+
+/* The bytes of a repairer besides: 48 for each request in flight, 8 for each digest, and 1.1 MB. */
+static void count_repairer(void) {
+    mold_repairer repairer = MOLD_EMPTY;
+    mold_repair_options options;
+    mold_repair_options_default(&options);
+    options.audit = 10000;
+    CODE(mold_repairer_new(&repairer, session, &options), MOLD_DONE);
+    size_t besides = ring_bytes(options.window) + 48 * options.places + 8 * options.audit + 1100000;
+    CHECK(held <= besides + small && held + 100000 > besides);
+    mold_free(&repairer);
+    CHECK(held == 0);
 }
 
 static void count_batch(size_t length, uint16_t at_once) {
@@ -266,6 +279,7 @@ int main(int count, char **words) {
         }
         count_server(length);
     }
+    count_repairer();
     count_ranges();
     count_filled(1024, 1400);
     count_advancing(1024, 1400);

@@ -57,6 +57,7 @@ static void listeners(void) {
     mold_delivery delivery, not_delivered;
     mold_report report, no_report;
     mold_bytes message, absent, all[4];
+    mold_range ranges[2];
     uint8_t *buffer = uninitialized(4), request[20];
     size_t size, needed, no_size;
     CODE(take(&listener, MOLD_LINE_A, packet_of(3, 9, 2), &taken), MOLD_DONE);
@@ -83,8 +84,41 @@ static void listeners(void) {
     CODE(mold_listener_report(&listener, MOLD_LINE_A, &report), MOLD_DONE);
     CHECK(report.datagrams == 1 && report.refused == 1 && report.front == 12);
     CODE(mold_listener_report(&listener, 2, &no_report), MOLD_E_LINE);
+    CHECK(mold_listener_ranges(&listener, 0, ranges, 2) == 1 && ranges[0].first == 5 && ranges[0].last == 11);
     mold_free(&listener);
     free(buffer);
+}
+
+static void repairers(void) {
+    mold_repairer repairer = MOLD_EMPTY;
+    mold_repair_options options;
+    datagram given = packet_of(3, 1, 2);
+    mold_taken taken, refused;
+    mold_repair_stats stats;
+    mold_range lost, no_range;
+    uint8_t request[20], no_request[20];
+    uint32_t server, no_server;
+    uint64_t now = 0, deadline, no_deadline;
+    mold_repair_options_default(&options);
+    options.give_up = 1;
+    CODE(mold_repairer_new(&repairer, session, &options), MOLD_DONE);
+    CODE(mold_repairer_deadline(&repairer, now, &no_deadline), MOLD_E_ABSENT);
+    CODE(mold_repairer_poll(&repairer, now, no_request, &no_server), MOLD_E_ABSENT);
+    CODE(mold_repairer_take(&repairer, now, MOLD_LINE_A, given.at, given.length, &taken), MOLD_DONE);
+    CODE(mold_repairer_take(&repairer, now, MOLD_SERVER(0), given.at, 7, &refused), MOLD_E_SHORT);
+    CHECK(is_taken(&taken, 0, 1, 0) && refused.detail == 7);
+    CODE(mold_repairer_lost(&repairer, now, &no_range), MOLD_E_ABSENT);
+    while (now < 100000000 && mold_repairer_poll(&repairer, now, request, &server) == MOLD_E_ABSENT) {
+        CODE(mold_repairer_deadline(&repairer, now, &deadline), MOLD_DONE);
+        now = deadline;
+    }
+    CHECK(server == 0 && request[17] == 1 && request[19] == 2);
+    CODE(mold_repairer_lost(&repairer, now + 1000000000, &lost), MOLD_DONE);
+    CHECK(lost.first == 1 && lost.last == 2);
+    CODE(mold_repairer_stats(&repairer, &stats), MOLD_DONE);
+    CHECK(stats.lost == 2 && stats.a.datagrams == 1 && stats.b.late == 0);
+    mold_free(&repairer);
+    free(given.at);
 }
 
 static void publishers(void) {
@@ -155,6 +189,7 @@ int main(void) {
     texts();
     packets();
     listeners();
+    repairers();
     publishers();
     servers();
     checkers();

@@ -1,7 +1,8 @@
 /* Tests every call of the library, and every code, with expected values that were written by hand.
  *
  *     cd library/tests
- *     cc -std=c99 test.c packets.c listener.c sessions.c ample.c handles.c ../out/libmold.a -o test && ./test */
+ *     cc -std=c99 test.c packets.c listener.c repairer.c sessions.c ample.c handles.c ../out/libmold.a -o test
+ *     ./test */
 #define CHECK_MAIN
 #include "check.h"
 #include "test.h"
@@ -9,6 +10,7 @@
 int main(void) {
     test_packets();
     test_listener();
+    test_repairer();
     test_sessions();
     test_ample();
     test_handles();

@@ -4,6 +4,7 @@
 
 void test_packets(void);
 void test_listener(void);
+void test_repairer(void);
 void test_sessions(void);
 void test_ample(void);
 

@@ -98,6 +98,20 @@ void a_listener_listens() {
     CHECK(!listener && listener.next() == 0 && listener.open(name, 7, 1) == Code::Done && listener.next() == 7);
 }
 
+void a_listener_gives_up() {
+    mold::Publisher publisher;
+    const std::vector<Datagram> sent = session_of(publisher, {"first", "", "third and longest of them all", "fourth"});
+    mold::Listener listener;
+    mold_taken taken{};
+    std::array<mold_range, 2> ranges{};
+    CHECK(listener.skip(2) == Code::Broken && listener.ranges(0, ranges.data(), 2) == 0);
+    CHECK(listener.open(name) == Code::Done && listener.take(Line::A, sent[1], taken) == Code::Done);
+    const std::uint64_t first = listener.known() - taken.kept;
+    CHECK(listener.ranges(0, ranges.data(), ranges.size()) == 1 && ranges[0].first == 1 && ranges[0].last == first - 1);
+    CHECK(listener.skip(first + 1) == Code::NotMissing && listener.skip(first) == Code::Done);
+    CHECK(listener.count() == taken.kept && listener.first() == first && listener.skip(first) == Code::Batch);
+}
+
 void a_listener_copies_nothing() {
     mold::Publisher publisher;
     const std::vector<Datagram> sent = session_of(publisher, {"first", "", "third and longest of them all", "fourth"});
@@ -112,6 +126,37 @@ void a_listener_copies_nothing() {
     CHECK(delivered.size() == 4 && delivered[0] == "first" && delivered[1].empty() && delivered[3] == "fourth");
     CHECK(listener.hear(Line::B, sent[2], delivery, deliver) == Code::Done && listener.finished());
     CHECK(delivered.size() == 4 && listener.count() == 0);
+}
+
+void a_repairer_repairs() {
+    mold::Publisher publisher;
+    const std::vector<Datagram> sent = session_of(publisher, {"first", "", "third and longest of them all", "fourth"});
+    mold::Repairer repairer;
+    mold::RepairOptions options;
+    mold_taken taken{};
+    mold_range lost{};
+    mold_repair_stats stats{};
+    std::array<std::uint8_t, 20> request{};
+    std::array<mold_range, 2> ranges{};
+    std::uint32_t server = 9;
+    std::uint64_t deadline = 0;
+    CHECK(!repairer && repairer.take(0, Line::A, sent[1], taken) == Code::Broken);
+    options.servers = 9;
+    CHECK(repairer.open(name, options) == Code::Options);
+    options.servers = 2;
+    CHECK(repairer.open(name, options) == Code::Done && repairer.take(0, Line::A, sent[1], taken) == Code::Done);
+    CHECK(repairer.take(0, mold::server(2), sent[1], taken) == Code::Line && repairer.count() == 0);
+    CHECK(repairer.deadline(0, deadline) == Code::Done && deadline > 0);
+    CHECK(repairer.poll(0, request, server) == Code::Absent && repairer.poll(1ull << 62, request, server) == Code::Time);
+    for (std::uint64_t now = 0; now < 10 && server == 9; now++)
+        (void)repairer.poll(now * 1000000, request, server);
+    CHECK(server == 0 && request[17] == 1 && repairer.ranges(0, ranges.data(), 2) == 1 && ranges[0].first == 1);
+    CHECK(repairer.take(9000000, mold::server(0), sent[0], taken) == Code::Done && repairer.count() == 4);
+    CHECK(repairer.first() == 1 && repairer.batch().size() == 4 && is_bytes(*repairer.batch().begin(), "first"));
+    CHECK(repairer.lost(9000000, lost) == Code::Batch && repairer.clear() == Code::Done && repairer.batch().empty());
+    CHECK(repairer.lost(9000000, lost) == Code::Absent && repairer.deadline(9000000, deadline) == Code::Absent);
+    CHECK(repairer.stats(stats) == Code::Done && stats.next == 5 && stats.requests == 1 && stats.answers == 1);
+    CHECK(repairer.take(9000000, Line::B, sent[2], taken) == Code::Done && repairer.finished());
 }
 
 void servers_serve() {
@@ -241,7 +286,9 @@ void texts_are_printed() {
 
 int main() {
     a_listener_listens();
+    a_listener_gives_up();
     a_listener_copies_nothing();
+    a_repairer_repairs();
     servers_serve();
     a_checker_checks();
     what_is_moved();

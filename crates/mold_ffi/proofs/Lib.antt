@@ -1,9 +1,11 @@
 mod AsBox
 mod CheckerLemmas
+mod GapLemmas
 mod ListenerLemmas
 mod LoanLemmas
 mod PlaceLemmas
 mod Reading
+mod RepairerLemmas
 mod ServerLemmas
 mod TextLemmas
 mod Walking

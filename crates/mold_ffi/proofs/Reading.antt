@@ -1,4 +1,4 @@
--- What the walks of the calls share that write slices of a listener's batch.
+-- What the walks of the calls share that write slices of a batch.
 use Rattle.mold_ffi.proofs.Walking.{refl, sym, subst, ◌∙◌, List, [], ◌∷◌, T, Ura, Val, has_ty, WT, SProp, ent, sep, emp, via, Logic, fact, named, Lft, RattleType}
 use Prim.Native.Nat.{ℕ}
 use base.Logic.{emp∗, mono_l}
@@ -17,18 +17,18 @@ use denote.Triple.End.{Kepts}
 use denote.Triple.Walked.{Stay, Stays, Goes, AllGo}
 use Rattle.std.specs.contracts.option.Option as option
 use Rattle.std.proofs.option.Option.TheLaws as option_laws
-use Rattle.mold_ffi.specs.contracts.listener.batched_arbiter.BatchedArbiter as batched
-use Rattle.mold_ffi.proofs.listener.batched_arbiter.BatchedArbiter.TheLaws as batched_laws
+use Rattle.mold_receiver.specs.contracts.batch.Batch as batch
+use Rattle.mold_receiver.proofs.batch.Batch.TheLaws as batch_laws
 
--- A reference to a listener, and an option of one. MIR lowering erases the lifetime of a local.
+-- A reference to a batch, and an option of one. MIR lowering erases the lifetime of a local.
 abbrev lent_field : Lifetime → Lft → Field
-lent_field name κ = shr_ref_field (record { mir = name; lft = κ }) batched.the_row tt
+lent_field name κ = shr_ref_field (record { mir = name; lft = κ }) batch.the_row tt
 
 lent_laws : (κ : Lft) → Laws (lent_field (named 0) κ).row
 lent_laws κ =
     let lft : NamedLft = record { mir = named 0; lft = κ } in
-    of_field (lent_field (named 0) κ) (shr_ref_laws lft batched.the_row tt) refl
-    (copy_shared (lent_field (named 0) κ) (shr_ref_copy lft batched.the_row tt batched_laws.the_row_laws.shr_laws))
+    of_field (lent_field (named 0) κ) (shr_ref_laws lft batch.the_row tt) refl
+    (copy_shared (lent_field (named 0) κ) (shr_ref_copy lft batch.the_row tt batch_laws.the_row_laws.shr_laws))
 
 abbrev LentAs : Lifetime → Lft → RattleType
 LentAs name κ = option.the_row (lent_field name κ).row

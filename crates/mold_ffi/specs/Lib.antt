@@ -6,4 +6,5 @@ pub mod Laws
 pub mod Listener
 pub mod Packets
 pub mod Publisher
+pub mod Repairer
 pub mod Server

@@ -1,6 +1,7 @@
 -- A listener, and what its calls return.
 pub mod BatchedArbiter
 pub mod Calls
+pub mod Gaps
 pub mod Hearing
 pub mod MoldDelivery
 pub mod MoldReport

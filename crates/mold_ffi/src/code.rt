@@ -77,3 +77,11 @@ pub const FILE_CUT: u32 = 31;
 pub const COUNT_DIFFERS: u32 = 32;
 /// A file of version 3 with neither a whole record nor a shut gate where one has to be.
 pub const DAMAGED: u32 = 33;
+/// A number up to which not all messages are missing.
+pub const NOT_MISSING: u32 = 34;
+/// A batch that is not empty.
+pub const BATCH: u32 = 35;
+/// An option outside its range.
+pub const OPTIONS: u32 = 36;
+/// A time of 2^62 nanoseconds or more.
+pub const TIME: u32 = 37;

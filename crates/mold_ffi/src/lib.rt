@@ -10,5 +10,6 @@ pub mod laws;
 mod listener;
 mod packets;
 mod publisher;
+mod repairer;
 mod server;
 mod version;

@@ -2,6 +2,7 @@
 pub(crate) mod batch;
 pub(crate) mod batched_arbiter;
 pub(crate) mod calls;
+pub(crate) mod gaps;
 pub(crate) mod hearing;
 pub(crate) mod mold_delivery;
 pub(crate) mod mold_report;

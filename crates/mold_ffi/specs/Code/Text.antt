@@ -41,6 +41,10 @@ texts =
     text.FILE_CUT.now ∷
     text.COUNT_DIFFERS.now ∷
     text.DAMAGED.now ∷
+    text.NOT_MISSING.now ∷
+    text.BATCH.now ∷
+    text.OPTIONS.now ∷
+    text.TIME.now ∷
     []
 
 -- The text for a number, with a zero byte at its end: that of the code with this number, or `unknown code` if there is no

@@ -5,10 +5,11 @@ ghost use Rattle.std.specs.Ffi.{IsNulTerminated};
 ghost use Rattle.mold_ffi.specs.Code.Text.{terminated_text_of, text_of};
 
 use crate::code::{
-    ABSENT, AHEAD, BAD_FLAG, BAD_MAGIC, BLOCK_CUT, BROKEN, BURST, CLOSED, CONFLICT, COUNT_DIFFERS,
-    DAMAGED, DONE, EMPTY_REQUEST, END_BELOW, END_CONFLICT, FILE_CUT, FILE_SHORT, FULL, LIMIT, LINE,
-    MEMORY, NEXT_ZERO, NUMBERS, PAST_END, PAST_LAST, REQUEST_LENGTH, ROOM, SEQUENCE_ZERO, SHORT,
-    TOO_LONG, TRAILING, UNSENT, WINDOW, WRONG_SESSION, texts,
+    ABSENT, AHEAD, BAD_FLAG, BAD_MAGIC, BATCH, BLOCK_CUT, BROKEN, BURST, CLOSED, CONFLICT,
+    COUNT_DIFFERS, DAMAGED, DONE, EMPTY_REQUEST, END_BELOW, END_CONFLICT, FILE_CUT, FILE_SHORT,
+    FULL, LIMIT, LINE, MEMORY, NEXT_ZERO, NOT_MISSING, NUMBERS, OPTIONS, PAST_END, PAST_LAST,
+    REQUEST_LENGTH, ROOM, SEQUENCE_ZERO, SHORT, TIME, TOO_LONG, TRAILING, UNSENT, WINDOW,
+    WRONG_SESSION, texts,
 };
 
 // The text of a code, with a zero byte at its end.
@@ -50,6 +51,10 @@ fn terminated(code: u32) -> &'static [u8]
         FILE_CUT => texts::FILE_CUT,
         COUNT_DIFFERS => texts::COUNT_DIFFERS,
         DAMAGED => texts::DAMAGED,
+        NOT_MISSING => texts::NOT_MISSING,
+        BATCH => texts::BATCH,
+        OPTIONS => texts::OPTIONS,
+        TIME => texts::TIME,
         _ => texts::UNKNOWN,
     }
 }

@@ -70,4 +70,12 @@ pub(crate) const COUNT_DIFFERS: &[u8] =
 
 pub(crate) const DAMAGED: &[u8] = b"a record of the journal is damaged\0";
 
+pub(crate) const NOT_MISSING: &[u8] = b"not all messages below the number are missing\0";
+
+pub(crate) const BATCH: &[u8] = b"the batch is not empty\0";
+
+pub(crate) const OPTIONS: &[u8] = b"an option is outside its range\0";
+
+pub(crate) const TIME: &[u8] = b"a time is at most 4611686018427387903 nanoseconds\0";
+
 pub(crate) const UNKNOWN: &[u8] = b"unknown code\0";

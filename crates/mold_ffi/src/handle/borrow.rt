@@ -5,30 +5,48 @@ ghost use Rattle.std.specs.Borrow.{sem};
 ghost use Rattle.std.specs.Io.BufRead.{Rests};
 ghost use Rattle.std.specs.Option.{option_copied};
 ghost use Rattle.mold_capture.specs.Seen.{Seen};
-ghost use Rattle.mold_ffi.specs.Handle.Borrow.{IsNoChecker, IsNoListener};
+ghost use Rattle.mold_ffi.specs.Handle.Borrow.{IsNoChecker, listening};
 ghost use Rattle.mold_ffi.specs.Listener.BatchedArbiter.{BatchedArbitration};
 ghost use Rattle.mold_ffi.specs.contracts.handle.mold_handle.MoldHandle.{the_row};
-ghost use Rattle.mold_ffi.specs.declared.handle.held.Held.TheVariants.{Checker as AChecker, Listener as AListener};
+ghost use Rattle.mold_ffi.specs.declared.handle.held.Held.TheVariants.{Checker as AChecker};
 
 use crate::handle::held::Held;
 use crate::handle::mold_handle::MoldHandle;
-use crate::listener::batched_arbiter::BatchedArbiter;
 use mold_capture::Checker;
+use mold_receiver::{Arbiter, Batch};
 
-/// Returns the listener that the handle holds, if it holds one.
-pub(crate) fn lend_listener(handle: &mut MoldHandle) -> Option<&BatchedArbiter>
+/// Returns the arbiter of the listener or repairer that the handle holds, if it holds one.
+pub(crate) fn lend_arbiter(handle: &mut MoldHandle) -> Option<&Arbiter>
     ensures* after { sem 𝓛 (Rests the_row handle.entry (λ new. new.handle.value ≡ handle.old.handle.value)) }
-    ensures lent { (batched : BatchedArbitration) → handle.old.handle.value ≡ Some (AListener batched) →
-        option_copied result ≡ Some batched }
-    ensures none { IsNoListener handle.old.handle.value → option_copied result ≡ None }
+    ensures lent { (batched : BatchedArbitration) → listening handle.old.handle.value ≡ Some batched →
+        option_copied result ≡ Some batched.arbitration }
+    ensures none { listening handle.old.handle.value ≡ None → option_copied result ≡ None }
 {
     if !handle.live {
         return None;
     }
-    let Held::Listener(held) = handle.handle.lend() else {
+    match handle.handle.lend() {
+        Held::Listener(held) => Some(held.arbiter()),
+        Held::Repairer(held) => Some(held.arbiter()),
+        Held::Publisher(_) | Held::Server(_) | Held::Checker(_) => None,
+    }
+}
+
+/// Returns the batch of the listener or repairer that the handle holds, if it holds one.
+pub(crate) fn lend_batch(handle: &mut MoldHandle) -> Option<&Batch>
+    ensures* after { sem 𝓛 (Rests the_row handle.entry (λ new. new.handle.value ≡ handle.old.handle.value)) }
+    ensures lent { (batched : BatchedArbitration) → listening handle.old.handle.value ≡ Some batched →
+        option_copied result ≡ Some batched.batch }
+    ensures none { listening handle.old.handle.value ≡ None → option_copied result ≡ None }
+{
+    if !handle.live {
         return None;
-    };
-    Some(held)
+    }
+    match handle.handle.lend() {
+        Held::Listener(held) => Some(held.batch()),
+        Held::Repairer(held) => Some(held.batch()),
+        Held::Publisher(_) | Held::Server(_) | Held::Checker(_) => None,
+    }
 }
 
 /// Returns the checker that the handle holds, if it holds one.

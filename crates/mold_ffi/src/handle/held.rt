@@ -2,6 +2,7 @@
 
 use crate::listener::batched_arbiter::BatchedArbiter;
 use crate::publisher::exchange::Exchange;
+use crate::repairer::batched_repairer::BatchedRepairer;
 use crate::server::serving::Serving;
 use mold_capture::Checker;
 
@@ -16,4 +17,6 @@ pub(crate) enum Held {
     Server(Serving),
     /// A checker.
     Checker(Checker),
+    /// A repairer.
+    Repairer(BatchedRepairer),
 }

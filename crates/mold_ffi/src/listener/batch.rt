@@ -5,29 +5,27 @@ ghost use Rattle.std.specs.Prelude.{slice_get, unwrap_or};
 ghost use Rattle.std.specs.Borrow.{sem};
 ghost use Rattle.std.specs.Io.BufRead.{Rests};
 ghost use Rattle.std.specs.Option.{option_copied};
-ghost use Rattle.mold_ffi.specs.Handle.Borrow.{IsNoListener};
+ghost use Rattle.mold_ffi.specs.Handle.Borrow.{listening};
 ghost use Rattle.mold_ffi.specs.Listener.BatchedArbiter.{BatchedArbitration};
 ghost use Rattle.mold_ffi.specs.contracts.handle.mold_handle.MoldHandle.{the_row};
 ghost use Rattle.mold_ffi.specs.declared.code.TheConstants as codes;
-ghost use Rattle.mold_ffi.specs.declared.handle.held.Held.TheVariants.{Listener as AListener};
-ghost use Rattle.mold_receiver.specs.Batch.{first_of};
+ghost use Rattle.mold_receiver.specs.Batch.{Handed, first_of};
 
 use crate::code::{ABSENT, BROKEN, DONE, ROOM};
-use crate::handle::borrow::lend_listener;
+use crate::handle::borrow::lend_batch;
 use crate::handle::mold_handle::MoldHandle;
-use crate::listener::batched_arbiter::BatchedArbiter;
 use mold_receiver::Batch;
 
 /// The number of messages of the batch; 0 if the handle holds no listener.
 #[unsafe(no_mangle)]
 pub extern "C" fn mold_listener_count(listener: &mut MoldHandle) -> usize
-    ensures count { (batched : BatchedArbitration) → listener.old.handle.value ≡ Some (AListener batched) →
+    ensures count { (batched : BatchedArbitration) → listening listener.old.handle.value ≡ Some batched →
         result ≡ length batched.batch.messages }
-    ensures broken { IsNoListener listener.old.handle.value → result ≡ 0 }
+    ensures broken { listening listener.old.handle.value ≡ None → result ≡ 0 }
     ensures same { listener.new.handle.value ≡ listener.old.handle.value }
 {
-    match lend_listener(listener) {
-        Some(held) => held.batch().len(),
+    match lend_batch(listener) {
+        Some(batch) => batch.len(),
         None => 0,
     }
 }
@@ -35,31 +33,31 @@ pub extern "C" fn mold_listener_count(listener: &mut MoldHandle) -> usize
 /// The sequence number of the first message of the batch; 0 if the batch is empty or the handle holds no listener.
 #[unsafe(no_mangle)]
 pub extern "C" fn mold_listener_first(listener: &mut MoldHandle) -> u64
-    ensures first { (batched : BatchedArbitration) → listener.old.handle.value ≡ Some (AListener batched) →
+    ensures first { (batched : BatchedArbitration) → listening listener.old.handle.value ≡ Some batched →
         result ≡ unwrap_or (first_of batched.batch) 0 }
-    ensures broken { IsNoListener listener.old.handle.value → result ≡ 0 }
+    ensures broken { listening listener.old.handle.value ≡ None → result ≡ 0 }
     ensures same { listener.new.handle.value ≡ listener.old.handle.value }
 {
-    match lend_listener(listener) {
-        Some(held) => held.batch().first().unwrap_or(0),
+    match lend_batch(listener) {
+        Some(batch) => batch.first().unwrap_or(0),
         None => 0,
     }
 }
 
-// Writes a slice of the message at index `i` of the batch of a listener, if there is one.
-fn write_message<'a>(lent: Option<&'a BatchedArbiter>, i: usize, message: &mut &'a [u8]) -> u32
-    ensures lent { (batched : BatchedArbitration) (bytes : List ℕ) →
-        option_copied lent.entry ≡ Some batched → slice_get batched.batch.messages i ≡ Some bytes →
+// Writes a slice of the message at index `i` of the batch, if there are both.
+fn write_message<'a>(lent: Option<&'a Batch>, i: usize, message: &mut &'a [u8]) -> u32
+    ensures lent { (batch : Handed) (bytes : List ℕ) →
+        option_copied lent.entry ≡ Some batch → slice_get batch.messages i ≡ Some bytes →
         (result ≡ codes.DONE) × (message.new.now ≡ bytes) }
-    ensures absent { (batched : BatchedArbitration) →
-        option_copied lent.entry ≡ Some batched → slice_get batched.batch.messages i ≡ None →
+    ensures absent { (batch : Handed) →
+        option_copied lent.entry ≡ Some batch → slice_get batch.messages i ≡ None →
         (result ≡ codes.ABSENT) × (message.new ≡ message.old) }
     ensures broken { option_copied lent.entry ≡ None → (result ≡ codes.BROKEN) × (message.new ≡ message.old) }
 {
-    let Some(held) = lent else {
+    let Some(batch) = lent else {
         return BROKEN;
     };
-    match held.batch().get(i) {
+    match batch.get(i) {
         Some(bytes) => {
             *message = bytes;
             DONE
@@ -78,15 +76,15 @@ pub extern "C" fn mold_listener_message<'a>(
 ) -> u32
     ensures* after { sem 𝓛 (Rests the_row listener.entry (λ new. new.handle.value ≡ listener.old.handle.value)) }
     ensures lent { (batched : BatchedArbitration) (bytes : List ℕ) →
-        listener.old.handle.value ≡ Some (AListener batched) → slice_get batched.batch.messages i ≡ Some bytes →
+        listening listener.old.handle.value ≡ Some batched → slice_get batched.batch.messages i ≡ Some bytes →
         (result ≡ codes.DONE) × (message.new.now ≡ bytes) }
     ensures absent { (batched : BatchedArbitration) →
-        listener.old.handle.value ≡ Some (AListener batched) → slice_get batched.batch.messages i ≡ None →
+        listening listener.old.handle.value ≡ Some batched → slice_get batched.batch.messages i ≡ None →
         (result ≡ codes.ABSENT) × (message.new ≡ message.old) }
-    ensures broken { IsNoListener listener.old.handle.value →
+    ensures broken { listening listener.old.handle.value ≡ None →
         (result ≡ codes.BROKEN) × (message.new ≡ message.old) }
 {
-    write_message(lend_listener(listener), i, message)
+    write_message(lend_batch(listener), i, message)
 }
 
 /// Copies the message at index `i` of the batch to the start of the buffer, and writes its length. If the buffer is
@@ -99,24 +97,24 @@ pub extern "C" fn mold_listener_copy(
     size: &mut usize,
 ) -> u32
     ensures copied { (batched : BatchedArbitration) (bytes : List ℕ) →
-        listener.old.handle.value ≡ Some (AListener batched) → slice_get batched.batch.messages i ≡ Some bytes →
+        listening listener.old.handle.value ≡ Some batched → slice_get batched.batch.messages i ≡ Some bytes →
         length bytes ≤ length buffer.old →
         (result ≡ codes.DONE) × (size.new ≡ length bytes) × (buffer.new ≡ bytes ++ drop (length bytes) buffer.old) }
     ensures room { (batched : BatchedArbitration) (bytes : List ℕ) →
-        listener.old.handle.value ≡ Some (AListener batched) → slice_get batched.batch.messages i ≡ Some bytes →
+        listening listener.old.handle.value ≡ Some batched → slice_get batched.batch.messages i ≡ Some bytes →
         length buffer.old < length bytes →
         (result ≡ codes.ROOM) × (size.new ≡ length bytes) × (buffer.new ≡ buffer.old) }
     ensures absent { (batched : BatchedArbitration) →
-        listener.old.handle.value ≡ Some (AListener batched) → slice_get batched.batch.messages i ≡ None →
+        listening listener.old.handle.value ≡ Some batched → slice_get batched.batch.messages i ≡ None →
         (result ≡ codes.ABSENT) × (size.new ≡ size.old) × (buffer.new ≡ buffer.old) }
-    ensures broken { IsNoListener listener.old.handle.value →
+    ensures broken { listening listener.old.handle.value ≡ None →
         (result ≡ codes.BROKEN) × (size.new ≡ size.old) × (buffer.new ≡ buffer.old) }
     ensures same { listener.new.handle.value ≡ listener.old.handle.value }
 {
-    let Some(held) = lend_listener(listener) else {
+    let Some(batch) = lend_batch(listener) else {
         return BROKEN;
     };
-    let Some(bytes) = held.batch().get(i) else {
+    let Some(bytes) = batch.get(i) else {
         return ABSENT;
     };
     *size = bytes.len();
@@ -127,17 +125,17 @@ pub extern "C" fn mold_listener_copy(
     DONE
 }
 
-// Writes slices of the first messages of the batch of a listener, and returns how many.
-fn write_messages<'a>(lent: Option<&'a BatchedArbiter>, messages: &mut [&'a [u8]]) -> usize
-    ensures count { (batched : BatchedArbitration) → option_copied lent.entry ≡ Some batched →
-        result ≡ min (length messages.old) (length batched.batch.messages) }
-    ensures lent { (batched : BatchedArbitration) → option_copied lent.entry ≡ Some batched →
-        map (λ bytes. bytes.now) (take result messages.new) ≡ take result batched.batch.messages }
+// Writes slices of the first messages of the batch, if there is one, and returns how many.
+fn write_messages<'a>(lent: Option<&'a Batch>, messages: &mut [&'a [u8]]) -> usize
+    ensures count { (batch : Handed) → option_copied lent.entry ≡ Some batch →
+        result ≡ min (length messages.old) (length batch.messages) }
+    ensures lent { (batch : Handed) → option_copied lent.entry ≡ Some batch →
+        map (λ bytes. bytes.now) (take result messages.new) ≡ take result batch.messages }
     ensures behind { drop result messages.new ≡ drop result messages.old }
     ensures broken { option_copied lent.entry ≡ None → (result ≡ 0) × (messages.new ≡ messages.old) }
 {
     match lent {
-        Some(held) => lend_messages(held.batch(), messages),
+        Some(batch) => lend_messages(batch, messages),
         None => 0,
     }
 }
@@ -168,12 +166,12 @@ pub extern "C" fn mold_listener_messages<'a>(
     messages: &mut [&'a [u8]],
 ) -> usize
     ensures* after { sem 𝓛 (Rests the_row listener.entry (λ new. new.handle.value ≡ listener.old.handle.value)) }
-    ensures count { (batched : BatchedArbitration) → listener.old.handle.value ≡ Some (AListener batched) →
+    ensures count { (batched : BatchedArbitration) → listening listener.old.handle.value ≡ Some batched →
         result ≡ min (length messages.old) (length batched.batch.messages) }
-    ensures lent { (batched : BatchedArbitration) → listener.old.handle.value ≡ Some (AListener batched) →
+    ensures lent { (batched : BatchedArbitration) → listening listener.old.handle.value ≡ Some batched →
         map (λ bytes. bytes.now) (take result messages.new) ≡ take result batched.batch.messages }
     ensures behind { drop result messages.new ≡ drop result messages.old }
-    ensures broken { IsNoListener listener.old.handle.value → (result ≡ 0) × (messages.new ≡ messages.old) }
+    ensures broken { listening listener.old.handle.value ≡ None → (result ≡ 0) × (messages.new ≡ messages.old) }
 {
-    write_messages(lend_listener(listener), messages)
+    write_messages(lend_batch(listener), messages)
 }

@@ -1,12 +1,15 @@
 //! What a listener is made of: an arbiter, and the batch of the messages that it delivered.
 
-ghost use Rattle.std.specs.Prelude.{◌≡◌, ◌<◌, [], IfErr, IfNone, IfOk, IfSome, OnErr, OnOk, Some};
+ghost use Rattle.std.specs.Prelude.{◌≡◌, ◌↔◌, ◌<◌, [], IfErr, IfNone, IfOk, IfSome, IsTrue, OnErr, OnOk, Some};
 ghost use Rattle.mold_ffi.specs.Listener.BatchedArbiter.{HasReceived, begun, cleared};
+ghost use Rattle.mold_ffi.specs.Listener.Gaps.{MaySkip, Skips};
+ghost use Rattle.mold_ffi.specs.declared.handle.held.Held.TheVariants.{Listener as AListener};
 ghost use Rattle.mold_receiver.specs.Origin.{line_of};
 ghost use Rattle.mold_receiver.specs.Own.{HasArbitratedOwn, HasRefusedOwn};
 ghost use Rattle.mold_receiver.specs.View.{IsWellFormed, IsWideWindow};
 ghost use Rattle.mold_receiver.specs.declared.error.ReceiverError.TheVariants.{NextZero, Window, Memory};
 
+use crate::code::{BATCH, DONE, MEMORY, NOT_MISSING};
 use mold_receiver::laws::{followed_law, taken_law};
 use mold_receiver::{Arbiter, Batch, Heard, Line, Origin, Receiver, ReceiverError, Refusal, Taken};
 use mold_wire::Session;
@@ -111,6 +114,35 @@ impl BatchedArbiter {
         ensures { result.now ≡ self.now.batch }
     {
         &self.batch
+    }
+
+    // Whether all messages from the next one to just below `to` are missing, and there is at least one.
+    fn may_skip(&self, to: u64) -> bool
+        ensures { IsTrue result ↔ MaySkip self.now.arbitration.view to }
+    {
+        let next = self.arbiter.receiver().next();
+        match self.arbiter.next_missing(0) {
+            Some(gap) => gap.first == next && next < to && to <= gap.end,
+            None => false,
+        }
+    }
+
+    /// Gives up the messages from the next one to just below `to`, if all of them are missing and the batch is empty. The
+    /// stored messages that follow join the batch.
+    pub(crate) fn skip(&mut self, to: u64) -> u32
+        ensures { Skips self.old to result (Some (AListener self.new)) }
+    {
+        followed_law();
+        if self.batch.len() > 0 {
+            return BATCH;
+        }
+        if !self.may_skip(to) {
+            return NOT_MISSING;
+        }
+        match self.arbiter.skip(to, &mut self.batch) {
+            Ok(_) => DONE,
+            Err(_) => MEMORY,
+        }
     }
 
     /// Empties the batch, and keeps its memory.

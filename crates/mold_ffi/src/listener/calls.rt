@@ -1,12 +1,15 @@
 //! The calls on a listener.
 
 ghost use Rattle.std.specs.Prelude.{◌≡◌, ◌⊎◌, ◌<◌, None, Some, is_some, true};
-ghost use Rattle.mold_ffi.specs.Handle.Borrow.{IsNoListener};
+ghost use Rattle.mold_ffi.specs.Handle.Borrow.{IsNoListener, listening};
 ghost use Rattle.mold_ffi.specs.Listener.BatchedArbiter.{BatchedArbitration, begun, cleared};
 ghost use Rattle.mold_ffi.specs.Listener.Calls.{Takes};
 ghost use Rattle.mold_ffi.specs.Listener.Origin.{origin_at};
+ghost use Rattle.mold_ffi.specs.Repairer.BatchedRepairer.{IsCleared};
+ghost use Rattle.mold_ffi.specs.Repairer.Calls.{HoldsRepairer};
 ghost use Rattle.mold_ffi.specs.declared.code.TheConstants as codes;
-ghost use Rattle.mold_ffi.specs.declared.handle.held.Held.TheVariants.{Listener as AListener};
+ghost use Rattle.mold_ffi.specs.declared.handle.held.Held.TheVariants.{Listener as AListener, Repairer as ARepairer};
+ghost use Rattle.mold_ffi.specs.declared.repairer.batched_repairer.BatchedRepairer.{BatchedRepairer as ABatchedRepairer};
 ghost use Rattle.mold_receiver.specs.View.{IsWideWindow};
 ghost use Rattle.mold_receiver.specs.declared.origin.Origin.{Origin as AnOrigin};
 
@@ -88,20 +91,23 @@ pub extern "C" fn mold_listener_take(
     }
 }
 
-/// Clears the batch, and keeps its memory. Slices of the batch are no longer valid.
+/// Clears the batch of a listener or repairer, and keeps its memory. Slices of the batch are no longer valid.
 #[unsafe(no_mangle)]
 pub extern "C" fn mold_listener_clear(listener: &mut MoldHandle) -> u32
     ensures cleared { (batched : BatchedArbitration) → listener.old.handle.value ≡ Some (AListener batched) →
         (result ≡ codes.DONE) × (listener.new.handle.value ≡ Some (AListener (cleared batched))) }
-    ensures broken { IsNoListener listener.old.handle.value →
+    ensures repairer { (timed : ABatchedRepairer) → listener.old.handle.value ≡ Some (ARepairer timed) →
+        (result ≡ codes.DONE) × HoldsRepairer listener.new.handle.value (IsCleared timed) }
+    ensures broken { listening listener.old.handle.value ≡ None →
         (result ≡ codes.BROKEN) × (listener.new.handle.value ≡ listener.old.handle.value) }
 {
     if !listener.live {
         return BROKEN;
     }
-    let Held::Listener(held) = listener.handle.lend() else {
-        return BROKEN;
-    };
-    held.clear();
+    match listener.handle.lend() {
+        Held::Listener(held) => held.clear(),
+        Held::Repairer(held) => held.clear(),
+        Held::Publisher(_) | Held::Server(_) | Held::Checker(_) => return BROKEN,
+    }
     DONE
 }

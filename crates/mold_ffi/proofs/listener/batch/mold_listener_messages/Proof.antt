@@ -1,4 +1,4 @@
--- `mold_listener_messages` lends the handle, and writes what it borrows. So the handle rests as `lend_listener` states.
+-- `mold_listener_messages` lends the handle, and writes what it borrows. So the handle rests as `lend_batch` states.
 use Rattle.mold_ffi.proofs.Walking.{◌≡◌, refl, List, [], ◌∷◌, named, fact, tables, id⊢, ftrue, flft}
 use Rattle.mold_ffi.proofs.Walking.{‵, raw, ◌⊛◌, some, later, ◌$◌, ◌∵◌, !, qed, by, move, keep, drop, use1, split, split3, join, pick, await, suffices, frame}
 use Rattle.mold_ffi.proofs.Walking.{no_more, and_then, stop, fld, whole, sub, agg, addr, get_in, returns, enter, alloc_all, pass_all, free_all, look_at, get, through, sets, lands_as}
@@ -19,12 +19,12 @@ use denote.Triple.Table.{framed}
 use types.ByLocal.{look_in_at}
 use types.Kit.{use2}
 use types.Run.{from, hop}
-use Rattle.mold_ffi.specs.Handle.Borrow.{IsNoListener}
+use Rattle.mold_ffi.specs.Handle.Borrow.{listening}
 use Rattle.mold_ffi.specs.Listener.BatchedArbiter.{BatchedArbitration}
-use Rattle.mold_ffi.specs.declared.handle.held.Held.TheVariants.{Listener}
+use Rattle.mold_receiver.specs.Batch.{Handed}
 use Rattle.mold_ffi.specs.contracts.handle.mold_handle.MoldHandle.{the_row as H}
-use Rattle.mold_ffi.specs.contracts.handle.borrow.lend_listener as lends
-use Rattle.mold_ffi.proofs.handle.borrow.lend_listener.Met as lends_met
+use Rattle.mold_ffi.specs.contracts.handle.borrow.lend_batch as lends
+use Rattle.mold_ffi.proofs.handle.borrow.lend_batch.Met as lends_met
 use Rattle.mold_ffi.specs.contracts.listener.batch.write_messages as writes
 use Rattle.mold_ffi.proofs.listener.batch.write_messages.Met as writes_met
 use Rattle.mold_ffi.specs.contracts.listener.batch.mold_listener_messages as f
@@ -56,12 +56,12 @@ mold_listener_messages_spec 𝓤 𝓛 𝓜 𝓡 wired =
     sets ! (addr ! (through ! refl (stop !))) refl (tt, tt) $
     nothing ! $ move ! (2 ∷ 0 ∷ []) $ join ! $ nothing ! $ move ! (4 ∷ 0 ∷ []) $ join ! $ join ! $ nothing ! $ move ! (1 ∷ 0 ∷ []) $
     use2 𝓛 (raw (G.pre z)) (id⊢ 𝓤 _) $
-    calls_at ! (framed 𝓤 𝓛.H 𝓜 (tables 𝓤 𝓛.H 𝓜 𝓡 𝓡.env)) G (lends_met.met 𝓤 𝓛 𝓜 𝓡 (code.calls-mold_ffi::handle::borrow::lend_listener 𝓡.env wired)) z
+    calls_at ! (framed 𝓤 𝓛.H 𝓜 (tables 𝓤 𝓛.H 𝓜 𝓡 𝓡.env)) G (lends_met.met 𝓤 𝓛 𝓜 𝓡 (code.calls-mold_ffi::handle::borrow::lend_batch 𝓡.env wired)) z
     (and_then ! (get ! refl) (no_more !)) (λ v.
     use1 𝓛 (later (some (λ (r : (Lent κ).Denot). ((‵ (flft κ q) ⊛ ‵ ftrue) ⊛ ‵ ((Lent κ).own_val r (v ∷ []))) ⊛ some (λ (ws : Unit {0} × Unit {0}).
     ‵ (lasts lends.ended z.0.0 z.0.3 ws) ⊛ (‵ After ⊛ (
-    raw (fact 𝓤 ((batched : BatchedArbitration) → l.now.handle.value ≡ Some (Listener batched) → option_copied r ≡ Some batched))
-    ⊛ raw (fact 𝓤 (IsNoListener l.now.handle.value → option_copied r ≡ None)))))))) (id⊢ 𝓤 _) $
+    raw (fact 𝓤 ((batched : BatchedArbitration) → listening l.now.handle.value ≡ Some batched → option_copied r ≡ Some batched.batch))
+    ⊛ raw (fact 𝓤 (listening l.now.handle.value ≡ None → option_copied r ≡ None)))))))) (id⊢ 𝓤 _) $
     await ! tt $ pick ! (λ r. split ! $ split ! $ split ! $ move ! (3 ∷ []) $ pick ! (λ ws. split ! $ drop ! $ split ! $ move ! (1 ∷ []) $ split ! $
     heard ! _ (λ lent. heard ! _ (λ none. move ! (3 ∷ []) $ peeks ! (Lent κ) (Is (Lent κ)) (shows 𝓛 (Lent κ)) r (v ∷ []) (λ is.
     lands_as ! refl refl (lent_typed 𝓛 κ r v is) $
@@ -76,9 +76,9 @@ mold_listener_messages_spec 𝓤 𝓛 𝓜 𝓡 wired =
     (and_then ! (get ! refl) (and_then ! (get ! refl) (no_more !))) (λ u.
     use1 𝓛 (later (some (λ (x : ℕ). ((‵ (flft κ q) ⊛ ‵ (flft κ' q') ⊛ ‵ ftrue) ⊛ ‵ (usize.own_val x (u ∷ []))) ⊛
     some (λ (ws : Unit {0} × (List (Bor (List ℕ)) × Unit {0})). ‵ (lasts writes.ended κs z'.0.3 ws) ⊛ (
-    raw (fact 𝓤 ((batched : BatchedArbitration) → option_copied r ≡ Some batched → x ≡ min (length m.now) (length batched.batch.messages)))
-    ⊛ raw (fact 𝓤 ((batched : BatchedArbitration) → option_copied r ≡ Some batched →
-    map (λ bytes. bytes.now) (take x ws.1.0) ≡ take x batched.batch.messages))
+    raw (fact 𝓤 ((batch : Handed) → option_copied r ≡ Some batch → x ≡ min (length m.now) (length batch.messages)))
+    ⊛ raw (fact 𝓤 ((batch : Handed) → option_copied r ≡ Some batch →
+    map (λ bytes. bytes.now) (take x ws.1.0) ≡ take x batch.messages))
     ⊛ raw (fact 𝓤 (list_drop x ws.1.0 ≡ list_drop x m.now))
     ⊛ raw (fact 𝓤 (option_copied r ≡ None → (x ≡ 0) × (ws.1.0 ≡ m.now)))))))) (id⊢ 𝓤 _) $
     await ! tt $ pick ! (λ x. split ! $ split ! $ move ! (2 ∷ []) $ pick ! (λ ws. split ! $ move ! (1 ∷ []) $
@@ -90,11 +90,11 @@ mold_listener_messages_spec 𝓤 𝓛 𝓜 𝓡 wired =
     suffices ! _ (ends_at 𝓛 f.ended stayed c ((κs, qs, bounds, a, (mut_vals l, (mut_slice_vals m, tt))), tt) u x
     (tt, (ws.1.0, tt)) (tt, (tt, tt))) $
     move ! (1 ∷ 0 ∷ []) $ join ! $ move ! (1 ∷ 0 ∷ []) $ join ! $ frame ! $ frame ! $
-    let Counted : Type 0 = (batched : BatchedArbitration) → l.now.handle.value ≡ Some (Listener batched) →
+    let Counted : Type 0 = (batched : BatchedArbitration) → listening l.now.handle.value ≡ Some batched →
     x ≡ min (length m.now) (length batched.batch.messages) in
-    let Told : Type 0 = (batched : BatchedArbitration) → l.now.handle.value ≡ Some (Listener batched) →
+    let Told : Type 0 = (batched : BatchedArbitration) → listening l.now.handle.value ≡ Some batched →
     map (λ bytes. bytes.now) (take x ws.1.0) ≡ take x batched.batch.messages in
     let Behind : Type 0 = list_drop x ws.1.0 ≡ list_drop x m.now in
-    let Broken : Type 0 = IsNoListener l.now.handle.value → (x ≡ 0) × (ws.1.0 ≡ m.now) in
-    by ! (four_facts 𝓤 Counted Told Behind Broken (λ batched is. counted batched (lent batched is))
-    (λ batched is. told batched (lent batched is)) behind (λ other. no_listener (none other)))))))))))))))))))
+    let Broken : Type 0 = listening l.now.handle.value ≡ None → (x ≡ 0) × (ws.1.0 ≡ m.now) in
+    by ! (four_facts 𝓤 Counted Told Behind Broken (λ batched is. counted batched.batch (lent batched is))
+    (λ batched is. told batched.batch (lent batched is)) behind (λ other. no_listener (none other)))))))))))))))))))
