@@ -46,7 +46,7 @@ struct options {
     size_t limit;
     uint16_t burst;
     uint64_t save;
-    int64_t linger;
+    uint64_t linger;
 };
 
 /* The journal file, and what the next save adds to it. */
@@ -70,7 +70,7 @@ struct exchange {
     int out, requests;
     uint64_t messages, datagrams, responded, failed, line;
     bool ended, refused;
-    int64_t last_sent, last_asked;
+    uint64_t last_sent, last_asked;
 };
 
 /* The datagram to send, and the part of an input line that was read so far. */
@@ -98,7 +98,7 @@ static void read_option(struct options *read, const char *name, const char *valu
     else if (strcmp(name, "--save") == 0)
         read->save = number_of(value, 1, UINT64_MAX);
     else if (strcmp(name, "--linger") == 0)
-        read->linger = (int64_t)number_of(value, 0, 86400000);
+        read->linger = number_of(value, 0, 86400000) * MILLISECONDS;
     else
         fail_usage(usage, name, "no such option");
 }
@@ -109,7 +109,7 @@ static struct options options_of(int count, char **words) {
     read.limit = 1400;
     read.burst = 4;
     read.save = 100000;
-    read.linger = 2000;
+    read.linger = 2000 * MILLISECONDS;
     for (int i = 1; i < count; i++) {
         const char *name = words[i];
         read_option(&read, name, value_of(usage, count, words, &i));
@@ -350,8 +350,8 @@ static void respond(struct exchange *exchange) {
 /* ---- The loop ---- */
 
 /* When the next heartbeat or end packet is due. */
-static int64_t due(const struct exchange *exchange) {
-    return exchange->last_sent + (exchange->ended ? 250 : 1000);
+static uint64_t due(const struct exchange *exchange) {
+    return exchange->last_sent + (exchange->ended ? 250 : 1000) * MILLISECONDS;
 }
 
 static bool goes_on(const struct exchange *exchange) {
@@ -360,9 +360,7 @@ static bool goes_on(const struct exchange *exchange) {
 
 static void turn(struct exchange *exchange) {
     struct pollfd ready[2] = {{exchange->requests, POLLIN, 0}, {exchange->ended ? -1 : STDIN_FILENO, POLLIN, 0}};
-    int64_t left = due(exchange) - now();
-    if (poll(ready, 2, left < 0 ? 0 : (int)left) < 0 && errno != EINTR)
-        fail("poll", strerror(errno));
+    wait_until(due(exchange), ready, 2);
     if (ready[0].revents != 0)
         respond(exchange);
     if (ready[1].revents != 0)

@@ -5,12 +5,15 @@
  *     ./small "DEMO      " 26477 26478 26400
  *
  * The status is 0 if it printed the whole session, and 3 after an error. */
+#define _POSIX_C_SOURCE 200809L
+
 #include <arpa/inet.h>
 #include <mold.h>
 #include <poll.h>
 #include <stdio.h>
 #include <stdlib.h>
 #include <string.h>
+#include <time.h>
 
 /* Prints how to run the program, and returns its status. */
 static int usage(FILE *to, int status) {
@@ -37,33 +40,51 @@ static int listening_at(const char *port) {
     return bind(made, (struct sockaddr *)&address, sizeof address) == 0 ? made : -1;
 }
 
+/* The time in nanoseconds, by a clock that is never set. */
+static uint64_t now(void) {
+    struct timespec time;
+    clock_gettime(CLOCK_MONOTONIC, &time);
+    return (uint64_t)time.tv_sec * 1000000000 + (uint64_t)time.tv_nsec;
+}
+
+/* The milliseconds until the repairer's deadline, at most a second. */
+static int until_deadline(mold_repairer *repairer) {
+    uint64_t time = now(), deadline;
+    if (mold_repairer_deadline(repairer, time, &deadline) != MOLD_DONE || deadline > time + 1000000000)
+        return 1000;
+    return deadline > time ? (int)((deadline - time) / 1000000) + 1 : 0;
+}
+
 int main(int count, char **words) {
     static uint8_t room[65507], request[20];
-    mold_listener listener = MOLD_EMPTY;
+    mold_repairer repairer = MOLD_EMPTY;
+    mold_listener *listener = mold_listener_of(&repairer);
+    mold_repair_options options;
     mold_taken taken;
     struct sockaddr_in server;
     if (count != 5 || strlen(words[1]) != 10)
         return count == 2 && strcmp(words[1], "--help") == 0 ? usage(stdout, 0) : usage(stderr, 3);
     struct pollfd from[3] = {{listening_at(words[2]), POLLIN, 0}, {listening_at(words[3]), POLLIN, 0},
                              {socket_at(words[4], &server), POLLIN, 0}};
-    if (mold_listener_new(&listener, (const uint8_t *)words[1], 1, 1024) != MOLD_DONE)
+    mold_repair_options_default(&options);
+    if (mold_repairer_new(&repairer, (const uint8_t *)words[1], &options) != MOLD_DONE)
         return 3;
-    for (unsigned turn = 0; !mold_listener_finished(&listener); turn++) {
-        /* Requests missing messages after 10 ms without a datagram, and in every 50th iteration. */
-        if ((poll(from, 3, 10) == 0 || turn % 50 == 0) && mold_listener_wanted(&listener, request))
-            sendto(from[MOLD_ANSWER].fd, request, sizeof request, 0, (struct sockaddr *)&server, sizeof server);
-        for (uint32_t line = MOLD_LINE_A; line <= MOLD_ANSWER; line++) {
-            ssize_t length = (from[line].revents & POLLIN) ? recv(from[line].fd, room, sizeof room, 0) : -1;
-            if (length >= 0 && mold_listener_take(&listener, line, room, (size_t)length, &taken) != MOLD_DONE)
+    while (!mold_listener_finished(listener)) {
+        poll(from, 3, until_deadline(&repairer));
+        for (uint32_t origin = MOLD_LINE_A; origin <= MOLD_SERVER(0); origin++) {
+            ssize_t length = (from[origin].revents & POLLIN) ? recv(from[origin].fd, room, sizeof room, 0) : -1;
+            if (length >= 0 && mold_repairer_take(&repairer, now(), origin, room, (size_t)length, &taken) != MOLD_DONE)
                 fprintf(stderr, "a datagram is refused\n");
         }
-        for (size_t i = 0; i < mold_listener_count(&listener); i++) {
+        for (size_t i = 0; i < mold_listener_count(listener); i++) {
             mold_bytes message;
-            if (mold_listener_message(&listener, i, &message) == MOLD_DONE)
-                printf("%llu %zu\n", (unsigned long long)mold_listener_first(&listener) + i, message.length);
+            if (mold_listener_message(listener, i, &message) == MOLD_DONE)
+                printf("%llu %zu\n", (unsigned long long)mold_listener_first(listener) + i, message.length);
         }
-        mold_listener_clear(&listener);
+        mold_listener_clear(listener);
+        for (uint32_t k; mold_repairer_poll(&repairer, now(), request, &k) == MOLD_DONE;)
+            sendto(from[MOLD_SERVER(k)].fd, request, sizeof request, 0, (struct sockaddr *)&server, sizeof server);
     }
-    mold_free(&listener);
+    mold_free(&repairer);
     return 0;
 }

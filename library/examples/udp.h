@@ -144,12 +144,22 @@ static inline int open_line(const struct sockaddr_in *address, const char *inter
     return made;
 }
 
-/* The time in milliseconds, by a clock that is never set. */
-static inline int64_t now(void) {
+#define MILLISECONDS UINT64_C(1000000)
+
+/* The time in nanoseconds, by a clock that is never set. */
+static inline uint64_t now(void) {
     struct timespec time;
     if (clock_gettime(CLOCK_MONOTONIC, &time) != 0)
         fail("clock_gettime", strerror(errno));
-    return (int64_t)time.tv_sec * 1000 + time.tv_nsec / 1000000;
+    return (uint64_t)time.tv_sec * 1000000000 + (uint64_t)time.tv_nsec;
+}
+
+/* Waits until something can be read, or until this time. */
+static inline void wait_until(uint64_t time, struct pollfd *from, nfds_t count) {
+    uint64_t present = now(), left = time > present ? time - present : 0;
+    struct timespec span = {(time_t)(left / 1000000000), (long)(left % 1000000000)};
+    if (ppoll(from, count, &span, NULL) < 0 && errno != EINTR)
+        fail("poll", strerror(errno));
 }
 
 /* Prints a line with the number of a message and its bytes as hexadecimal digits. An empty message is a hyphen. */
