@@ -146,12 +146,12 @@ fn act(
     }
 }
 
-fn is_done(
+fn act_anew(
     rt: &(impl Abort + AllocGlobal),
     options: &ReceiveOptions<u32>,
     part: Part,
-) -> Result<bool, Fail> {
-    Ok(act(rt, options, &mut new_sinks(rt.alloc()), part)?.is_ok())
+) -> Result<Result<(), CommandFault>, Fail> {
+    act(rt, options, &mut new_sinks(rt.alloc()), part)
 }
 
 // After a fault, the part is done again from its beginning.
@@ -160,8 +160,9 @@ fn do_again(
     options: &ReceiveOptions<u32>,
     part: Part,
 ) -> Result<(), Fail> {
-    let done = is_done(rt, options, part)? || is_done(rt, options, part)?;
-    holds(rt, done);
+    if act_anew(rt, options, part)?.is_err() {
+        act_anew(rt, options, part)??;
+    }
     Ok(())
 }
 
