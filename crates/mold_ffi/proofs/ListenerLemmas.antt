@@ -1,8 +1,11 @@
 -- A listener does what its arbiter and batch do.
-use Rattle.std.proofs.Common.{◌≡◌, ap, ◌∙◌, inl, inr, List, ℕ, Result, Ok, Err, IfOk, IfErr, OnErr}
+use Rattle.std.proofs.Common.{◌≡◌, ap, ◌∙◌, inl, inr, List, ℕ, Option, None, Some, Result, Ok, Err, IfOk, IfErr, IfSome}
+use Rattle.std.proofs.Common.{OnErr}
 use Rattle.mold_receiver.specs.Arbiter.{HasArbitrated, HasRefused, arbitrated}
 use Rattle.mold_receiver.specs.Origin.{line_of}
+use Rattle.mold_receiver.specs.declared.line.Line.{Line as TheLine}
 use Rattle.mold_receiver.specs.declared.origin.Origin.{Origin}
+use Rattle.mold_receiver.specs.declared.origin.Origin.TheVariants.{Line}
 use Rattle.mold_receiver.specs.declared.taken.Taken.{Taken}
 use Rattle.mold_rule.specs.declared.refusal.Refusal.{Refusal}
 use Rattle.mold_ffi.specs.Listener.BatchedArbiter.{BatchedArbitration, HasReceived}
@@ -43,3 +46,10 @@ pub datagram_received : (origin : Origin) (bytes : List ℕ) (old new : BatchedA
     → OnErr result (new.batch ≡ old.batch) → HasReceived origin bytes old new result
 datagram_received origin bytes old new (Ok taken) arbitrated refused same = taken_received origin bytes old new taken arbitrated
 datagram_received origin bytes old new (Err why) arbitrated refused same = refused_received origin bytes old new why refused same
+
+-- For a datagram of a line that was taken by the quick way.
+pub quickly_received : (line : TheLine) (bytes : List ℕ) (old new : BatchedArbitration) (result : Option Taken)
+    → IfSome result (λ taken. HasArbitrated (Some line) old.arbitration bytes old.batch new.arbitration new.batch taken)
+    → IfSome result (λ taken. HasReceived (Line line) bytes old new (Ok taken))
+quickly_received line bytes old new (Some taken) arbitrated = taken_received (Line line) bytes old new taken arbitrated
+quickly_received line bytes old new None none = tt

@@ -9,3 +9,4 @@ pub(crate) mod mold_report;
 pub(crate) mod mold_taken;
 mod origin;
 pub(crate) mod status;
+pub(crate) mod taking;

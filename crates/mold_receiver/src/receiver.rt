@@ -6,6 +6,7 @@
 ghost use Rattle.std.specs.Prelude.{◌≡◌, ◌↔◌, IsTrue, ◌⊎◌, [], ◌+◌, ◌*◌, ◌-◌, ◌<◌, ◌≤◌, ◌^◌, min, length};
 ghost use Rattle.std.specs.Prelude.{Some, None, Ok, Err, IfOk, IfErr, IfNone, IfSome, OnOk, OnErr, drop, max};
 ghost use Rattle.std.specs.FinMap as finite;
+ghost use Rattle.std.specs.Option.{OnSome};
 ghost use Rattle.mold_wire.specs.Packet.{IsBody, messages_of, top_of};
 ghost use Rattle.mold_wire.specs.Reading.{reading};
 ghost use Rattle.mold_wire.specs.declared.header.TheConstants.{END_OF_SESSION};
@@ -309,6 +310,62 @@ impl Receiver {
                 top,
             }),
             Err(_) => Err(Refusal::Memory),
+        }
+    }
+
+    // Takes a packet to which no refusal applies as `take_packet` does, if it begins at `next` or has nothing new.
+    // Otherwise, and if an allocation fails, it returns `None`, and nothing changes.
+    #[inline(always)]
+    fn take_usual(&mut self, packet: &Packet<'_>, top: u64, batch: &mut Batch) -> Option<Taken>
+        requires follows { Follows batch.old self.old.next }
+        requires top { top_of packet.now ≡ top }
+        requires body { IsBody packet.now.body }
+        requires taken { refusal self.old packet.now ≡ None }
+        ensures taken { IfSome result (λ taken. HasTakenPacket self.old packet.now self.new taken) }
+        ensures handed { OnSome result
+            (batch.new ≡ followed_by batch.old self.old.next
+            (handed_on self.old packet.now.sequence (messages_of packet.now.body))) }
+        ensures unchanged { IfNone result (self.new ≡ self.old) }
+        ensures batch { IfNone result (batch.new ≡ batch.old) }
+    {
+        let Body::Data(blocks) = &packet.body else {
+            return Some(self.note(packet, top));
+        };
+        if self.next >= top {
+            return Some(self.note(packet, top));
+        }
+        if self.next != packet.sequence {
+            return None;
+        }
+        match self.hand(packet.sequence, top, blocks, batch) {
+            Ok(taken) => Some(taken),
+            Err(_) => None,
+        }
+    }
+
+    /// Takes the usual datagrams as `accept` does, but faster: a heartbeat, and a packet that begins at `next` or has
+    /// nothing new, while no message is stored and the session's end is not known. For other datagrams, and if an
+    /// allocation fails, it returns `None`, and nothing changes.
+    // For the optimizer: the tests for stored messages and for an end, as in `hear_quickly`.
+    #[inline(always)]
+    pub(crate) fn accept_quickly(&mut self, bytes: &[u8], batch: &mut Batch) -> Option<Accepted>
+        requires { Follows batch.old self.old.next }
+        ensures taken { IfSome result
+            (λ accepted. HasTaken self.old bytes.now batch.old self.new batch.new accepted.taken) }
+        ensures top { IfSome result (λ accepted. accepted.top ≡ top_read (reading bytes.now)) }
+        ensures view { IfNone result (self.new ≡ self.old) }
+        ensures batch { IfNone result (batch.new ≡ batch.old) }
+    {
+        if self.stored() > 0 || self.ended.is_some() {
+            return None;
+        }
+        let packet = decode_plain(&self.session, bytes)?;
+        let Ok(top) = self.check(&packet) else {
+            return None;
+        };
+        match self.take_usual(&packet, top, batch) {
+            Some(taken) => Some(Accepted { taken, top }),
+            None => None,
         }
     }
 

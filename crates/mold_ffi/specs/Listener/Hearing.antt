@@ -12,7 +12,7 @@ use Rattle.mold_wire.specs.Block.{blocks}
 use Rattle.mold_wire.specs.Reading.{reading}
 use Rattle.mold_ffi.specs.Code.Refusal.{refusal_code}
 use Rattle.mold_ffi.specs.Listener.BatchedArbiter.{BatchedArbitration, cleared}
-use Rattle.mold_ffi.specs.Listener.Calls.{taking_code}
+use Rattle.mold_ffi.specs.Listener.Taking.{taking_code}
 use Rattle.mold_ffi.specs.Listener.MoldDelivery.{hearing_fields, unheard_fields}
 use Rattle.mold_ffi.specs.declared.handle.held.Held.{Held}
 use Rattle.mold_ffi.specs.declared.handle.held.Held.TheVariants.{Listener}

@@ -1,12 +1,13 @@
 //! What a listener is made of: an arbiter, and the batch of the messages that it delivered.
 
-ghost use Rattle.std.specs.Prelude.{◌≡◌, ◌↔◌, ◌<◌, [], IfErr, IfNone, IfOk, IfSome, IsTrue, OnErr, OnOk, Some};
+ghost use Rattle.std.specs.Prelude.{◌≡◌, ◌↔◌, ◌<◌, [], IfErr, IfNone, IfOk, IfSome, IsTrue, Ok, OnErr, OnOk, Some};
 ghost use Rattle.mold_ffi.specs.Listener.BatchedArbiter.{HasReceived, begun, cleared};
 ghost use Rattle.mold_ffi.specs.Listener.Gaps.{MaySkip, Skips};
 ghost use Rattle.mold_ffi.specs.declared.handle.held.Held.TheVariants.{Listener as AListener};
 ghost use Rattle.mold_receiver.specs.Origin.{line_of};
 ghost use Rattle.mold_receiver.specs.Own.{HasArbitratedOwn, HasRefusedOwn};
 ghost use Rattle.mold_receiver.specs.View.{IsWellFormed, IsWideWindow};
+ghost use Rattle.mold_receiver.specs.declared.origin.Origin.TheVariants as AnOrigin;
 ghost use Rattle.mold_receiver.specs.declared.error.ReceiverError.TheVariants.{NextZero, Window, Memory};
 
 use crate::code::{BATCH, DONE, MEMORY, NOT_MISSING};
@@ -74,6 +75,21 @@ impl BatchedArbiter {
                 .arbiter
                 .take_from(Origin::Response, bytes, &mut self.batch),
         }
+    }
+
+    /// Takes a usual datagram of a line as `take` does, but faster. For other datagrams, and if an allocation fails, the
+    /// result is `None`, and nothing changes.
+    // Inlined for the same reason as `Arbiter::take_quickly`.
+    #[inline(always)]
+    #[tactic(auto, using(crate::proofs::ListenerLemmas::quickly_received))]
+    pub(crate) fn take_quickly(&mut self, line: Line, bytes: &[u8]) -> Option<Taken>
+        ensures taken { IfSome result (λ taken.
+            HasReceived (AnOrigin.Line line) bytes.now self.old self.new (Ok taken)) }
+        ensures same { IfNone result (self.new ≡ self.old) }
+    {
+        taken_law();
+        followed_law();
+        self.arbiter.take_quickly(line, bytes, &mut self.batch)
     }
 
     /// Takes a datagram without copying the messages that it delivers itself. The batch is emptied first, and gets the

@@ -1,24 +1,19 @@
-//! The calls on a listener.
+//! The calls that make a listener and clear its batch.
 
 ghost use Rattle.std.specs.Prelude.{◌≡◌, ◌⊎◌, ◌<◌, None, Some, is_some, true};
-ghost use Rattle.mold_ffi.specs.Handle.Borrow.{IsNoListener, listening};
+ghost use Rattle.mold_ffi.specs.Handle.Borrow.{listening};
 ghost use Rattle.mold_ffi.specs.Listener.BatchedArbiter.{BatchedArbitration, begun, cleared};
-ghost use Rattle.mold_ffi.specs.Listener.Calls.{Takes};
-ghost use Rattle.mold_ffi.specs.Listener.Origin.{origin_at};
 ghost use Rattle.mold_ffi.specs.Repairer.BatchedRepairer.{IsCleared};
 ghost use Rattle.mold_ffi.specs.Repairer.Calls.{HoldsRepairer};
 ghost use Rattle.mold_ffi.specs.declared.code.TheConstants as codes;
 ghost use Rattle.mold_ffi.specs.declared.handle.held.Held.TheVariants.{Listener as AListener, Repairer as ARepairer};
 ghost use Rattle.mold_ffi.specs.declared.repairer.batched_repairer.BatchedRepairer.{BatchedRepairer as ABatchedRepairer};
 ghost use Rattle.mold_receiver.specs.View.{IsWideWindow};
-ghost use Rattle.mold_receiver.specs.declared.origin.Origin.{Origin as AnOrigin};
 
-use crate::code::{BROKEN, DONE, LINE, MEMORY, NEXT_ZERO, WINDOW};
+use crate::code::{BROKEN, DONE, MEMORY, NEXT_ZERO, WINDOW};
 use crate::handle::held::Held;
 use crate::handle::mold_handle::MoldHandle;
 use crate::listener::batched_arbiter::BatchedArbiter;
-use crate::listener::mold_taken::MoldTaken;
-use crate::listener::origin::origin_of;
 use mold_receiver::ReceiverError;
 use mold_wire::Session;
 use std::alloc::Global;
@@ -52,42 +47,6 @@ pub extern "C" fn mold_listener_new(
         Err(ReceiverError::NextZero) => NEXT_ZERO,
         Err(ReceiverError::Window) => WINDOW,
         Err(ReceiverError::Memory) => MEMORY,
-    }
-}
-
-/// Takes a datagram. `line` is 0 for line A, 1 for line B, and 2 for a server's response. The messages that are
-/// delivered are added to the batch.
-#[unsafe(no_mangle)]
-pub extern "C" fn mold_listener_take(
-    listener: &mut MoldHandle,
-    line: u32,
-    bytes: &[u8],
-    taken: &mut MoldTaken,
-) -> u32
-    ensures takes { (batched : BatchedArbitration) (origin : AnOrigin) →
-        listener.old.handle.value ≡ Some (AListener batched) → origin_at line ≡ Some origin →
-        Takes origin bytes.now batched taken.old.unused result taken.new listener.new.handle.value }
-    ensures line { (batched : BatchedArbitration) →
-        listener.old.handle.value ≡ Some (AListener batched) → origin_at line ≡ None →
-        (result ≡ codes.LINE) × (taken.new ≡ taken.old) × (listener.new.handle.value ≡ listener.old.handle.value) }
-    ensures broken { IsNoListener listener.old.handle.value →
-        (result ≡ codes.BROKEN) × (taken.new ≡ taken.old) × (listener.new.handle.value ≡ listener.old.handle.value) }
-{
-    if !listener.live {
-        return BROKEN;
-    }
-    let Held::Listener(held) = listener.handle.lend() else {
-        return BROKEN;
-    };
-    let Some(origin) = origin_of(line) else {
-        return LINE;
-    };
-    match held.take(origin, bytes) {
-        Ok(counts) => {
-            taken.write_taken(counts);
-            DONE
-        }
-        Err(refused) => taken.write_refused(refused),
     }
 }
 
