@@ -624,9 +624,9 @@ typedef struct mold_plan {
     uint8_t session[10];
 } mold_plan;
 
-/* Lets the publisher respond to requests too, from its journal. A request gets at most `burst` responses, each of at
- * most as many bytes as the publisher's limit. The calls below then also accept the publisher's handle, as
- * mold_server_of(&publisher).
+/* Lets the publisher respond to requests too. A request gets at most `burst` responses, each of at most as many bytes as
+ * the publisher's limit. The calls below then also accept the publisher's handle, as mold_server_of(&publisher). They
+ * respond only with messages that mold_publisher_datagram has written, so no client gets an unsent message.
  *
  *   MOLD_E_BROKEN  the handle does not hold a publisher, or the publisher responds to requests already.
  *   MOLD_E_BURST   burst is not 1 to 64.
@@ -672,7 +672,9 @@ uint32_t mold_server_new(mold_server *server, size_t limit, uint16_t burst, cons
  *   MOLD_E_WRONG_SESSION   the request is for another session.
  *   MOLD_E_SEQUENCE_ZERO   its sequence number is 0.
  *   MOLD_E_EMPTY_REQUEST   its count is 0.
- *   MOLD_E_AHEAD           its sequence number is at least *number, one more than that of the last message. */
+ *   MOLD_E_AHEAD           its sequence number is at least *number, one more than that of the last message. For a
+ *                          publisher's handle, the last message is the last that mold_publisher_datagram has written.
+ *                          So *number is that of the first unsent message. */
 uint32_t mold_server_answer(const mold_server *server, const uint8_t *request, size_t length, uint8_t *buffer,
                             size_t room, uint64_t *number);
 
@@ -686,7 +688,7 @@ uint32_t mold_server_plan(const mold_server *server, const uint8_t *request, siz
  * length.
  *
  *   MOLD_E_BROKEN  the handle does not hold a server, or the plan does not fit this server: it has another session,
- *                  messages that the journal does not have, or more datagrams than the burst.
+ *                  messages that the journal does not have or that are unsent, or more datagrams than the burst.
  *   MOLD_E_ROOM    the buffer is shorter than the limit; *size is the limit.
  *   MOLD_E_ABSENT  the plan has no remaining datagram; *size is 0. */
 uint32_t mold_server_datagram(const mold_server *server, mold_plan *plan, uint8_t *buffer, size_t room, size_t *size);

@@ -497,7 +497,7 @@ public:
         return static_cast<Code>(mold_publisher_save(&handle_, buffer.data(), buffer.size(), &size));
     }
 
-    /// Lets the publisher respond to requests too, through `server`.
+    /// Lets the publisher respond to requests too, through `server`. Unsent messages are never in a response.
     [[nodiscard]] Code serve(std::uint16_t burst) noexcept {
         return static_cast<Code>(mold_server_from_publisher(&handle_, burst));
     }

@@ -20,7 +20,9 @@ typedef struct handles {
 static void fill(handles *all) {
     mold_taken taken;
     mold_repair_options options;
+    uint8_t buffer[64];
     uint64_t number;
+    size_t size;
     datagram given = packet_of(2, 1, 1);
     all->listener = listener_at(1, 4);
     CODE(mold_listener_take(&all->listener, MOLD_LINE_A, given.at, given.length, &taken), MOLD_DONE);
@@ -35,6 +37,7 @@ static void fill(handles *all) {
     }
     all->publisher = publisher_of(64);
     CODE(publish(&all->publisher, 1, 3, &number), MOLD_DONE);
+    CODE(mold_publisher_datagram(&all->publisher, buffer, 64, &size), MOLD_DONE);
     CODE(mold_server_from_publisher(&all->publisher, 2), MOLD_DONE);
     all->server = server_of_five(2);
     CODE(mold_checker_new(&all->checker), MOLD_DONE);

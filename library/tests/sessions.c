@@ -176,6 +176,7 @@ static void journals_of_both_versions(void) {
     free(room.at);
 }
 
+#define TWENTY_1 "00140101010101010101010101010101010101010101"
 #define TWENTY_2 "00140202020202020202020202020202020202020202"
 #define TWENTY_3 "00140303030303030303030303030303030303030303"
 #define TWENTY_5 "00140505050505050505050505050505050505050505"
@@ -291,41 +292,67 @@ static void plans_longer_than_a_response(void) {
     mold_free(&server);
 }
 
-/* The server of a publisher responds with the messages published so far, also after the session is closed. */
+/* A publisher gets one server, which also responds after the session is closed. */
 static void a_publisher_serves(void) {
     mold_publisher publisher = publisher_of(64);
     mold_server *server = mold_server_of(&publisher);
     datagram room = of_length(64);
-    mold_plan made = {0, 0, 0, {0}};
     uint64_t number = 0;
     size_t size = 0;
     CODE(publish(&publisher, 1, 20, &number), MOLD_DONE);
+    CODE(mold_publisher_datagram(&publisher, room.at, 64, &size), MOLD_DONE);
     CODE(answer(server, SESSION_HEX "00000000000000010001", room, &number), MOLD_E_BROKEN);
     CODE(mold_server_from_publisher(&publisher, 0), MOLD_E_BURST);
     CODE(mold_server_from_publisher(&publisher, 65), MOLD_E_BURST);
     CODE(answer(server, SESSION_HEX "00000000000000010001", room, &number), MOLD_E_BROKEN);
     CODE(mold_server_from_publisher(&publisher, 2), MOLD_DONE);
     CODE(mold_server_from_publisher(&publisher, 0), MOLD_E_BROKEN);
+    CODE(mold_publisher_close(&publisher, &number), MOLD_DONE);
     CODE(answer(server, SESSION_HEX "00000000000000010001", room, &number), MOLD_DONE);
-    CHECK(number == 42 && room.at[22] == 1);
+    HEX(room.at, (size_t)number, SESSION_HEX "00000000000000010001" TWENTY_1);
     CODE(answer(server, SESSION_HEX "00000000000000020001", room, &number), MOLD_E_AHEAD);
     CHECK(number == 2);
-    CODE(publish(&publisher, 2, 20, &number), MOLD_DONE);
-    CODE(plan(server, SESSION_HEX "00000000000000010009", &made, &number), MOLD_DONE);
-    CODE(publish(&publisher, 3, 20, &number), MOLD_DONE);
-    CODE(mold_server_datagram(server, &made, room.at, 64, &size), MOLD_DONE);
-    CHECK(size == 64 && made.from == 3);
-    CODE(mold_server_datagram(server, &made, room.at, 64, &size), MOLD_E_ABSENT);
-    CODE(mold_publisher_datagram(&publisher, room.at, 64, &size), MOLD_DONE);
-    CHECK(size == 64 && room.at[17] == 1);
-    CODE(mold_publisher_datagram(&publisher, room.at, 64, &size), MOLD_DONE);
-    CHECK(size == 42 && room.at[17] == 3);
-    CODE(mold_publisher_close(&publisher, &number), MOLD_DONE);
-    CODE(answer(server, SESSION_HEX "00000000000000030001", room, &number), MOLD_DONE);
-    CHECK(number == 42 && room.at[22] == 3);
     free(room.at);
     mold_free(server);
     CHECK(!publisher.live);
+}
+
+/* The server of a publisher has no unsent message. A datagram has room for two of these messages. */
+static void unsent_messages_are_not_served(void) {
+    mold_publisher publisher = publisher_of(64);
+    mold_server *server = mold_server_of(&publisher);
+    datagram room = of_length(64);
+    mold_plan made = {0, 0, 0, {0}}, of_three = {1, 4, 2, {0}};
+    uint64_t number = 0;
+    size_t size = 0;
+    memcpy(of_three.session, SESSION, 10);
+    CODE(mold_server_from_publisher(&publisher, 2), MOLD_DONE);
+    for (int i = 1; i <= 3; i++)
+        CODE(publish(&publisher, i, 20, &number), MOLD_DONE);
+    CODE(answer(server, SESSION_HEX "00000000000000010001", room, &number), MOLD_E_AHEAD);
+    CHECK(number == 1);
+    CODE(mold_publisher_datagram(&publisher, room.at, 64, &size), MOLD_DONE);
+    CODE(answer(server, SESSION_HEX "00000000000000030001", room, &number), MOLD_E_AHEAD);
+    CHECK(number == 3);
+    number = 0;
+    CODE(plan(server, SESSION_HEX "00000000000000030001", &made, &number), MOLD_E_AHEAD);
+    CHECK(number == 3 && made.from == 0);
+    CODE(mold_server_datagram(server, &of_three, room.at, 64, &size), MOLD_E_BROKEN);
+    CODE(answer(server, SESSION_HEX "00000000000000010009", room, &number), MOLD_DONE);
+    HEX(room.at, (size_t)number, SESSION_HEX "00000000000000010002" TWENTY_1 TWENTY_2);
+    CODE(plan(server, SESSION_HEX "00000000000000020009", &made, &number), MOLD_DONE);
+    CHECK(made.from == 2 && made.to == 3 && made.left == 2);
+    CODE(mold_publisher_datagram(&publisher, room.at, 64, &size), MOLD_DONE);
+    CODE(mold_server_datagram(server, &made, room.at, 64, &size), MOLD_DONE);
+    HEX(room.at, size, SESSION_HEX "00000000000000020001" TWENTY_2);
+    CODE(mold_server_datagram(server, &made, room.at, 64, &size), MOLD_E_ABSENT);
+    CODE(answer(server, SESSION_HEX "00000000000000030009", room, &number), MOLD_DONE);
+    HEX(room.at, (size_t)number, SESSION_HEX "00000000000000030001" TWENTY_3);
+    CODE(mold_server_datagram(server, &of_three, room.at, 64, &size), MOLD_DONE);
+    CODE(mold_server_datagram(server, &of_three, room.at, 64, &size), MOLD_DONE);
+    HEX(room.at, size, SESSION_HEX "00000000000000030001" TWENTY_3);
+    free(room.at);
+    mold_free(&publisher);
 }
 
 void test_sessions(void) {
@@ -343,4 +370,5 @@ void test_sessions(void) {
     plans_that_cannot_be();
     plans_longer_than_a_response();
     a_publisher_serves();
+    unsent_messages_are_not_served();
 }

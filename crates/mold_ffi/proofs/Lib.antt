@@ -1,4 +1,5 @@
 mod AsBox
+mod BelowLemmas
 mod CheckerLemmas
 mod GapLemmas
 mod ListenerLemmas

@@ -2,10 +2,10 @@
 use Rattle.std.proofs.Common.{◌≡◌, ℕ, List, ap, subst}
 use Rattle.mold_session.specs.Journal.{JournalState}
 use Rattle.mold_session.specs.Server.{ServerState}
-use Rattle.mold_ffi.specs.Server.Answering.{Answers, Plans}
+use Rattle.mold_ffi.specs.Server.Answering.{Answers, Plans, Serves}
 use Rattle.mold_ffi.specs.declared.server.mold_plan.MoldPlan.{MoldPlan}
 
--- The response and the plan of a server are those of the value that holds it.
+-- The response, the plan and the datagram of a server are those of the value that holds it.
 pub answers_held : (T : Type 0) (server one : ServerState) (journal lent : JournalState) (request old new : List ℕ)
     (before code number : ℕ) (holding : ServerState → T) (after : ServerState) → one ≡ server → lent ≡ journal →
     Answers ServerState one lent request old new before code number (λ s. s) after →
@@ -39,3 +39,10 @@ plans_held T server one journal lent request old new before code number holding 
       refused = λ error suits asks. let a = plans.refused error suits asks in (a.0, a.1, a.2, ap holding a.3);
       planned = λ plan suits asks. let a = plans.planned plan suits asks in (a.0, a.1, a.2, ap holding a.3);
     }
+
+pub serves_held : (server one : ServerState) (journal lent : JournalState) (fields after : MoldPlan) (old new : List ℕ)
+    (before code size : ℕ) → one ≡ server → lent ≡ journal → Serves one lent fields after old new before code size →
+    Serves server journal fields after old new before code size
+serves_held server one journal lent fields after old new before code size same same_journal given =
+    subst (λ (j : JournalState). Serves server j fields after old new before code size) same_journal
+    (subst (λ (v : ServerState). Serves v lent fields after old new before code size) same given)

@@ -5,7 +5,7 @@ use Rattle.mold_wire.specs.declared.limits.TheConstants.{MAX_BURST}
 use Rattle.mold_wire.specs.declared.packet.Packet.{Packet}
 use Rattle.mold_wire.specs.declared.session.Session.{Session}
 use Rattle.mold_session.specs.File.{file_length}
-use Rattle.mold_session.specs.Journal.{JournalState, append_refusal}
+use Rattle.mold_session.specs.Journal.{JournalState, append_refusal, journal_below}
 use Rattle.mold_session.specs.Publisher.{PublisherState, closed, fresh_publisher, published}
 use Rattle.mold_session.specs.Putting.{PutsFile}
 use Rattle.mold_session.specs.Server.{ServerState, fresh_server}
@@ -32,6 +32,10 @@ with_publisher exchange publisher = holding (record { publisher = publisher; ser
 -- What the handle of this publisher holds after its server got this state.
 abbrev pub with_server : Exchange → ServerState → Option Held
 with_server exchange server = holding (record { publisher = exchange.publisher; server = Some server })
+
+-- The journal without the unsent messages. The publisher's server responds from it.
+abbrev pub sent_journal : PublisherState → JournalState
+sent_journal publisher = journal_below publisher.journal (publisher.sent + 1)
 
 -- A server with the publisher's limit, for the publisher's journal, that has answered no request.
 abbrev pub server_beside : PublisherState → ℕ → ServerState

@@ -1,7 +1,7 @@
-//! A publisher, and the server that responds from its journal.
+//! A publisher, and the server that responds with the messages that it sent.
 
 ghost use Rattle.std.specs.Prelude.{◌≡◌, ◌↔◌, Option, None, Some, IsTrue, IfOk, IfErr, OnOk};
-ghost use Rattle.mold_ffi.specs.Publisher.Exchange.{GivesServer, with_server};
+ghost use Rattle.mold_ffi.specs.Publisher.Exchange.{GivesServer, sent_journal, with_server};
 ghost use Rattle.mold_ffi.specs.Publisher.Exchange.{opened, holding, Publishes, Sends, Closes, Saves};
 ghost use Rattle.mold_ffi.specs.Server.Answering.{Answers, Plans, Serves};
 ghost use Rattle.mold_ffi.specs.declared.code.TheConstants as codes;
@@ -16,12 +16,13 @@ use crate::buffer::copy_if_some;
 use crate::code::append_error::code_of_append_error;
 use crate::code::{BROKEN, BURST, DONE, LIMIT, MEMORY, ROOM, UNSENT};
 use crate::server::answering::{answer, datagram, plan};
+use crate::server::journal_below::JournalBelow;
 use crate::server::mold_plan::MoldPlan;
 use mold_session::{Publisher, PublisherError, Server, ServerError, Unsent};
 use mold_wire::Session;
 use std::alloc::Global;
 
-/// A publisher, and the server that responds from its journal, if it has one.
+/// A publisher, and the server that responds with the messages that it sent, if it has one.
 #[derive(Drop)]
 pub struct Exchange {
     /// The publisher.
@@ -162,13 +163,14 @@ impl Exchange {
     /// Writes the first response to a request.
     pub(crate) fn answer(&mut self, request: &[u8], buffer: &mut [u8], number: &mut u64) -> u32
         ensures answers { (server : ServerState) → self.old.server ≡ Some server →
-            Answers (Option AHeld) server self.old.publisher.journal request.now buffer.old buffer.new number.old
+            Answers (Option AHeld) server (sent_journal self.old.publisher) request.now buffer.old buffer.new number.old
             result number.new (with_server self.old) (holding self.new) }
         ensures broken { self.old.server ≡ None → (result ≡ codes.BROKEN) × (number.new ≡ number.old)
             × (buffer.new ≡ buffer.old) × (self.new ≡ self.old) }
     {
+        let sent = JournalBelow::sent_by(&self.publisher);
         match &mut self.server {
-            Some(server) => answer(server, self.publisher.journal(), request, buffer, number),
+            Some(server) => answer(server, &sent, request, buffer, number),
             None => BROKEN,
         }
     }
@@ -176,13 +178,14 @@ impl Exchange {
     /// Plans the responses to a request.
     pub(crate) fn plan(&mut self, request: &[u8], fields: &mut MoldPlan, number: &mut u64) -> u32
         ensures plans { (server : ServerState) → self.old.server ≡ Some server →
-            Plans (Option AHeld) server self.old.publisher.journal request.now fields.old fields.new number.old
+            Plans (Option AHeld) server (sent_journal self.old.publisher) request.now fields.old fields.new number.old
             result number.new (with_server self.old) (holding self.new) }
         ensures broken { self.old.server ≡ None → (result ≡ codes.BROKEN) × (number.new ≡ number.old)
             × (fields.new ≡ fields.old) × (self.new ≡ self.old) }
     {
+        let sent = JournalBelow::sent_by(&self.publisher);
         match &mut self.server {
-            Some(server) => plan(server, self.publisher.journal(), request, fields, number),
+            Some(server) => plan(server, &sent, request, fields, number),
             None => BROKEN,
         }
     }
@@ -195,14 +198,15 @@ impl Exchange {
         size: &mut usize,
     ) -> u32
         ensures serves { (server : ServerState) → self.old.server ≡ Some server →
-            Serves server self.old.publisher.journal fields.old fields.new buffer.old buffer.new size.old
+            Serves server (sent_journal self.old.publisher) fields.old fields.new buffer.old buffer.new size.old
             result size.new }
         ensures broken { self.old.server ≡ None → (result ≡ codes.BROKEN) × (size.new ≡ size.old)
             × (buffer.new ≡ buffer.old) × (fields.new ≡ fields.old) }
         ensures same { self.new ≡ self.old }
     {
+        let sent = JournalBelow::sent_by(&self.publisher);
         match &mut self.server {
-            Some(server) => datagram(server, self.publisher.journal(), fields, buffer, size),
+            Some(server) => datagram(server, &sent, fields, buffer, size),
             None => BROKEN,
         }
     }

@@ -2,7 +2,7 @@
 
 ghost use Rattle.std.specs.Prelude.{◌≡◌, Option, None, Some, is_some, true};
 ghost use Rattle.mold_ffi.specs.Handle.Borrow.{IsNoServer};
-ghost use Rattle.mold_ffi.specs.Publisher.Exchange.{IsBurst, holding, with_server};
+ghost use Rattle.mold_ffi.specs.Publisher.Exchange.{IsBurst, holding, sent_journal, with_server};
 ghost use Rattle.mold_ffi.specs.Server.Answering.{Answers, Plans, Serves};
 ghost use Rattle.mold_ffi.specs.Server.Calls.{Loads};
 ghost use Rattle.mold_ffi.specs.Server.Serving.{with_serving};
@@ -69,7 +69,8 @@ pub extern "C" fn mold_server_new(
 
 /// Writes the first response to a request. The buffer must have at least as many bytes as the limit. `number` is the
 /// response's length, or the limit if the buffer is shorter. If the request is refused, `number` describes the refusal:
-/// it is the request's length, the sequence number of the journal's next message, or 0.
+/// it is the request's length, the sequence number of the journal's next message, or 0. A publisher responds only with
+/// messages that it put into a datagram, and the sequence number is that of its first unsent message.
 #[unsafe(no_mangle)]
 pub extern "C" fn mold_server_answer(
     server: &mut MoldHandle,
@@ -82,7 +83,7 @@ pub extern "C" fn mold_server_answer(
         result number.new (with_serving serving) server.new.handle.value }
     ensures published { (exchange : AnExchange) (beside : ServerState) →
         server.old.handle.value ≡ holding exchange → exchange.server ≡ Some beside →
-        Answers (Option AHeld) beside exchange.publisher.journal request.now buffer.old buffer.new number.old
+        Answers (Option AHeld) beside (sent_journal exchange.publisher) request.now buffer.old buffer.new number.old
         result number.new (with_server exchange) server.new.handle.value }
     ensures broken { IsNoServer server.old.handle.value → (result ≡ codes.BROKEN) × (number.new ≡ number.old)
         × (buffer.new ≡ buffer.old) × (server.new.handle.value ≡ server.old.handle.value) }
@@ -111,7 +112,7 @@ pub extern "C" fn mold_server_plan(
         result number.new (with_serving serving) server.new.handle.value }
     ensures published { (exchange : AnExchange) (beside : ServerState) →
         server.old.handle.value ≡ holding exchange → exchange.server ≡ Some beside →
-        Plans (Option AHeld) beside exchange.publisher.journal request.now plan.old plan.new number.old
+        Plans (Option AHeld) beside (sent_journal exchange.publisher) request.now plan.old plan.new number.old
         result number.new (with_server exchange) server.new.handle.value }
     ensures broken { IsNoServer server.old.handle.value → (result ≡ codes.BROKEN) × (number.new ≡ number.old)
         × (plan.new ≡ plan.old) × (server.new.handle.value ≡ server.old.handle.value) }
@@ -127,8 +128,8 @@ pub extern "C" fn mold_server_plan(
 }
 
 /// Writes the next datagram of a plan, and moves the plan past its messages. A plan that is spent has no datagram. For
-/// a plan of another session, of messages that the journal does not have, or of more datagrams than the burst, the code
-/// is 6. `buffer` and `size` are as for a publisher's datagram.
+/// a plan of another session, of messages that the journal does not have or that are unsent, or of more datagrams than
+/// the burst, the code is 6. `buffer` and `size` are as for a publisher's datagram.
 #[unsafe(no_mangle)]
 pub extern "C" fn mold_server_datagram(
     server: &mut MoldHandle,
@@ -140,7 +141,7 @@ pub extern "C" fn mold_server_datagram(
         Serves serving.server serving.journal plan.old plan.new buffer.old buffer.new size.old result size.new }
     ensures published { (exchange : AnExchange) (beside : ServerState) →
         server.old.handle.value ≡ holding exchange → exchange.server ≡ Some beside →
-        Serves beside exchange.publisher.journal plan.old plan.new buffer.old buffer.new size.old result size.new }
+        Serves beside (sent_journal exchange.publisher) plan.old plan.new buffer.old buffer.new size.old result size.new }
     ensures same { server.new.handle.value ≡ server.old.handle.value }
     ensures broken { IsNoServer server.old.handle.value → (result ≡ codes.BROKEN) × (size.new ≡ size.old)
         × (buffer.new ≡ buffer.old) × (plan.new ≡ plan.old) }

@@ -10,6 +10,7 @@ ghost use Rattle.mold_wire.specs.Packer.{IsLimit};
 use crate::code::MEMORY;
 use crate::code::file_error::code_of_file_error;
 use crate::server::answering::{answer, datagram, plan};
+use crate::server::journal_below::JournalBelow;
 use crate::server::mold_plan::MoldPlan;
 use mold_session::{Journal, Server, SliceSource};
 use mold_wire::MESSAGE_OVERHEAD;
@@ -64,7 +65,8 @@ impl Serving {
         ensures { Answers (Option AHeld) self.old.server self.old.journal request.now buffer.old buffer.new number.old
             result number.new (with_serving self.old) (Some (AServer self.new)) }
     {
-        answer(&mut self.server, &self.journal, request, buffer, number)
+        let whole = JournalBelow::whole(&self.journal);
+        answer(&mut self.server, &whole, request, buffer, number)
     }
 
     /// Plans the responses to a request.
@@ -72,7 +74,8 @@ impl Serving {
         ensures { Plans (Option AHeld) self.old.server self.old.journal request.now fields.old fields.new number.old
             result number.new (with_serving self.old) (Some (AServer self.new)) }
     {
-        plan(&mut self.server, &self.journal, request, fields, number)
+        let whole = JournalBelow::whole(&self.journal);
+        plan(&mut self.server, &whole, request, fields, number)
     }
 
     /// Writes the next datagram of a plan.
@@ -86,6 +89,7 @@ impl Serving {
             result size.new }
         ensures same { self.new ≡ self.old }
     {
-        datagram(&mut self.server, &self.journal, fields, buffer, size)
+        let whole = JournalBelow::whole(&self.journal);
+        datagram(&mut self.server, &whole, fields, buffer, size)
     }
 }

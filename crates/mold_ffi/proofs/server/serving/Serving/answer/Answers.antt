@@ -7,6 +7,6 @@ use Rattle.mold_ffi.proofs.server.serving.Serving.answer.Goals as goal
 pub returns : goal.returns
 returns c =
     let serving = c.args.self.now in
-    answers_held (Option Held) serving.server serving.server serving.journal serving.journal c.args.request.now
+    answers_held (Option Held) serving.server serving.server serving.journal c.whole-whole.result c.args.request.now
     c.args.buffer.now c.answer.new.buffer c.args.number.now c.answer.result c.answer.new.number (with_serving serving)
-    c.answer.new.server refl refl c.answer.ensures
+    c.answer.new.server refl c.whole-whole.ensures c.answer.ensures

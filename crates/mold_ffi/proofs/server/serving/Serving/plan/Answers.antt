@@ -7,6 +7,6 @@ use Rattle.mold_ffi.proofs.server.serving.Serving.plan.Goals as goal
 pub returns : goal.returns
 returns c =
     let serving = c.args.self.now in
-    plans_held (Option Held) serving.server serving.server serving.journal serving.journal c.args.request.now
+    plans_held (Option Held) serving.server serving.server serving.journal c.whole-whole.result c.args.request.now
     c.args.fields.now c.plan.new.fields c.args.number.now c.plan.result c.plan.new.number (with_serving serving)
-    c.plan.new.server refl refl c.plan.ensures
+    c.plan.new.server refl c.whole-whole.ensures c.plan.ensures
