@@ -614,6 +614,62 @@ uint32_t mold_publisher_end(const mold_publisher *publisher, uint8_t *buffer, si
  *   MOLD_E_ROOM    the buffer is too small: *size is the length of the journal, and the buffer keeps its bytes. */
 uint32_t mold_publisher_save(const mold_publisher *publisher, uint8_t *buffer, size_t room, size_t *size);
 
+/* ---- A journal file that outlives the process ---- */
+
+/* A program may keep a publisher's journal in a file, so that each message is durable before it is sent. The library
+ * only writes to buffers: the program writes the file and syncs it, as with pwrite and fdatasync. The file is of
+ * version 3: a head of 18 bytes, the records of the messages, and a shut gate, which is a byte other than 1. No byte
+ * after a shut gate counts. `mold dump`, `mold serve` and `mold feed` read such a file too.
+ *
+ * To create the file, write the bytes of mold_journal_head to a new file, and sync it. Then give it its name, and sync
+ * its folder. Its shut gate is at the offset `at`, which is 18.
+ *
+ * A commit makes messages durable: between mold_publisher_publish and mold_publisher_datagram, or after
+ * mold_publisher_close.
+ *
+ *   1. Call mold_journal_records. `from` is the number of the first message that the file does not have.
+ *   2. Write buffer[1] to buffer[size - 1] at the offset at + 1. Sync the file.
+ *   3. Write buffer[0] at the offset `at`. Sync the file. Now all messages are durable, and may be sent.
+ *   4. Add size - 1 to `at`.
+ *
+ * A crash at any moment leaves a file that has all messages of the commit or none of them. Then mold_publisher_resume
+ * continues the session. If a write or a sync fails, send none of these messages, and do not write to the file again:
+ * the system may have lost what it wrote. */
+
+/* Writes the file of the publisher's session without messages to the start of a buffer. *size is its length, 19 bytes.
+ *
+ *   MOLD_E_BROKEN  the handle does not hold a publisher.
+ *   MOLD_E_ROOM    the buffer is too small: *size is 19, and the buffer keeps its bytes. */
+uint32_t mold_journal_head(const mold_publisher *publisher, uint8_t *buffer, size_t room, size_t *size);
+
+/* Writes the records of the messages from number `from` on to the start of a buffer, and what follows them: a shut
+ * gate, or the closing record if the session is closed. *size is the number of bytes: for each message 4 bytes and the
+ * message's bytes, and then 1 byte, or 3 if the session is closed. `from` is 1 to the number of the next message, which
+ * has no record.
+ *
+ *   MOLD_E_BROKEN  the handle does not hold a publisher.
+ *   MOLD_E_ABSENT  from is 0, or above the number of the next message; *size is 0.
+ *   MOLD_E_ROOM    the buffer is too small: *size is the number of bytes, and the buffer keeps its bytes. */
+uint32_t mold_journal_records(const mold_publisher *publisher, uint64_t from, uint8_t *buffer, size_t room,
+                              size_t *size);
+
+/* Makes a publisher that continues the session of a journal file of version 3, from all bytes of the file. All messages
+ * of the file count as sent: receivers request those that they lack. *number is `at`, the offset of the shut gate or of
+ * the closing record. If the session is closed, the publisher only writes end packets.
+ *
+ *   MOLD_E_BROKEN      the handle is not empty.
+ *   MOLD_E_LIMIT       limit is not 64 to 65,507.
+ *   MOLD_E_FILE_SHORT  the bytes end before the messages begin; *number is the number of bytes.
+ *   MOLD_E_BAD_MAGIC   the bytes are not a journal of version 3. Nothing can be appended to one of version 1 or 2.
+ *   MOLD_E_NUMBERS     there are more messages than sequence numbers.
+ *   MOLD_E_TOO_LONG    a message is longer than the limit allows; *number is its length.
+ *   MOLD_E_DAMAGED     there is no whole record where message *number could be.
+ *   MOLD_E_MEMORY      an allocation failed; the handle is empty.
+ *
+ * If the call makes no publisher, it reads the bytes once more. So it reports a fault even if an allocation failed. */
+uint32_t mold_publisher_resume(mold_publisher *publisher, size_t limit, const uint8_t *journal, size_t length,
+                               uint64_t *number);
+
 /* ---- Server: responses to requests, from a journal ---- */
 
 /* The remaining responses to a request. */

@@ -497,6 +497,19 @@ public:
         return static_cast<Code>(mold_publisher_save(&handle_, buffer.data(), buffer.size(), &size));
     }
 
+    [[nodiscard]] Code journal_head(Room buffer, std::size_t &size) const noexcept {
+        return static_cast<Code>(mold_journal_head(&handle_, buffer.data(), buffer.size(), &size));
+    }
+
+    [[nodiscard]] Code journal_records(std::uint64_t from, Room buffer, std::size_t &size) const noexcept {
+        return static_cast<Code>(mold_journal_records(&handle_, from, buffer.data(), buffer.size(), &size));
+    }
+
+    /// Continues the session of a journal file of version 3. Otherwise as `open`.
+    [[nodiscard]] Code resume(std::size_t limit, Bytes journal, std::uint64_t &number) noexcept {
+        return static_cast<Code>(mold_publisher_resume(&handle_, limit, journal.data(), journal.size(), &number));
+    }
+
     /// Lets the publisher respond to requests too, through `server`. Unsent messages are never in a response.
     [[nodiscard]] Code serve(std::uint16_t burst) noexcept {
         return static_cast<Code>(mold_server_from_publisher(&handle_, burst));

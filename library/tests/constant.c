@@ -75,6 +75,8 @@ static void read_publisher(const mold_publisher *publisher) {
     CODE(mold_publisher_heartbeat(publisher, buffer, 64, &size), MOLD_DONE);
     CODE(mold_publisher_end(publisher, buffer, 64, &size), MOLD_E_ABSENT);
     CODE(mold_publisher_save(publisher, buffer, 64, &size), MOLD_DONE);
+    CODE(mold_journal_head(publisher, buffer, 64, &size), MOLD_DONE);
+    CODE(mold_journal_records(publisher, 1, buffer, 64, &size), MOLD_DONE);
 }
 
 static void read_server(const mold_server *server, uint64_t length) {

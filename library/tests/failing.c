@@ -176,6 +176,16 @@ static uint32_t try_server(mold_server *server) {
     return again(code, before) ? server_new(server, 64, 1, five_messages(), &number) : code;
 }
 
+static uint32_t try_resume(mold_publisher *publisher, datagram journal, uint64_t *number) {
+    unsigned long before = refused;
+    uint32_t code = mold_publisher_resume(publisher, 64, journal.at, journal.length, number);
+    CHECK(publisher->live == (code == MOLD_DONE));
+    if (again(code, before))
+        code = mold_publisher_resume(publisher, 64, journal.at, journal.length, number);
+    free(journal.at);
+    return code;
+}
+
 static uint32_t try_check(mold_checker *checker, datagram given) {
     unsigned long before = refused;
     uint64_t number = 0;
@@ -350,6 +360,20 @@ static void run_server(void) {
     free(room.at);
 }
 
+static void run_resumed(void) {
+    mold_publisher publisher = MOLD_EMPTY;
+    datagram room = of_length(64);
+    uint64_t number = 0;
+    size_t size = 0;
+    if (done(try_resume(&publisher, of_hex("4d4f4c444a4e4c33" SESSION_HEX "010000024142" "0100000143" "00"), &number))) {
+        CHECK(number == 29);
+        done(try_publish(&publisher, 1, 42));
+        CHECK(mold_journal_records(&publisher, 2, room.at, 64, &size) == MOLD_DONE && room.at[4] == 'C');
+    }
+    mold_free(&publisher);
+    free(room.at);
+}
+
 static void run_checker(void) {
     mold_checker checker = MOLD_EMPTY;
     mold_verdict verdict = {0, 0, 0, 0, 0};
@@ -379,7 +403,7 @@ static void run_checker(void) {
     mold_free(&checker);
 }
 
-/* Files with a fault. Their code is the same if all allocations fail, and no server is made. */
+/* Files with a fault. Their code is the same if all allocations fail, and no server or publisher is made. */
 static void run_faulty_journals(void) {
     static const uint32_t codes[] = {MOLD_E_FILE_SHORT, MOLD_E_BAD_MAGIC, MOLD_E_FILE_CUT,      MOLD_E_TOO_LONG,
                                      MOLD_E_FILE_CUT,   MOLD_E_BAD_FLAG,  MOLD_E_COUNT_DIFFERS, MOLD_E_DAMAGED};
@@ -395,6 +419,11 @@ static void run_faulty_journals(void) {
         files[3].at[18 + 4 * 22 + 1] = 43;
         CHECK(mold_server_new(&server, 64, 1, files[i].at, files[i].length, &number) == codes[i]);
         CHECK(number == numbers[i] && !server.live);
+        if (codes[i] == MOLD_E_FILE_SHORT || codes[i] == MOLD_E_DAMAGED) {
+            mold_publisher publisher = MOLD_EMPTY;
+            CHECK(mold_publisher_resume(&publisher, 64, files[i].at, files[i].length, &number) == codes[i]);
+            CHECK(number == numbers[i] && !publisher.live);
+        }
         for (size_t k = 0; k < sizeof files / sizeof *files; k++)
             free(files[k].at);
     }
@@ -430,6 +459,7 @@ int main(void) {
     each_in_turn("giving up", run_giving_up);
     each_in_turn("repairer", run_repairer);
     each_in_turn("publisher", run_publisher);
+    each_in_turn("resumed publisher", run_resumed);
     each_in_turn("server", run_server);
     each_in_turn("checker", run_checker);
     each_in_turn("faulty journals", run_faulty_journals);

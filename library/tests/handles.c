@@ -144,6 +144,8 @@ static void no_publisher(mold_publisher *handle) {
     CODE(mold_publisher_close(handle, &number), MOLD_E_BROKEN);
     CODE(mold_publisher_end(handle, room, 64, &size), MOLD_E_BROKEN);
     CODE(mold_publisher_save(handle, room, 64, &size), MOLD_E_BROKEN);
+    CODE(mold_journal_head(handle, room, 64, &size), MOLD_E_BROKEN);
+    CODE(mold_journal_records(handle, 1, room, 64, &size), MOLD_E_BROKEN);
     CODE(mold_server_from_publisher(handle, 1), MOLD_E_BROKEN);
     CHECK(room[0] == 7);
 }
@@ -200,6 +202,7 @@ static void handles_of_another_kind(void) {
     mold_checker checker = checker_of_none();
     mold_repairer repairer = MOLD_EMPTY;
     mold_repair_options options;
+    uint64_t number = 99;
     mold_repair_options_default(&options);
     CODE(mold_repairer_new(&repairer, session, &options), MOLD_DONE);
     void *const all[] = {&listener, &publisher, &server, &checker, &repairer};
@@ -216,10 +219,11 @@ static void handles_of_another_kind(void) {
             no_checker(all[i]);
         CODE(mold_listener_new(all[i], session, 1, 4), MOLD_E_BROKEN);
         CODE(mold_publisher_new(all[i], session, 64), MOLD_E_BROKEN);
+        CODE(mold_publisher_resume(all[i], 64, NULL, 0, &number), MOLD_E_BROKEN);
         CODE(mold_checker_new(all[i]), MOLD_E_BROKEN);
         CODE(mold_repairer_new(all[i], session, &options), MOLD_E_BROKEN);
     }
-    CHECK(mold_listener_next(&listener) == 1 && is_verdict(&checker, 0, 0, 0, 0));
+    CHECK(mold_listener_next(&listener) == 1 && is_verdict(&checker, 0, 0, 0, 0) && number == 99);
     for (size_t i = 0; i < 10; i++)
         mold_free(all[i % 5]);
     CHECK(!listener.live && !publisher.live && !server.live && !checker.live && !repairer.live);

@@ -145,6 +145,27 @@ static void publishers(void) {
     free(buffer);
 }
 
+static void journals(void) {
+    mold_publisher publisher = publisher_of(64);
+    uint8_t *buffer = uninitialized(64);
+    uint64_t number, refused;
+    size_t size, needed, absent;
+    CODE(mold_journal_head(&publisher, buffer, 18, &needed), MOLD_E_ROOM);
+    CODE(mold_journal_head(&publisher, buffer, 64, &size), MOLD_DONE);
+    CHECK(needed == 19 && size == 19);
+    CODE(publish(&publisher, 5, 3, &number), MOLD_DONE);
+    CODE(mold_journal_records(&publisher, 1, buffer + 18, 7, &needed), MOLD_E_ROOM);
+    CODE(mold_journal_records(&publisher, 3, buffer + 18, 46, &absent), MOLD_E_ABSENT);
+    CODE(mold_journal_records(&publisher, 1, buffer + 18, 46, &size), MOLD_DONE);
+    CHECK(needed == 8 && absent == 0 && size == 8 && buffer[24] == 5);
+    mold_free(&publisher);
+    CODE(mold_publisher_resume(&publisher, 64, buffer, 17, &refused), MOLD_E_FILE_SHORT);
+    CODE(mold_publisher_resume(&publisher, 64, buffer, 26, &number), MOLD_DONE);
+    CHECK(refused == 17 && number == 25);
+    mold_free(&publisher);
+    free(buffer);
+}
+
 static void servers(void) {
     mold_server server = MOLD_EMPTY;
     datagram room = {uninitialized(64), 64};
@@ -191,6 +212,7 @@ int main(void) {
     listeners();
     repairers();
     publishers();
+    journals();
     servers();
     checkers();
     return report_checks();

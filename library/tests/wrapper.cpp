@@ -183,6 +183,20 @@ void servers_serve() {
     CHECK(server.datagram(plan, room, size) == Code::Absent);
 }
 
+void a_journal_is_kept() {
+    mold::Publisher publisher;
+    std::uint64_t number = 0;
+    std::size_t size = 0;
+    Datagram file(100);
+    CHECK(publisher.open(name, 64) == Code::Done && publisher.journal_head(file, size) == Code::Done && size == 19);
+    CHECK(publisher.publish(mold::Bytes(reinterpret_cast<const std::uint8_t *>("AB"), 2), number) == Code::Done);
+    CHECK(publisher.journal_records(1, mold::Room(file.data() + 18, 82), size) == Code::Done && size == 7);
+    CHECK(publisher.journal_records(3, file, size) == Code::Absent);
+    mold::Publisher resumed;
+    CHECK(resumed.resume(64, mold::Bytes(file.data(), 25), number) == Code::Done && number == 24);
+    CHECK(resumed.resume(64, mold::Bytes(file.data(), 25), number) == Code::Broken);
+}
+
 void a_checker_checks() {
     mold::Publisher publisher;
     const std::vector<Datagram> sent = session_of(publisher, {std::string(40, 'a'), std::string(40, 'b'), "c"});
@@ -290,6 +304,7 @@ int main() {
     a_listener_copies_nothing();
     a_repairer_repairs();
     servers_serve();
+    a_journal_is_kept();
     a_checker_checks();
     what_is_moved();
     packets_and_texts();

@@ -1,3 +1,4 @@
+mod AppendingLemmas
 mod AsBox
 mod BelowLemmas
 mod CheckerLemmas
@@ -6,7 +7,9 @@ mod ListenerLemmas
 mod LoanLemmas
 mod PlaceLemmas
 mod Reading
+mod RecordLemmas
 mod RepairerLemmas
+mod ResumingLemmas
 mod ServerLemmas
 mod TextLemmas
 mod Walking

@@ -1,2 +1,5 @@
 -- A publisher, and what its calls return.
+pub mod Appending
 pub mod Exchange
+pub mod Records
+pub mod Resuming

@@ -1,19 +1,27 @@
 //! Theorems about the definitions of the calls. A law is a function that does nothing; its contract is the theorem.
 
-ghost use Rattle.std.specs.Prelude.{◌≡◌, [], List, ℕ, length, ◌+◌, ◌<◌, ◌≤◌, ◌++◌, ◌∷◌, Some, take, drop, slice_get};
+ghost use Rattle.std.specs.Prelude.{◌≡◌, [], List, ℕ, length, ◌+◌, ◌-◌, ◌<◌, ◌≤◌, ◌++◌, ◌∷◌, Some, take, drop};
+ghost use Rattle.std.specs.Prelude.{false, slice_get};
 ghost use Rattle.std.specs.List.{All};
 ghost use Rattle.mold_capture.specs.Consistent.{Consistent, Whole};
 ghost use Rattle.mold_capture.specs.Seen.{seen_of};
 ghost use Rattle.mold_ffi.specs.Checker.MoldVerdict.{IsMissingVerdict, IsWholeVerdict};
 ghost use Rattle.mold_ffi.specs.Laws.{AreTaken, said};
 ghost use Rattle.mold_ffi.specs.Packets.MoldPlace.{places_read};
+ghost use Rattle.mold_ffi.specs.Publisher.Appending.{written_at};
+ghost use Rattle.mold_ffi.specs.Publisher.Records.{empty_file, records_from};
+ghost use Rattle.mold_ffi.specs.Publisher.Resuming.{end_offset};
 ghost use Rattle.mold_ffi.specs.declared.checker.mold_verdict.MoldVerdict.{MoldVerdict};
 ghost use Rattle.mold_ffi.specs.declared.packets.mold_place.MoldPlace.{MoldPlace};
+ghost use Rattle.mold_session.specs.Journal.{IsJournal, JournalState};
+ghost use Rattle.mold_session.specs.Records.{SpellsJournal3};
 ghost use Rattle.mold_wire.specs.Block.{IsBytes};
 ghost use Rattle.mold_wire.specs.Packet.{Spells, messages_of};
 ghost use Rattle.mold_wire.specs.Packing.{packet_length};
 ghost use Rattle.mold_wire.specs.Reading.{reading};
+ghost use Rattle.mold_wire.specs.declared.block.TheConstants.{MAX_MESSAGE};
 ghost use Rattle.mold_wire.specs.declared.packet.Packet.{Packet};
+ghost use Rattle.mold_wire.specs.declared.session.Session.{Session};
 
 use mold_capture::laws::{after_law, reason_law, whole_is_one_law};
 use mold_wire::laws::{message_place_law, reading_law};
@@ -56,3 +64,26 @@ pub fn places_law()
     reading_law();
     message_place_law();
 }
+
+/// How a program keeps a journal in a file of version 3, in the order that `mold.h` states.
+///
+/// The bytes of `mold_journal_head` are the file of a session without messages. Bytes after the shut gate do not change
+/// which journal a file is. After the bytes of `mold_journal_records` are written at the offset of the shut gate, the
+/// file is the journal with all messages. The first of these bytes may be written after the others. If the session is
+/// open, the last of them is the next shut gate.
+pub fn appending_law()
+    ensures empty { (session : Session) → length session.0 ≡ 10 → SpellsJournal3 session [] false (empty_file session) }
+    ensures waiting { (session : Session) (messages : List (List ℕ)) (file more : List ℕ) →
+        SpellsJournal3 session messages false file →
+        SpellsJournal3 session messages false (take (end_offset messages + 1) file ++ more) }
+    ensures order { (at : ℕ) (text file : List ℕ) → at < length file → 1 ≤ length text →
+        written_at at (take 1 text) (written_at (at + 1) (drop 1 text) file) ≡ written_at at text file }
+    ensures grown { (journal : JournalState) (from : ℕ) (file : List ℕ) → IsJournal journal →
+        journal.max_message ≤ MAX_MESSAGE →
+        SpellsJournal3 journal.session (take (from - 1) journal.messages) false file →
+        SpellsJournal3 journal.session journal.messages journal.closed
+        (written_at (end_offset (take (from - 1) journal.messages)) (records_from journal from) file) }
+    ensures next { (journal : JournalState) (from : ℕ) → journal.closed ≡ false →
+        end_offset (take (from - 1) journal.messages) + length (records_from journal from)
+        ≡ end_offset journal.messages + 1 }
+{}
