@@ -36,10 +36,10 @@
  * holds.
  *
  * SLICES. A mold_bytes that a listener or a repairer returns is a slice of its memory. It is valid until the next call
- * on that handle, and the caller never frees it. If its length is 0, its address may no longer be valid: do not read it
- * or compute with it. All other results are written to memory of the caller. The library keeps copies, so whatever is
- * passed to a call may be freed when the call returns. There are two exceptions: a packer keeps its buffer, and the
- * messages that mold_listener_hear does not copy are in the datagram.
+ * on that handle, except for calls that take a const handle. The caller never frees it. If its length is 0, its address
+ * may no longer be valid: do not read it or compute with it. All other results are written to memory of the caller. The
+ * library keeps copies, so whatever is passed to a call may be freed when the call returns. There are two exceptions: a
+ * packer keeps its buffer, and the messages that mold_listener_hear does not copy are in the datagram.
  *
  * CODES. A call that can be refused returns a code. The code is MOLD_DONE, 0, if the call succeeded. Otherwise it is
  * that of the first reason that applies, in the order in which the call lists them, and its name begins with MOLD_E_.

@@ -59,7 +59,8 @@ EDITS = Part("tests/edits --proved")
 WITHOUT_PROGRAM = (
     Part("tests/changed-test", ("tests/run",)),
     Part("tests/links", ("*.md",)),
-    Part("tests/prose", ("*.md", "docs/*.1", "library/mold.h*", "crates/*/specs/*", "tests/prose-allowed")),
+    Part("tests/prose", ("*.md", "docs/*.1", "library/mold.h*", "library/rust/src/*", "crates/*/specs/*",
+                         "tests/prose-allowed")),
     Part("tests/contracts --check", ("docs/CONTRACTS.md", "crates.txt", "crates/*/src/*", "crates/*/specs/*",
                                      "crates/*/wrong/*", "crates/*/must-fail/*")),
     Part("tests/join", ("mold-join", "crates/mold_words/src/command.rt")),
