@@ -61,6 +61,14 @@ class Captures(unittest.TestCase):
                 self.assertEqual([it.time for it in got], [1000 * 10**9 + 7, 5 * 10**8, (1 << 40) * 1000])
                 self.assertEqual({it[1:] for it in got}, {(SOURCE, TARGET, PAYLOADS[0])})
 
+    def test_interfaces_of_a_section(self):
+        packet = wire.ip(PAYLOADS[0])
+        section = wire.section() + wire.interface(wire.RAW) + wire.enhanced(0, packet)
+        other = wire.section(">") + wire.interface(wire.ETHERNET, ">") + wire.enhanced(0, wire.ethernet(packet), ">")
+        _, got = self.read(section + other)
+        self.assertEqual([it.payload for it in got], 2 * [PAYLOADS[0]])
+        self.assert_refused(section + wire.section() + wire.enhanced(0, packet), "has no interface")
+
     def test_links_and_packets(self):
         packet = wire.ip(PAYLOADS[0])
         cases = ((wire.ETHERNET, wire.ethernet(packet, wire.TAG)), (wire.ETHERNET, wire.ethernet(packet, 2 * wire.TAG)),
@@ -73,7 +81,9 @@ class Captures(unittest.TestCase):
 
     def test_other_frames(self):
         whole = wire.ip(PAYLOADS[0])
-        skipped = (wire.ip(b"", protocol=6), b"\x60" + bytes(50), b"", whole[:2] + bytes(2) + whole[4:])
+        # TCP, IPv6, an empty frame, a packet of length 0, and a UDP datagram that is longer than its packet.
+        skipped = (wire.ip(b"", protocol=6), b"\x60" + bytes(50), b"", whole[:2] + bytes(2) + whole[4:],
+                   whole[:24] + b"\xff\xff" + whole[26:])
         partial = (whole[:-1], wire.ip(b"", fragment=0x2000), wire.ip(b"", fragment=1))
         capture, got = self.read(wire.classic([(0, it) for it in (*skipped, whole, *partial)], link=wire.RAW))
         self.assertEqual((len(got), capture.skipped, capture.partial), (1, len(skipped), len(partial)))

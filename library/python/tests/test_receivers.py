@@ -19,6 +19,13 @@ def code_of(call, *arguments):
     return None
 
 
+def requests_after(repairer, now):
+    """The first time, from `now` on, at which requests may be sent, and these requests."""
+    while not (requests := list(repairer.requests(now))):
+        now = repairer.deadline(now)
+    return now, requests
+
+
 class Listening(unittest.TestCase):
     def test_a_gap_and_its_repair(self):
         with mold.Listener(wire.SESSION) as listener:
@@ -136,19 +143,18 @@ class Repairing(unittest.TestCase):
             repairer.take(0, Line.A, wire.packet(1, b"one"))
             self.assertEqual(repairer.take(10, Line.B, wire.packet(3, b"three")), Taken(0, 1, 0))
             self.assertIsNone(repairer.poll(10))
-            # A request is sent after one to two times the patience.
-            now = 10
-            while not (requests := list(repairer.requests(now))):
-                now = repairer.deadline(now)
+            # A request is sent after one to two times the patience. Without a response, the next server gets it.
+            now, sent = requests_after(repairer, 10)
             self.assertTrue(MILLISECOND <= now - 10 <= 2 * MILLISECOND, now)
-            [(request, server)] = requests
-            self.assertEqual(request, wire.request(2, 1))
-            self.assertIn(server, (0, 1))
-            repairer.take(now + 1, Line.SERVER + server, wire.packet(2, b"two"))
+            self.assertEqual(sent, [(wire.request(2, 1), 0)])
+            now, sent = requests_after(repairer, now)
+            self.assertEqual(sent, [(wire.request(2, 1), 1)])
+            repairer.take(now + 1, Line.SERVER + 1, wire.packet(2, b"two"))
             self.assertEqual(repairer.drain(), [(1, b"one"), (2, b"two"), (3, b"three")])
+            repairer.take(now + 2, Line.B, wire.packet(4))
             stats = repairer.stats()
             self.assertEqual((stats.next, stats.requests, stats.answers, stats.a.datagrams, stats.b.datagrams),
-                             (4, 1, 1, 1, 1))
+                             (4, 2, 1, 1, 2))
 
     def test_lost_messages(self):
         options = mold.RepairOptions(patience=1, timeout=1, ceiling=1, servers=0, give_up=1)
