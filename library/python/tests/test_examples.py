@@ -157,7 +157,8 @@ class OverSockets(unittest.TestCase):
 
 class Importing(unittest.TestCase):
     def imported(self, **more):
-        return subprocess.run([sys.executable, "-c", "import mold"], stderr=subprocess.PIPE, text=True,
+        # Python also looks for modules in the working directory.
+        return subprocess.run([sys.executable, "-c", "import mold"], cwd="/", stderr=subprocess.PIPE, text=True,
                               timeout=PATIENCE, env=environment(**more))
 
     def test_a_library_that_cannot_be_used(self):
