@@ -4,8 +4,8 @@
 #     sh install.sh [--library] [--prefix DIR]    installs them below DIR; the default is /usr/local
 #     sh install.sh --uninstall [--prefix DIR]    removes what it installed there
 #
-# With --library it also installs the library for programs in C, C++ and Rust: libmold.a, mold.h, mold.hpp,
-# and mold.pc for pkg-config.
+# With --library it also installs the library for programs in C, C++ and Rust: libmold.a, libmold.so, mold.h,
+# mold.hpp, and mold.pc for pkg-config.
 #
 # The program mold is the one that ./mold runs. If it is not built yet, ./mold builds it first, which takes
 # minutes and needs the toolchain. In the same way library/build builds the library, which also needs a C
@@ -30,7 +30,8 @@ print_usage() {
     exit 2
 }
 
-# Prints for each file its mode, its path in the repository, and its path below the prefix.
+# Prints for each file its mode, its path in the repository, and its path below the prefix. A symbolic link has the mode
+# `link`, and its target in place of the path in the repository.
 files() {
     cat <<'END'
 755 out/mold bin/mold
@@ -44,8 +45,10 @@ files() {
 644 LICENSE-APACHE share/doc/mold/LICENSE-APACHE
 644 LICENSES-OF-LIBRARIES.md share/doc/mold/LICENSES-OF-LIBRARIES.md
 END
-    [ "$library" = no ] || cat <<'END'
+    [ "$library" = no ] || cat <<END
 644 library/out/libmold.a lib/libmold.a
+644 library/out/libmold.so lib/libmold.so.${version%.*}
+link libmold.so.${version%.*} lib/libmold.so
 644 library/mold.h include/mold.h
 644 library/mold.hpp include/mold.hpp
 644 library/mold.pc.in lib/pkgconfig/mold.pc
@@ -97,10 +100,17 @@ copy_file() {
     esac
 }
 
+# Makes a file with a mode, or a symbolic link.
+make_file() {
+    case $1 in
+    link) ln -s "$2" "$3" ;;
+    *) copy_file "$top/$2" "$3" && chmod "$1" "$3" ;;
+    esac
+}
+
 # Installs a file in one step, so that a running program is not overwritten.
 install_file() {
-    copy_file "$top/$2" "$prefix/$3.new.$$" && chmod "$1" "$prefix/$3.new.$$" &&
-        mv -f -- "$prefix/$3.new.$$" "$prefix/$3" && printf '%s\n' "$prefix/$3"
+    make_file "$1" "$2" "$prefix/$3.new.$$" && mv -f -- "$prefix/$3.new.$$" "$prefix/$3" && printf '%s\n' "$prefix/$3"
 }
 
 install_files() {

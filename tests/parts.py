@@ -78,6 +78,8 @@ LANES = (
                      "tests/udp-sessions", "tests/model.py"),
         over_program("tests/library", "library/*", "docs/LIBRARY.md", "install.sh", "mold-join", "tests/udp-sessions",
                      "tests/model.py", crate=LIBRARY, needs_compiler=True),
+        Part("tests/python", ("library/build", "library/alloc.c", "library/mold.h", "library/python/*",
+                              "library/bench/python", "docs/LIBRARY.md"), LIBRARY, needs_compiler=True),
         over_program("tests/documents " + " ".join(DOCUMENTS), *DOCUMENTS, "examples/*", "library/*", "install.sh",
                      "mold-join"),
     ),
