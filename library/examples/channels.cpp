@@ -1,7 +1,7 @@
 // A feed handler for many channels in one thread, in C++20. Each channel is a session on two lines, with a re-request
 // server. All sockets are in one epoll set, and each channel has a repairer.
 //
-//     c++ -O2 -std=c++20 library/examples/channels.cpp library/out/libmold.a -o channels
+//     c++ -O2 -std=c++20 -I library library/examples/channels.cpp library/out/libmold.a -o channels
 //     ./channels ONE,239.192.1.1:26477,239.192.2.1:26477,10.0.0.9:26401
 //
 // Each further argument is another channel. If the address of a line is a multicast group, the handler joins it on the
@@ -11,7 +11,7 @@
 // to the delivery of a message in it. For a message that was stored above a gap, this includes the wait for the gap.
 // The percentiles are exact to two percent. The status is 0 if it delivered the whole session of each channel, 1 if
 // messages are missing, and 3 after an error.
-#include "../mold.hpp"
+#include <mold.hpp>
 #include "udp.h"
 
 #include <algorithm>

@@ -1,7 +1,7 @@
 /* Reports whether captures have one whole session, as `mold check` does. It reads classic pcap files, and passes each
  * datagram (the payload of UDP) to the checker.
  *
- *     cc -O2 library/examples/check.c library/out/libmold.a -o check
+ *     cc -O2 -I library library/examples/check.c library/out/libmold.a -o check
  *     ./check [--port PORT].. [--to ADDRESS].. FILE..
  *
  * --port and --to select the datagrams to these ports and to these addresses. Without --port, datagrams to all ports

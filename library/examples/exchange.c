@@ -1,6 +1,6 @@
 /* An exchange: the publisher of a live session and its re-request server, in one process.
  *
- *     cc -O2 library/examples/exchange.c library/out/libmold.a -o exchange
+ *     cc -O2 -I library library/examples/exchange.c library/out/libmold.a -o exchange
  *     ./exchange --session DEMO --a 239.192.1.1:26477 --b 239.192.1.2:26477 --bind 0.0.0.0:26400 --journal day.journal
  *
  * It reads messages as lines of hexadecimal digits from standard input, as `mold publish` does, and sends them at once

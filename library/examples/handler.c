@@ -1,7 +1,7 @@
 /* A feed handler. It receives the two lines of a feed, and requests from re-request servers the messages that both
  * lost. It prints the messages in order, one on each line of text, as `mold receive` does.
  *
- *     cc -O2 library/examples/handler.c library/out/libmold.a -o handler
+ *     cc -O2 -I library library/examples/handler.c library/out/libmold.a -o handler
  *     ./handler --session DEMO --a 239.192.1.1:26477 --b 239.192.1.2:26477 --interface 10.0.0.7 --server 10.0.0.9:26400
  *
  * If the address of a line is a multicast group, the handler joins it on the interface. Without --server it requests

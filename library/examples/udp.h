@@ -7,7 +7,7 @@
 #define _GNU_SOURCE
 #endif
 
-#include "../mold.h"
+#include <mold.h>
 
 #include <arpa/inet.h>
 #include <errno.h>
