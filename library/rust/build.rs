@@ -7,10 +7,10 @@ use std::process::{exit, Command};
 const ARCHIVE: &str = "libmold.a";
 const VARIABLE: &str = "MOLD_LIB_DIR";
 
-/// The folder of a built repository that has the archive: `library/out`, if this crate is in `library/rust`.
-fn built_folder() -> PathBuf {
+/// The folders beside this crate that may have the archive: `library/out` of a built repository, and `lib` of a release.
+fn folders_beside() -> [PathBuf; 2] {
     let folder = env::var_os("CARGO_MANIFEST_DIR").map(PathBuf::from).unwrap_or_default();
-    folder.with_file_name("out")
+    ["out", "lib"].map(|name| folder.with_file_name(name))
 }
 
 /// The folder that `pkg-config` returns for an installed library.
@@ -29,12 +29,13 @@ fn archive_folder() -> Result<PathBuf, String> {
             Err(format!("{VARIABLE} is {}, but that folder has no {ARCHIVE}", folder.display()))
         };
     }
-    let mut folders = std::iter::once(built_folder()).chain(installed_folder());
+    let [built, released] = folders_beside();
+    let mut folders = [built.clone(), released].into_iter().chain(installed_folder());
     folders.find(|folder| folder.join(ARCHIVE).is_file()).ok_or_else(|| {
         format!(
             "{ARCHIVE} was not found in {}, nor by `pkg-config --variable=libdir mold`. Build it with `sh \
              library/build`, install it with `sh install.sh --library`, or set {VARIABLE} to its folder",
-            built_folder().display()
+            built.display()
         )
     })
 }

@@ -152,7 +152,8 @@ def _candidates() -> Iterator[str]:
     """The files that may be the library, in the order in which they are tried."""
     package = os.path.dirname(os.path.abspath(__file__))
     beside = os.path.dirname(package)
-    for folder in (package, beside, os.path.join(os.path.dirname(beside), "out")):
+    above = os.path.dirname(beside)
+    for folder in (package, beside, os.path.join(above, "out"), os.path.join(above, "lib")):
         path = os.path.join(folder, FILE_NAME)
         if os.path.isfile(path):
             yield path
