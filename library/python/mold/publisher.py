@@ -3,7 +3,7 @@ from __future__ import annotations
 
 import ctypes
 from ctypes import byref, c_size_t, c_uint64
-from typing import Iterator, Optional, Union
+from typing import Iterator, Optional, Tuple, Union
 
 from .errors import Code, check
 from .native import LENGTH_BITS, Buffer, as_bytes, library, session_of, unsigned
@@ -83,6 +83,44 @@ class Publisher(Responder):
         library.mold_publisher_save(self._open(), None, 0, byref(size))
         buffer = ctypes.create_string_buffer(size.value)
         check(library.mold_publisher_save(self._open(), buffer, len(buffer), byref(size)), size.value)
+        return buffer.raw
+
+    @classmethod
+    def resume(cls, journal: Buffer, limit: int = LIMIT) -> Tuple[Publisher, int]:
+        """Makes a publisher that continues the session of a journal file of version 3, from all bytes of the file.
+
+        All messages of the file count as sent. The second result is the offset of the file's shut gate, or of its
+        closing record. Raises MoldError, with a code that `mold_publisher_resume` lists, if there is no such journal.
+        """
+        made, journal, number = cls.__new__(cls), as_bytes(journal), c_uint64()
+        super(Publisher, made).__init__()
+        code = library.mold_publisher_resume(made._open(), unsigned(limit, LENGTH_BITS, "limit"), journal, len(journal),
+                                             byref(number))
+        check(code, number.value)
+        made._room = ctypes.create_string_buffer(limit)
+        return made, number.value
+
+    def journal_head(self) -> bytes:
+        """Returns the journal file of this session without messages, of version 3: a head and a shut gate.
+
+        `mold.h` states how a program creates the file and appends to it.
+        """
+        size = c_size_t()
+        check(library.mold_journal_head(self._open(), self._room, len(self._room), byref(size)), size.value)
+        return ctypes.string_at(self._room, size.value)
+
+    def journal_records(self, start: int) -> bytes:
+        """Returns the records of the messages from number `start` on, and what follows them in the file: a shut gate,
+        or the closing record if the session is closed. `mold.h` states how a program writes them to the file.
+
+        Raises MoldError with the code ABSENT if `start` is 0, or above the number of the next message.
+        """
+        size, start = c_size_t(), unsigned(start, 64, "start")
+        code = library.mold_journal_records(self._open(), start, None, 0, byref(size))
+        buffer = ctypes.create_string_buffer(size.value)
+        if code == Code.ROOM:
+            code = library.mold_journal_records(self._open(), start, buffer, len(buffer), byref(size))
+        check(code, size.value)
         return buffer.raw
 
     def serve(self, burst: int = BURST) -> None:

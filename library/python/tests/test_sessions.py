@@ -52,6 +52,33 @@ class Publishing(unittest.TestCase):
             self.assertEqual(list(publisher.responses(wire.request(1, 1))), [wire.packet(1, b"one")])
 
 
+class Continuing(unittest.TestCase):
+    # The head of a journal file of version 3, and the records of two messages, as docs/FORMATS.md states them.
+    HEAD = b"MOLDJNL3" + wire.SESSION
+    RECORDS = b"\1\0\0\2AB\1\0\0\0"
+
+    def test_a_journal_file(self):
+        with mold.Publisher(wire.SESSION, limit=64) as publisher:
+            self.assertEqual(publisher.journal_head(), self.HEAD + b"\0")
+            publisher.publish(b"AB")
+            publisher.publish(b"")
+            self.assertEqual(publisher.journal_records(1), self.RECORDS + b"\0")
+            self.assertEqual(publisher.journal_records(3), b"\0")
+            self.assertEqual(code_of(publisher.journal_records, 4), (Code.ABSENT, None))
+            list(publisher.datagrams())
+            publisher.close_session()
+            self.assertEqual(publisher.journal_records(2), self.RECORDS[6:] + b"\1\1\0")
+
+    def test_a_continued_session(self):
+        publisher, gate = mold.Publisher.resume(self.HEAD + self.RECORDS + b"\0", limit=64)
+        with publisher:
+            self.assertEqual(gate, len(self.HEAD + self.RECORDS))
+            self.assertEqual((publisher.publish(b"three"), publisher.datagram()), (3, wire.packet(3, b"three")))
+        self.assertEqual(code_of(mold.Publisher.resume, journal(b"AB")), (Code.BAD_MAGIC, None))
+        self.assertEqual(code_of(mold.Publisher.resume, self.HEAD[:17]), (Code.FILE_SHORT, 17))
+        self.assertEqual(code_of(mold.Publisher.resume, self.HEAD, 63), (Code.LIMIT, None))
+
+
 class Serving(unittest.TestCase):
     def test_responses(self):
         messages = [bytes([number]) * 20 for number in range(1, 6)]

@@ -138,6 +138,57 @@ impl Publisher {
         Ok(journal)
     }
 
+    /// Makes a publisher that continues the session of a journal file of version 3, from all bytes of the file. All
+    /// messages of the file count as sent. It also returns the offset of the file's shut gate, or of its closing record.
+    ///
+    /// # Errors
+    ///
+    /// | Error | When |
+    /// |---|---|
+    /// | [`Limit`](Error::Limit) | `limit` is not 64 to 65,507 |
+    /// | [`FileShort`](Error::FileShort) | the bytes end before the messages begin |
+    /// | [`BadMagic`](Error::BadMagic) | the bytes are not a journal of version 3 |
+    /// | [`Numbers`](Error::Numbers) | there are more messages than sequence numbers |
+    /// | [`TooLong`](Error::TooLong) | a message is longer than the limit allows |
+    /// | [`Damaged`](Error::Damaged) | a record is damaged |
+    /// | [`Memory`](Error::Memory) | an allocation failed |
+    pub fn resume(limit: usize, journal: &[u8]) -> Result<(Self, u64), Error> {
+        let (mut number, at, length) = (0, journal.as_ptr(), journal.len());
+        let made = Handle::filled(|empty| {
+            // SAFETY: The handle is empty.
+            let code = unsafe { sys::mold_publisher_resume(empty, limit, at, length, &mut number) };
+            (code, number)
+        })?;
+        Ok((Self(Server(made)), number))
+    }
+
+    /// Writes the journal file of this session without messages, of version 3, to the start of a buffer. It has 19
+    /// bytes: a head and a shut gate. `mold.h` states how a program creates and appends to the file.
+    ///
+    /// # Errors
+    ///
+    /// [`Room`](Error::Room), if the buffer is too small.
+    pub fn journal_head<'b>(&self, buffer: &'b mut [u8]) -> Result<&'b [u8], Error> {
+        let (mut size, at, room) = (0, buffer.as_mut_ptr(), buffer.len());
+        // SAFETY: The handle is only read.
+        let code = unsafe { sys::mold_journal_head(self.as_ptr(), at, room, &mut size) };
+        written(code, size, buffer)
+    }
+
+    /// Writes the records of the messages from number `from` on to the start of a buffer, and what follows them in the
+    /// file: a shut gate, or the closing record if the session is closed. `mold.h` states how a program writes them to
+    /// the file. `None` if `from` is 0, or above the number of the next message.
+    ///
+    /// # Errors
+    ///
+    /// [`Room`](Error::Room), if the buffer is too small. The number is then that of the bytes.
+    pub fn journal_records<'b>(&self, from: u64, buffer: &'b mut [u8]) -> Result<Option<&'b [u8]>, Error> {
+        let (mut size, at, room) = (0, buffer.as_mut_ptr(), buffer.len());
+        // SAFETY: The handle is only read.
+        let code = unsafe { sys::mold_journal_records(self.as_ptr(), from, at, room, &mut size) };
+        written_if_present(code, size, buffer)
+    }
+
     /// Lets the publisher respond to requests too, from its journal, through [`server`](Self::server). A request gets
     /// at most `burst` responses, each of at most as many bytes as the publisher's limit.
     ///

@@ -232,6 +232,21 @@ extern "C" {
     pub(crate) fn mold_publisher_close(publisher: *mut Handle, number: *mut u64) -> u32;
     pub(crate) fn mold_publisher_end(publisher: *const Handle, buffer: *mut u8, room: usize, size: *mut usize) -> u32;
     pub(crate) fn mold_publisher_save(publisher: *const Handle, buffer: *mut u8, room: usize, size: *mut usize) -> u32;
+    pub(crate) fn mold_journal_head(publisher: *const Handle, buffer: *mut u8, room: usize, size: *mut usize) -> u32;
+    pub(crate) fn mold_journal_records(
+        publisher: *const Handle,
+        from: u64,
+        buffer: *mut u8,
+        room: usize,
+        size: *mut usize,
+    ) -> u32;
+    pub(crate) fn mold_publisher_resume(
+        publisher: *mut Handle,
+        limit: usize,
+        journal: *const u8,
+        length: usize,
+        number: *mut u64,
+    ) -> u32;
 
     pub(crate) fn mold_server_from_publisher(publisher: *mut Handle, burst: u16) -> u32;
     pub(crate) fn mold_server_new(

@@ -48,6 +48,30 @@ fn a_journal_is_saved() {
 }
 
 #[test]
+fn a_session_is_continued() {
+    let mut publisher = publisher_of(&[b"AB", b""]);
+    let mut buffer = [0; 40];
+    let head = b"MOLDJNL3SESSION001\0";
+    assert_eq!(publisher.journal_head(&mut buffer[..18]), Err(Error::Room { needed: 19 }));
+    assert_eq!(publisher.journal_head(&mut buffer), Ok(&head[..]));
+    let records = b"\x01\0\0\x02AB\x01\0\0\0\0";
+    assert_eq!(publisher.journal_records(1, &mut buffer[..10]), Err(Error::Room { needed: 11 }));
+    assert_eq!(publisher.journal_records(1, &mut buffer), Ok(Some(&records[..])));
+    assert_eq!(publisher.journal_records(2, &mut buffer), Ok(Some(&records[6..])));
+    assert_eq!(publisher.journal_records(0, &mut buffer), Ok(None));
+    assert_eq!(publisher.journal_records(4, &mut buffer), Ok(None));
+    publisher.close().unwrap();
+    assert_eq!(publisher.journal_records(3, &mut buffer), Ok(Some(&b"\x01\x01\0"[..])));
+
+    let file = [&head[..18], &records[..]].concat();
+    let (mut resumed, gate) = Publisher::resume(64, &file).unwrap();
+    assert_eq!((gate, resumed.publish(b"CD")), (28, Ok(3)));
+    assert_eq!(resumed.datagram(&mut [0; 64]), Ok(Some(&packet(3, &[b"CD"])[..])));
+    assert_eq!(Publisher::resume(64, &head[..17]).unwrap_err(), Error::FileShort { length: 17 });
+    assert_eq!(Publisher::resume(64, &resumed.journal().unwrap()).unwrap_err(), Error::BadMagic);
+}
+
+#[test]
 fn requests_are_answered() {
     let server =
         Server::new(64, 2, &publisher_of(&[&[1; 20], &[2; 20], &[3; 20], &[4; 20]]).journal().unwrap()).unwrap();
