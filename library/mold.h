@@ -648,7 +648,7 @@ uint32_t mold_journal_head(const mold_publisher *publisher, uint8_t *buffer, siz
 /* Writes the records of the messages from number `from` on to the start of a buffer, and what follows them: a shut
  * gate, or the closing record if the session is closed. *size is the number of bytes: for each message 4 bytes and the
  * message's bytes, and then 1 byte, or 3 if the session is closed. `from` is 1 to the number of the next message, which
- * has no record.
+ * has no record. The time depends only on the messages from `from` on.
  *
  *   MOLD_E_BROKEN  the handle does not hold a publisher.
  *   MOLD_E_ABSENT  from is 0, or above the number of the next message; *size is 0.
