@@ -9,20 +9,22 @@
  * Then it sends four end packets a second, until no request has arrived for the time of --linger. `./exchange --help`
  * lists the options and their defaults.
  *
- * Messages are in the journal file before they are sent. If the file exists, the program continues its session: the
- * input has the messages that follow. So it may be killed at any moment, and started again with the rest of the input.
- * `mold dump --journal FILE` prints the messages that the file has.
+ * With --journal, messages are durable in a journal file before they are sent. If the file exists, the program
+ * continues its session: the input has the messages that follow. So the program may be killed at any moment, and
+ * started again with the rest of the input. `mold dump --journal FILE` prints the messages that the file has.
  *
  * The last line is `published MESSAGES datagrams D requests R failed F`. D counts data packets, R the requests that got
  * a response, and F the sends and receives that failed. A refused input line is reported on standard error, and the
  * session goes on. The status is 0, or 2 if an input line was refused, or 3 after any other error. */
 #include "udp.h"
 
+#include <libgen.h>
+#include <limits.h>
 #include <sys/file.h>
 #include <sys/stat.h>
 
 static const char usage[] =
-    "usage: exchange --session SESSION --a ADDRESS --b ADDRESS --bind ADDRESS --journal FILE [OPTION VALUE]..\n"
+    "usage: exchange --session SESSION --a ADDRESS --b ADDRESS --bind ADDRESS [OPTION VALUE]..\n"
     "\n"
     "Publishes lines of hexadecimal digits as messages, and responds to requests.\n"
     "\n"
@@ -30,7 +32,7 @@ static const char usage[] =
     "  --a ADDRESS          the address of line A, such as 239.192.1.1:26477\n"
     "  --b ADDRESS          the address of line B\n"
     "  --bind ADDRESS       the address at which requests arrive\n"
-    "  --journal FILE       the file of the journal, which is continued if it exists\n"
+    "  --journal FILE       the file that keeps the messages, and is continued if it exists (none)\n"
     "  --limit L            the limit of a datagram, in bytes (1400)\n"
     "  --burst B            the greatest number of responses to a request (4)\n"
     "  --linger MS          after the end of the input, the time without a request after which it ends (2000)\n"
@@ -48,7 +50,7 @@ struct options {
     uint64_t linger;
 };
 
-/* The journal file, its number of messages, and the offset of its shut gate. */
+/* The journal file, its number of messages, and the offset of its shut gate. Without --journal the name is NULL. */
 struct journal {
     const char *name;
     int file;
@@ -108,7 +110,7 @@ static struct options options_of(int count, char **words) {
         read_option(&read, name, value_of(usage, count, words, &i));
     }
     if (read.session[0] == 0 || read.lines[0].sin_family == 0 || read.lines[1].sin_family == 0 ||
-        read.bind.sin_family == 0 || read.journal == NULL)
+        read.bind.sin_family == 0)
         fail_usage(usage, "exchange", "a required option is missing");
     return read;
 }
@@ -136,6 +138,8 @@ static void commit(struct exchange *exchange) {
     struct journal *journal = &exchange->journal;
     uint64_t from = journal->messages + 1;
     size_t size = 0;
+    if (journal->name == NULL)
+        return;
     if (mold_journal_records(&exchange->publisher, from, journal->records, journal->room, &size) == MOLD_E_ROOM) {
         free(journal->records);
         journal->room = 2 * size;
@@ -164,23 +168,20 @@ static int open_file(const char *name, int flags) {
 
 /* Makes the name of a new file durable. */
 static void sync_folder(const char *name) {
-    char folder[4096];
-    const char *slash = strrchr(name, '/');
-    int length = slash == NULL ? 0 : (int)(slash - name) + 1;
-    int size = snprintf(folder, sizeof folder, "%.*s.", length, name);
-    int made = size < (int)sizeof folder ? open(folder, O_RDONLY | O_DIRECTORY | O_CLOEXEC) : -1;
-    if (made < 0 || fsync(made) != 0)
+    char copy[PATH_MAX];
+    snprintf(copy, sizeof copy, "%s", name);
+    int folder = open(dirname(copy), O_RDONLY | O_DIRECTORY | O_CLOEXEC);
+    if (folder < 0 || fsync(folder) != 0)
         fail(name, strerror(errno));
-    close(made);
+    close(folder);
 }
 
-/* Makes a publisher and its file. The file gets its name when it is on disk. */
+/* Makes the file of a new publisher. It gets its name when it is on disk. */
 static void create_journal(struct exchange *exchange) {
     struct journal *journal = &exchange->journal;
     uint8_t head[JOURNAL_HEAD];
-    char name[4096];
+    char name[PATH_MAX];
     size_t size = 0;
-    need("publisher", mold_publisher_new(&exchange->publisher, exchange->options.session, exchange->options.limit));
     need("head", mold_journal_head(&exchange->publisher, head, sizeof head, &size));
     if (snprintf(name, sizeof name, "%s.new", journal->name) >= (int)sizeof name)
         fail(journal->name, "the name is too long");
@@ -224,14 +225,18 @@ static void resume_journal(struct exchange *exchange) {
     exchange->messages = journal->messages = packet.sequence - 1;
 }
 
-static void open_journal(struct exchange *exchange) {
+/* Makes the publisher: of a new session, or of the journal file if it exists. */
+static void open_publisher(struct exchange *exchange) {
     struct journal *journal = &exchange->journal;
     journal->name = exchange->options.journal;
-    journal->file = open_file(journal->name, 0);
-    if (journal->file < 0)
-        create_journal(exchange);
-    else
+    journal->file = journal->name == NULL ? -1 : open_file(journal->name, 0);
+    if (journal->file >= 0) {
         resume_journal(exchange);
+        return;
+    }
+    need("publisher", mold_publisher_new(&exchange->publisher, exchange->options.session, exchange->options.limit));
+    if (journal->name != NULL)
+        create_journal(exchange);
 }
 
 /* ---- Sending ---- */
@@ -392,7 +397,7 @@ static void turn(struct exchange *exchange) {
 
 static void open_exchange(struct exchange *exchange) {
     struct in_addr interface;
-    open_journal(exchange);
+    open_publisher(exchange);
     need("server", mold_server_from_publisher(&exchange->publisher, exchange->options.burst));
     exchange->out = open_socket();
     exchange->requests = open_line(&exchange->options.bind, "0.0.0.0");
@@ -414,7 +419,8 @@ int main(int count, char **words) {
     printf("published %llu datagrams %llu requests %llu failed %llu\n", (unsigned long long)exchange.messages,
            (unsigned long long)exchange.datagrams, (unsigned long long)exchange.responded,
            (unsigned long long)exchange.failed);
-    close(exchange.journal.file);
+    if (exchange.journal.file >= 0)
+        close(exchange.journal.file);
     close(exchange.out);
     close(exchange.requests);
     free(exchange.journal.records);
