@@ -632,9 +632,12 @@ uint32_t mold_publisher_save(const mold_publisher *publisher, uint8_t *buffer, s
  *   3. Write buffer[0] at the offset `at`. Sync the file. Now all messages are durable, and may be sent.
  *   4. Add size - 1 to `at`.
  *
- * A crash at any moment leaves a file that has all messages of the commit or none of them. Then mold_publisher_resume
- * continues the session. If a write or a sync fails, send none of these messages, and do not write to the file again:
- * the system may have lost what it wrote. */
+ * A crash at any moment leaves a file that has all messages of the commit or none of them. To continue the session,
+ * read all bytes of the file, sync the file and its folder, and then call mold_publisher_resume. Without the sync, the
+ * last messages that were read may not be on the disk.
+ *
+ * If a write or a sync fails, send none of the messages, and do not write to the file again: the system may have lost
+ * what it wrote. docs/DURABILITY.md states what to do then. */
 
 /* Writes the file of the publisher's session without messages to the start of a buffer. *size is its length, 19 bytes.
  *
@@ -645,7 +648,7 @@ uint32_t mold_journal_head(const mold_publisher *publisher, uint8_t *buffer, siz
 /* Writes the records of the messages from number `from` on to the start of a buffer, and what follows them: a shut
  * gate, or the closing record if the session is closed. *size is the number of bytes: for each message 4 bytes and the
  * message's bytes, and then 1 byte, or 3 if the session is closed. `from` is 1 to the number of the next message, which
- * has no record.
+ * has no record. The time depends only on the messages from `from` on.
  *
  *   MOLD_E_BROKEN  the handle does not hold a publisher.
  *   MOLD_E_ABSENT  from is 0, or above the number of the next message; *size is 0.

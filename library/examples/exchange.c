@@ -9,17 +9,22 @@
  * Then it sends four end packets a second, until no request has arrived for the time of --linger. `./exchange --help`
  * lists the options and their defaults.
  *
- * The journal is saved after every N messages of --save, and at the end. The first save writes a new file, which then
- * replaces an old file of that name. A later save only adds the messages that are new. The function save_journal states
- * what a crash leaves.
+ * With --journal, messages are durable in a journal file before they are sent. If the file exists, the program
+ * continues its session: the input has the messages that follow. So the program may be killed at any moment, and
+ * started again with the rest of the input. `mold dump --journal FILE` prints the messages that the file has.
  *
  * The last line is `published MESSAGES datagrams D requests R failed F`. D counts data packets, R the requests that got
  * a response, and F the sends and receives that failed. A refused input line is reported on standard error, and the
  * session goes on. The status is 0, or 2 if an input line was refused, or 3 after any other error. */
 #include "udp.h"
 
+#include <libgen.h>
+#include <limits.h>
+#include <sys/file.h>
+#include <sys/stat.h>
+
 static const char usage[] =
-    "usage: exchange --session SESSION --a ADDRESS --b ADDRESS --bind ADDRESS --journal FILE [OPTION VALUE]..\n"
+    "usage: exchange --session SESSION --a ADDRESS --b ADDRESS --bind ADDRESS [OPTION VALUE]..\n"
     "\n"
     "Publishes lines of hexadecimal digits as messages, and responds to requests.\n"
     "\n"
@@ -27,17 +32,14 @@ static const char usage[] =
     "  --a ADDRESS          the address of line A, such as 239.192.1.1:26477\n"
     "  --b ADDRESS          the address of line B\n"
     "  --bind ADDRESS       the address at which requests arrive\n"
-    "  --journal FILE       the file of the journal\n"
+    "  --journal FILE       the file that keeps the messages, and is continued if it exists (none)\n"
     "  --limit L            the limit of a datagram, in bytes (1400)\n"
     "  --burst B            the greatest number of responses to a request (4)\n"
-    "  --save N             save the journal after every N messages (100000)\n"
     "  --linger MS          after the end of the input, the time without a request after which it ends (2000)\n"
     "  --interface ADDRESS  the interface on which it sends to multicast groups (chosen by the system)\n"
     "  --help               print this text\n";
 
-/* The sizes of the header of a packet and of a journal, and where a journal's header has the flag and the number of
- * messages. The flag is 1 if the session is closed. */
-enum { INPUT = 1 << 16, LONGEST = 1 << 18, PACKET_HEADER = 20, JOURNAL_HEADER = 27, FLAG = 18, COUNT = 19 };
+enum { INPUT = 1 << 16, LONGEST = 1 << 18, JOURNAL_HEAD = 19 };
 
 struct options {
     uint8_t session[10];
@@ -45,21 +47,17 @@ struct options {
     const char *interface, *journal;
     size_t limit;
     uint16_t burst;
-    uint64_t save;
     uint64_t linger;
 };
 
-/* The journal file, and what the next save adds to it. */
+/* The journal file, its number of messages, and the offset of its shut gate. Without --journal the name is NULL. */
 struct journal {
-    /* The file, or -1 before the first save, and its length. */
+    const char *name;
     int file;
-    uint64_t length;
-    /* The number of messages that the next header states: those that were sent. */
-    uint64_t messages;
-    /* How many of them are not saved, and their message blocks. */
-    uint64_t unsaved;
-    uint8_t *blocks;
-    size_t used, room;
+    uint64_t messages, at;
+    /* What a commit appends. */
+    uint8_t *records;
+    size_t room;
 };
 
 struct exchange {
@@ -95,8 +93,6 @@ static void read_option(struct options *read, const char *name, const char *valu
         read->limit = (size_t)number_of(value, 64, GREATEST);
     else if (strcmp(name, "--burst") == 0)
         read->burst = (uint16_t)number_of(value, 1, 64);
-    else if (strcmp(name, "--save") == 0)
-        read->save = number_of(value, 1, UINT64_MAX);
     else if (strcmp(name, "--linger") == 0)
         read->linger = number_of(value, 0, 86400000) * MILLISECONDS;
     else
@@ -108,45 +104,25 @@ static struct options options_of(int count, char **words) {
     memset(&read, 0, sizeof read);
     read.limit = 1400;
     read.burst = 4;
-    read.save = 100000;
     read.linger = 2000 * MILLISECONDS;
     for (int i = 1; i < count; i++) {
         const char *name = words[i];
         read_option(&read, name, value_of(usage, count, words, &i));
     }
     if (read.session[0] == 0 || read.lines[0].sin_family == 0 || read.lines[1].sin_family == 0 ||
-        read.bind.sin_family == 0 || read.journal == NULL)
+        read.bind.sin_family == 0)
         fail_usage(usage, "exchange", "a required option is missing");
     return read;
 }
 
 /* ---- The journal ---- */
 
-/* Keeps the messages of a data packet for the next save. A journal has the same message blocks as the packets. */
-static void keep_messages(struct journal *journal, const uint8_t *packet, size_t size) {
-    size_t length = size - PACKET_HEADER;
-    if (length > journal->room - journal->used) {
-        size_t room = 2 * journal->room + length;
-        uint8_t *blocks = realloc(journal->blocks, room);
-        if (blocks == NULL)
-            fail("journal", "out of memory");
-        journal->blocks = blocks;
-        journal->room = room;
-    }
-    memcpy(journal->blocks + journal->used, packet + PACKET_HEADER, length);
-    journal->used += length;
-    uint64_t count = (uint64_t)packet[18] << 8 | packet[19];
-    journal->messages += count;
-    journal->unsaved += count;
-}
-
 /* Writes bytes at an offset of the file, and waits until they are on disk. */
-static void write_at(const struct journal *journal, const char *name, const uint8_t *bytes, size_t length,
-                     uint64_t offset) {
+static void write_at(const struct journal *journal, const uint8_t *bytes, size_t length, uint64_t offset) {
     while (length > 0) {
         ssize_t written = pwrite(journal->file, bytes, length, (off_t)offset);
         if (written < 0 && errno != EINTR)
-            fail(name, strerror(errno));
+            fail(journal->name, strerror(errno));
         if (written > 0) {
             bytes += written;
             length -= (size_t)written;
@@ -154,61 +130,113 @@ static void write_at(const struct journal *journal, const char *name, const uint
         }
     }
     if (fdatasync(journal->file) != 0)
-        fail(name, strerror(errno));
+        fail(journal->name, strerror(errno));
 }
 
-/* The header of a journal file of version 2. */
-static void put_header(uint8_t header[JOURNAL_HEADER], const struct exchange *exchange) {
-    memcpy(header, "MOLDJNL2", 8);
-    memcpy(header + 8, exchange->options.session, 10);
-    header[FLAG] = exchange->ended;
-    for (int i = 0; i < 8; i++)
-        header[COUNT + i] = (uint8_t)(exchange->journal.messages >> (56 - 8 * i));
-}
-
-/* Writes a new file. When its bytes are on disk, it replaces the old file. */
-static void save_first(struct exchange *exchange) {
+/* Makes all published messages durable, and the end of the session if it is closed. mold.h explains the order. */
+static void commit(struct exchange *exchange) {
     struct journal *journal = &exchange->journal;
-    uint8_t header[JOURNAL_HEADER];
-    char name[4096];
-    int size = snprintf(name, sizeof name, "%s.new", exchange->options.journal);
-    if (size < 0 || (size_t)size >= sizeof name)
-        fail(exchange->options.journal, "the name is too long");
-    journal->file = open(name, O_WRONLY | O_CREAT | O_TRUNC | O_CLOEXEC, 0666);
-    if (journal->file < 0)
-        fail(name, strerror(errno));
-    put_header(header, exchange);
-    write_at(journal, name, header, sizeof header, 0);
-    write_at(journal, name, journal->blocks, journal->used, sizeof header);
-    if (rename(name, exchange->options.journal) != 0)
-        fail(exchange->options.journal, strerror(errno));
-    journal->length = sizeof header;
-}
-
-/* Adds the new messages to the file. The time depends on their bytes alone. Nothing is sent meanwhile.
- *
- * The new blocks are on disk before the header states them. So `mold dump` and `mold serve` can read the file after
- * each save. This is what a crash leaves:
- *
- *   before the end of the first save  the old file, if there was one
- *   between two saves                 the journal as it was last saved
- *   during a later save               that journal, or the new one, or more messages than the header states, of which
- *                                     the last may be cut. `mold serve` refuses such a file. `mold dump` prints all
- *                                     whole messages, and then the refusal. */
-static void save_journal(struct exchange *exchange) {
-    struct journal *journal = &exchange->journal;
-    const char *name = exchange->options.journal;
-    uint8_t header[JOURNAL_HEADER];
-    if (journal->file < 0)
-        save_first(exchange);
-    else {
-        put_header(header, exchange);
-        write_at(journal, name, journal->blocks, journal->used, journal->length);
-        write_at(journal, name, header + FLAG, JOURNAL_HEADER - FLAG, FLAG);
+    uint64_t from = journal->messages + 1;
+    size_t size = 0;
+    if (journal->name == NULL)
+        return;
+    if (mold_journal_records(&exchange->publisher, from, journal->records, journal->room, &size) == MOLD_E_ROOM) {
+        free(journal->records);
+        journal->room = 2 * size;
+        journal->records = malloc(journal->room);
+        if (journal->records == NULL)
+            fail(journal->name, "out of memory");
+        need("records", mold_journal_records(&exchange->publisher, from, journal->records, journal->room, &size));
     }
-    journal->length += journal->used;
-    journal->used = 0;
-    journal->unsaved = 0;
+    write_at(journal, journal->records + 1, size - 1, journal->at + 1);
+    write_at(journal, journal->records, 1, journal->at);
+    journal->at += size - 1;
+    journal->messages = exchange->messages;
+}
+
+/* Opens a file and locks it. Returns -1 if there is no such file. */
+static int open_file(const char *name, int flags) {
+    int file = open(name, flags | O_RDWR | O_CLOEXEC, 0666);
+    if (file < 0 && errno == ENOENT)
+        return -1;
+    if (file < 0)
+        fail(name, strerror(errno));
+    if (flock(file, LOCK_EX | LOCK_NB) != 0)
+        fail(name, "another process has locked it");
+    return file;
+}
+
+/* Makes the name of a new file durable. */
+static void sync_folder(const char *name) {
+    char copy[PATH_MAX];
+    snprintf(copy, sizeof copy, "%s", name);
+    int folder = open(dirname(copy), O_RDONLY | O_DIRECTORY | O_CLOEXEC);
+    if (folder < 0 || fsync(folder) != 0)
+        fail(name, strerror(errno));
+    close(folder);
+}
+
+/* Makes the file of a new publisher. It gets its name when it is on disk. */
+static void create_journal(struct exchange *exchange) {
+    struct journal *journal = &exchange->journal;
+    uint8_t head[JOURNAL_HEAD];
+    char name[PATH_MAX];
+    size_t size = 0;
+    need("head", mold_journal_head(&exchange->publisher, head, sizeof head, &size));
+    if (snprintf(name, sizeof name, "%s.new", journal->name) >= (int)sizeof name)
+        fail(journal->name, "the name is too long");
+    journal->file = open_file(name, O_CREAT);
+    if (ftruncate(journal->file, 0) != 0)
+        fail(name, strerror(errno));
+    write_at(journal, head, size, 0);
+    journal->at = size - 1;
+    if (rename(name, journal->name) != 0)
+        fail(journal->name, strerror(errno));
+    sync_folder(journal->name);
+}
+
+/* Makes a publisher that continues the session of the file. What was read is on disk before it is used. */
+static void resume_journal(struct exchange *exchange) {
+    struct journal *journal = &exchange->journal;
+    struct stat stated;
+    size_t had = 0, size = 0;
+    if (fstat(journal->file, &stated) != 0)
+        fail(journal->name, strerror(errno));
+    uint8_t *bytes = malloc((size_t)stated.st_size + 1);
+    if (bytes == NULL)
+        fail(journal->name, "out of memory");
+    for (ssize_t came = 1; came > 0; had += (size_t)came) {
+        came = pread(journal->file, bytes + had, (size_t)stated.st_size - had, (off_t)had);
+        if (came < 0)
+            fail(journal->name, strerror(errno));
+    }
+    if (fdatasync(journal->file) != 0)
+        fail(journal->name, strerror(errno));
+    sync_folder(journal->name);
+    need(journal->name, mold_publisher_resume(&exchange->publisher, exchange->options.limit, bytes, had, &journal->at));
+    free(bytes);
+    exchange->ended = mold_publisher_end(&exchange->publisher, datagram, sizeof datagram, &size) == MOLD_DONE;
+    if (!exchange->ended)
+        need("heartbeat", mold_publisher_heartbeat(&exchange->publisher, datagram, sizeof datagram, &size));
+    mold_packet packet;
+    need("packet", mold_decode(datagram, size, &packet));
+    if (memcmp(packet.session, exchange->options.session, sizeof packet.session) != 0)
+        fail(journal->name, "another session");
+    exchange->messages = journal->messages = packet.sequence - 1;
+}
+
+/* Makes the publisher: of a new session, or of the journal file if it exists. */
+static void open_publisher(struct exchange *exchange) {
+    struct journal *journal = &exchange->journal;
+    journal->name = exchange->options.journal;
+    journal->file = journal->name == NULL ? -1 : open_file(journal->name, 0);
+    if (journal->file >= 0) {
+        resume_journal(exchange);
+        return;
+    }
+    need("publisher", mold_publisher_new(&exchange->publisher, exchange->options.session, exchange->options.limit));
+    if (journal->name != NULL)
+        create_journal(exchange);
 }
 
 /* ---- Sending ---- */
@@ -225,12 +253,10 @@ static void send_on_lines(struct exchange *exchange, size_t size) {
     exchange->last_sent = now();
 }
 
-/* Sends unsent messages: all of them, or, if `all` is false, only while they do not all fit in one datagram. */
-static void send_messages(struct exchange *exchange, bool all) {
+/* Sends all unsent messages, which are durable. */
+static void send_messages(struct exchange *exchange) {
     size_t size = 0;
-    while ((all || mold_publisher_is_full(&exchange->publisher)) &&
-           mold_publisher_datagram(&exchange->publisher, datagram, sizeof datagram, &size) == MOLD_DONE) {
-        keep_messages(&exchange->journal, datagram, size);
+    while (mold_publisher_datagram(&exchange->publisher, datagram, sizeof datagram, &size) == MOLD_DONE) {
         send_on_lines(exchange, size);
         exchange->datagrams++;
     }
@@ -289,7 +315,6 @@ static void publish_line(struct exchange *exchange) {
         return;
     }
     exchange->messages = number;
-    send_messages(exchange, false);
 }
 
 /* Publishes what was read from standard input. At the end of the input it closes the session. */
@@ -309,11 +334,12 @@ static void read_input(struct exchange *exchange) {
     }
     if (came == 0 && line_length > 0)
         publish_line(exchange);
-    send_messages(exchange, true);
-    if (exchange->journal.unsaved >= exchange->options.save)
-        save_journal(exchange);
+    if (exchange->messages > exchange->journal.messages)
+        commit(exchange);
+    send_messages(exchange);
     if (came == 0) {
         need("close", mold_publisher_close(&exchange->publisher, &unsent));
+        commit(exchange);
         exchange->ended = true;
         exchange->last_asked = now();
         send_heartbeat(exchange);
@@ -371,9 +397,8 @@ static void turn(struct exchange *exchange) {
 
 static void open_exchange(struct exchange *exchange) {
     struct in_addr interface;
-    need("publisher", mold_publisher_new(&exchange->publisher, exchange->options.session, exchange->options.limit));
+    open_publisher(exchange);
     need("server", mold_server_from_publisher(&exchange->publisher, exchange->options.burst));
-    exchange->journal.file = -1;
     exchange->out = open_socket();
     exchange->requests = open_line(&exchange->options.bind, "0.0.0.0");
     if (exchange->options.interface != NULL) {
@@ -382,7 +407,7 @@ static void open_exchange(struct exchange *exchange) {
         if (setsockopt(exchange->out, IPPROTO_IP, IP_MULTICAST_IF, &interface, sizeof interface) != 0)
             fail("IP_MULTICAST_IF", strerror(errno));
     }
-    exchange->last_sent = now();
+    exchange->last_sent = exchange->last_asked = now();
 }
 
 int main(int count, char **words) {
@@ -391,14 +416,14 @@ int main(int count, char **words) {
     open_exchange(&exchange);
     while (goes_on(&exchange))
         turn(&exchange);
-    save_journal(&exchange);
     printf("published %llu datagrams %llu requests %llu failed %llu\n", (unsigned long long)exchange.messages,
            (unsigned long long)exchange.datagrams, (unsigned long long)exchange.responded,
            (unsigned long long)exchange.failed);
-    close(exchange.journal.file);
+    if (exchange.journal.file >= 0)
+        close(exchange.journal.file);
     close(exchange.out);
     close(exchange.requests);
-    free(exchange.journal.blocks);
+    free(exchange.journal.records);
     mold_free(&exchange.publisher);
     return fflush(stdout) != 0 ? 3 : exchange.refused ? 2 : 0;
 }

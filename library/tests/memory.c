@@ -174,6 +174,35 @@ static void count_server(size_t length) {
     print("server", length, found);
 }
 
+/* The file of a journal of version 3. */
+static datagram records_of(size_t count, size_t length) {
+    datagram made = of_length(18 + count * (4 + length) + 1);
+    memcpy(made.at, "MOLDJNL3" SESSION, 18);
+    for (size_t i = 0; i < count; i++) {
+        uint8_t *record = made.at + 18 + i * (4 + length);
+        record[0] = 1;
+        put_number(record + 2, length, 2);
+    }
+    return made;
+}
+
+/* A publisher that continues the session of a file. Besides: the limit. */
+static void count_resumed(size_t length) {
+    seen found = {0, 0};
+    for (size_t count = 1; count <= count_of(length); count += count / 16 + 1) {
+        mold_publisher publisher = MOLD_EMPTY;
+        datagram file = records_of(count, length);
+        uint64_t number = 0;
+        most = 0;
+        CODE(mold_publisher_resume(&publisher, 1500, file.at, file.length, &number), MOLD_DONE);
+        measure(&found, count * (length + publisher_message), 1500);
+        mold_free(&publisher);
+        free(file.at);
+        CHECK(number == file.length - 1 && held == 0);
+    }
+    print("publisher", length, found);
+}
+
 /* Besides: the bytes for each run. Datagrams that descend are one run each, and others extend the only run. Message 1 has
  * another length, so each message after it takes bytes for its end. */
 static void count_checker(size_t length, uint16_t at_once, bool descends) {
@@ -278,6 +307,7 @@ int main(int count, char **words) {
             count_checker(length, at_once[k], true);
         }
         count_server(length);
+        count_resumed(length);
     }
     count_repairer();
     count_ranges();

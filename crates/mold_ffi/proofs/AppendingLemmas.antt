@@ -1,6 +1,7 @@
 -- A file to which records are appended.
-use Rattle.std.proofs.Common.{◌≡◌, ℕ, suc, ◌+◌, ◌-◌, ◌<◌, ◌≤◌, Bool, true, false, List, [], ◌∷◌, ◌++◌, length, take, drop}
-use Rattle.std.proofs.Common.{refl, sym, ap, ◌∙◌, append_assoc, length-append, length-drop, length-take, take-append-drop, arith}
+use Rattle.std.proofs.Common.{◌≡◌, ℕ, suc, ◌+◌, ◌-◌, ◌<◌, ◌≤◌, Bool, true, false, List, [], ◌∷◌, ◌++◌, length, take}
+use Rattle.std.proofs.Common.{drop, refl, sym, ap, ◌∙◌, append_assoc, length-append, length-drop, length-take}
+use Rattle.std.proofs.Common.{take-append-drop, arith}
 use Rattle.std.specs.List.{AllByRecursion}
 use Rattle.std.proofs.lemmas.List.{take_at, drop_at}
 use Rattle.mold_wire.specs.declared.session.Session.{Session}
@@ -78,10 +79,36 @@ waiting_spelled session messages file more spelled =
       rest = gate ∷ more;
       spelled =
           ap (λ (t : List ℕ). take (end_offset messages + 1) t ++ more) parts
-          ∙ ap (λ (t : List ℕ). t ++ more) (take_at (front ++ gate ∷ []) spelled.ends.rest (end_offset messages + 1) long)
+          ∙ ap (λ (t : List ℕ). t ++ more)
+          (take_at (front ++ gate ∷ []) spelled.ends.rest (end_offset messages + 1) long)
           ∙ append_assoc front (gate ∷ []) more
           ∙ append_assoc (head_3 session.0) (records messages) (gate ∷ more);
       ends = record { gate = gate; rest = more; shut = spelled.ends.shut; parts = refl };
+    }
+
+-- The gate may have any value other than 1.
+pub torn_spelled :
+    (session : Session) (messages : List (List ℕ)) (file more : List ℕ) (gate : ℕ) → (gate ≡ 1 → ⊥) →
+    SpellsJournal3 session messages false file →
+    SpellsJournal3 session messages false (take (end_offset messages) file ++ gate ∷ more)
+unfolding before_end
+torn_spelled session messages file more gate shut spelled =
+    let front = before_end session messages in
+    let parts : file ≡ front ++ spelled.rest =
+    spelled.spelled ∙ sym (append_assoc (head_3 session.0) (records messages) spelled.rest)
+    in
+    let start : take (end_offset messages) file ≡ front =
+    ap (take (end_offset messages)) parts
+    ∙ take_at front spelled.rest (end_offset messages) (before_long session messages spelled.named)
+    in
+    record {
+      named = spelled.named;
+      listed = spelled.listed;
+      rest = gate ∷ more;
+      spelled =
+          ap (λ (t : List ℕ). t ++ gate ∷ more) start
+          ∙ append_assoc (head_3 session.0) (records messages) (gate ∷ more);
+      ends = record { gate = gate; rest = more; shut = shut; parts = refl };
     }
 
 end_ends : (closed : Bool) (more : List ℕ) → EndsRecords closed (records_end closed ++ more)
@@ -117,15 +144,18 @@ grown_spelled journal from file is bound spelled =
           ap (λ (t : List ℕ). t ++ (records_from journal from ++ after)) start
           ∙ append_assoc (head_3 journal.session.0) (records had) ((records more ++ end) ++ after)
           ∙ ap (λ (t : List ℕ). head_3 journal.session.0 ++ (records had ++ t)) (append_assoc (records more) end after)
-          ∙ ap (λ (t : List ℕ). head_3 journal.session.0 ++ t) (sym (append_assoc (records had) (records more) (end ++ after)))
-          ∙ ap (λ (t : List ℕ). head_3 journal.session.0 ++ (t ++ (end ++ after))) (sym (parted count journal.messages));
+          ∙ ap (λ (t : List ℕ). head_3 journal.session.0 ++ t)
+          (sym (append_assoc (records had) (records more) (end ++ after)))
+          ∙ ap (λ (t : List ℕ). head_3 journal.session.0 ++ (t ++ (end ++ after)))
+          (sym (parted count journal.messages));
       ends = end_ends journal.closed after;
     }
 
 -- The gate is written after the bytes that follow it.
 gate_last :
     (front rest text : List ℕ) (old gate at : ℕ) → length front ≡ at →
-    written_at at (gate ∷ []) (written_at (at + 1) text (front ++ old ∷ rest)) ≡ written_at at (gate ∷ text) (front ++ old ∷ rest)
+    written_at at (gate ∷ []) (written_at (at + 1) text (front ++ old ∷ rest))
+    ≡ written_at at (gate ∷ text) (front ++ old ∷ rest)
 gate_last front rest text old gate at long =
     let file = front ++ old ∷ rest in
     let split : file ≡ (front ++ old ∷ []) ++ rest = sym (append_assoc front (old ∷ []) rest) in
@@ -144,7 +174,8 @@ gate_last front rest text old gate at long =
     (take_at front (old ∷ (text ++ after)) at long)
     ∙ ap (λ (t : List ℕ). front ++ gate ∷ drop 1 t) (drop_at front (old ∷ (text ++ after)) at long)
     ∙ ap (λ (t : List ℕ). t ++ gate ∷ (text ++ after)) (sym (take_at front (old ∷ rest) at long))
-    ∙ ap (λ (t : List ℕ). take at file ++ gate ∷ (text ++ drop (suc (length text)) t)) (sym (drop_at front (old ∷ rest) at long))
+    ∙ ap (λ (t : List ℕ). take at file ++ gate ∷ (text ++ drop (suc (length text)) t))
+    (sym (drop_at front (old ∷ rest) at long))
 
 cut_at :
     (file rest text : List ℕ) (at : ℕ) → at < length file → drop at file ≡ rest → 1 ≤ length text →

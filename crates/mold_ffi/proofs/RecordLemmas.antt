@@ -1,6 +1,7 @@
 -- Records that are written to the start of a buffer.
 use Rattle.std.proofs.Common.{◌≡◌, ℕ, zero, suc, ◌+◌, ◌-◌, ◌*◌, ◌≤◌, ◌^◌, min, List, [], ◌∷◌, ◌++◌, length, take, drop}
-use Rattle.std.proofs.Common.{None, Some, slice_get, inl, inr, refl, sym, ap, subst, ◌∙◌, append_assoc, length-append, arith}
+use Rattle.std.proofs.Common.{None, Some, slice_get, inl, inr, refl, sym, ap, subst, ◌∙◌, append_assoc}
+use Rattle.std.proofs.Common.{length-append, arith}
 use Rattle.std.specs.List.{AllByRecursion}
 use Rattle.std.proofs.Math.Seq.{drop-cons}
 use Rattle.std.proofs.lemmas.List.{drop_all, append-nil}
@@ -169,17 +170,20 @@ fills_all old new all left used none fills =
 
 -- The two parts of a head over zeros, one after the other, and a shut gate.
 pub empty_put :
-    (zeros mid bytes magic name : List ℕ) → zeros ≡ 0 ∷ 0 ∷ 0 ∷ 0 ∷ 0 ∷ 0 ∷ 0 ∷ 0 ∷ 0 ∷ 0 ∷ 0 ∷ 0 ∷ 0 ∷ 0 ∷ 0 ∷ 0 ∷ 0 ∷ 0 ∷ 0 ∷ [] →
-    magic ≡ magic_3 → length name ≡ 10 →
+    (zeros mid bytes magic name : List ℕ) →
+    zeros ≡ 0 ∷ 0 ∷ 0 ∷ 0 ∷ 0 ∷ 0 ∷ 0 ∷ 0 ∷ 0 ∷ 0 ∷ 0 ∷ 0 ∷ 0 ∷ 0 ∷ 0 ∷ 0 ∷ 0 ∷ 0 ∷ 0 ∷ [] → magic ≡ magic_3 → length name ≡ 10 →
     mid ≡ take 0 zeros ++ (magic ++ drop (length magic) (drop 0 zeros)) →
     bytes ≡ take 8 mid ++ (name ++ drop (length name) (drop 8 mid)) → bytes ≡ head_3 name ++ 0 ∷ []
 empty_put zeros mid bytes magic name are is named first second =
     let one : Puts zeros mid magic (0 + length magic) = puts_more zeros zeros mid [] magic 0 (puts_none zeros) first in
     let eight : 0 + length magic ≡ 8 = omega (arith, length-magic_3, ap (λ (t : List ℕ). length t) is) in
     let half : Puts zeros mid magic_3 8 =
-    subst (λ (n : ℕ). Puts zeros mid magic_3 n) eight (subst (λ (t : List ℕ). Puts zeros mid t (0 + length magic)) is one)
+    subst (λ (n : ℕ). Puts zeros mid magic_3 n) eight
+    (subst (λ (t : List ℕ). Puts zeros mid t (0 + length magic)) is one)
     in
-    let two : Puts zeros bytes (magic_3 ++ name) (8 + length name) = puts_more zeros mid bytes magic_3 name 8 half second in
+    let two : Puts zeros bytes (magic_3 ++ name) (8 + length name) =
+    puts_more zeros mid bytes magic_3 name 8 half second
+    in
     let long : 8 + length name ≡ 18 = omega (arith, named) in
     two.put
     ∙ ap (λ (n : ℕ). (magic_3 ++ name) ++ drop n zeros) long
@@ -188,7 +192,8 @@ empty_put zeros mid bytes magic name are is named first second =
 -- ---- the offset of the end
 
 -- A record takes two bytes more than a block.
-pub records_long : (messages : List (List ℕ)) → length (records messages) + 27 ≡ file_length messages + 2 * length messages
+pub records_long : (messages : List (List ℕ)) →
+    length (records messages) + 27 ≡ file_length messages + 2 * length messages
 records_long [] = refl
 records_long (message ∷ messages) =
     omega (

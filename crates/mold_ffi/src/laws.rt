@@ -68,14 +68,17 @@ pub fn places_law()
 /// How a program keeps a journal in a file of version 3, in the order that `mold.h` states.
 ///
 /// The bytes of `mold_journal_head` are the file of a session without messages. Bytes after the shut gate do not change
-/// which journal a file is. After the bytes of `mold_journal_records` are written at the offset of the shut gate, the
-/// file is the journal with all messages. The first of these bytes may be written after the others. If the session is
-/// open, the last of them is the next shut gate.
+/// which journal a file is, nor does a gate of another value, unless the value is 1. After the bytes of
+/// `mold_journal_records` are written at the offset of the shut gate, the file is the journal with all messages. The
+/// first of these bytes may be written after the others. If the session is open, the last of them is the next shut gate.
 pub fn appending_law()
     ensures empty { (session : Session) → length session.0 ≡ 10 → SpellsJournal3 session [] false (empty_file session) }
     ensures waiting { (session : Session) (messages : List (List ℕ)) (file more : List ℕ) →
         SpellsJournal3 session messages false file →
         SpellsJournal3 session messages false (take (end_offset messages + 1) file ++ more) }
+    ensures torn { (session : Session) (messages : List (List ℕ)) (file more : List ℕ) (gate : ℕ) → ¬ (gate ≡ 1) →
+        SpellsJournal3 session messages false file →
+        SpellsJournal3 session messages false (take (end_offset messages) file ++ gate ∷ more) }
     ensures order { (at : ℕ) (text file : List ℕ) → at < length file → 1 ≤ length text →
         written_at at (take 1 text) (written_at (at + 1) (drop 1 text) file) ≡ written_at at text file }
     ensures grown { (journal : JournalState) (from : ℕ) (file : List ℕ) → IsJournal journal →

@@ -1,5 +1,6 @@
 use Rattle.std.proofs.Common.{◌+◌, ◌-◌, List, ℕ, length, drop, ap, arith}
-use Rattle.mold_ffi.proofs.RecordLemmas.{fills_all, fills_more, fills_room, found_at, found_short, found_within, none_at}
+use Rattle.mold_ffi.proofs.RecordLemmas.{fills_all, fills_more, fills_room, found_at, found_short, found_within}
+use Rattle.mold_ffi.proofs.RecordLemmas.{none_at}
 use Rattle.mold_ffi.proofs.publisher.records.put_records.Goals as goal
 
 pub returns-in_default : goal.returns-in_default
