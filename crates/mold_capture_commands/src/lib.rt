@@ -28,4 +28,4 @@ pub use counts::CaptureCounts;
 pub use filter::CaptureFilter;
 pub use found::Found;
 pub use sessions::Sessions;
-pub use watch::{NoWatch, Watch};
+pub use watch::Watch;

@@ -8,12 +8,3 @@ pub trait Watch {
     /// they are there.
     fn watch(&mut self, bytes: u64, datagrams: u64);
 }
-
-/// A `Watch` that does nothing.
-#[derive(Clone, Copy, Debug, PartialEq, Eq)]
-pub struct NoWatch;
-
-impl Watch for NoWatch {
-    #[inline(always)]
-    fn watch(&mut self, _bytes: u64, _datagrams: u64) {}
-}
