@@ -684,8 +684,8 @@ typedef struct mold_plan {
 } mold_plan;
 
 /* Lets the publisher respond to requests too. A request gets at most `burst` responses, each of at most as many bytes as
- * the publisher's limit. The calls below then also accept the publisher's handle, as mold_server_of(&publisher). They
- * respond only with messages that mold_publisher_datagram has written, so no client gets an unsent message.
+ * the publisher's limit. The calls below then also accept the publisher's handle, as mold_server_of(&publisher). No
+ * response has an unsent message.
  *
  *   MOLD_E_BROKEN  the handle does not hold a publisher, or the publisher responds to requests already.
  *   MOLD_E_BURST   burst is not 1 to 64.
@@ -732,8 +732,7 @@ uint32_t mold_server_new(mold_server *server, size_t limit, uint16_t burst, cons
  *   MOLD_E_SEQUENCE_ZERO   its sequence number is 0.
  *   MOLD_E_EMPTY_REQUEST   its count is 0.
  *   MOLD_E_AHEAD           its sequence number is at least *number, one more than that of the last message. For a
- *                          publisher's handle, the last message is the last that mold_publisher_datagram has written.
- *                          So *number is that of the first unsent message. */
+ *                          publisher's handle, the last message is the last sent one. */
 uint32_t mold_server_answer(const mold_server *server, const uint8_t *request, size_t length, uint8_t *buffer,
                             size_t room, uint64_t *number);
 

@@ -126,6 +126,7 @@ class Publisher(Responder):
     def serve(self, burst: int = BURST) -> None:
         """Lets the publisher respond to requests too, each with at most `burst` datagrams.
 
+        No response has an unsent message.
         Raises MoldError with the code BURST if the burst is not 1 to 64, and BROKEN if it responds already.
         """
         check(library.mold_server_from_publisher(self._open(), unsigned(burst, 16, "burst")))

@@ -189,8 +189,8 @@ impl Publisher {
         written_if_present(code, size, buffer)
     }
 
-    /// Lets the publisher respond to requests too, from its journal, through [`server`](Self::server). A request gets
-    /// at most `burst` responses, each of at most as many bytes as the publisher's limit.
+    /// Lets the publisher respond to requests too, through [`server`](Self::server). No response has an unsent message.
+    /// A request gets at most `burst` responses, each of at most as many bytes as the publisher's limit.
     ///
     /// # Errors
     ///

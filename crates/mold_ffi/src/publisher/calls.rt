@@ -195,9 +195,9 @@ pub extern "C" fn mold_publisher_save(
     exchange.save(buffer, size)
 }
 
-/// Lets the publisher respond to requests too; its handle is then also that of a server. It responds only with messages
-/// that it put into a datagram. A request gets at most `burst` responses, 1 to 64, each of at most as many bytes as the
-/// publisher's limit. If the publisher has a server already, the code is 6 and nothing changes.
+/// Lets the publisher respond to requests too; its handle is then also that of a server. It responds only with sent
+/// messages. A request gets at most `burst` responses, 1 to 64, each of at most as many bytes as the publisher's limit.
+/// If the publisher has a server already, the code is 6 and nothing changes.
 #[unsafe(no_mangle)]
 pub extern "C" fn mold_server_from_publisher(
     alloc: Global,

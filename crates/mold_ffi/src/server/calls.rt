@@ -70,7 +70,7 @@ pub extern "C" fn mold_server_new(
 /// Writes the first response to a request. The buffer must have at least as many bytes as the limit. `number` is the
 /// response's length, or the limit if the buffer is shorter. If the request is refused, `number` describes the refusal:
 /// it is the request's length, the sequence number of the journal's next message, or 0. A publisher responds only with
-/// messages that it put into a datagram, and the sequence number is that of its first unsent message.
+/// sent messages, and the sequence number is one more than that of the last sent message.
 #[unsafe(no_mangle)]
 pub extern "C" fn mold_server_answer(
     server: &mut MoldHandle,

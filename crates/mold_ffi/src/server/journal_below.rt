@@ -38,7 +38,7 @@ impl<'a> JournalBelow<'a> {
         }
     }
 
-    /// The messages that the publisher put into a datagram.
+    /// The sent messages of the publisher.
     pub(crate) fn sent_by(publisher: &'a Publisher) -> JournalBelow<'a>
         ensures { result ≡ sent_journal publisher.now }
     {
