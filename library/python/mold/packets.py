@@ -5,7 +5,8 @@ import ctypes
 import enum
 from ctypes import byref
 from dataclasses import dataclass
-from typing import Iterable, Iterator, NamedTuple, Tuple, Union
+from functools import partial
+from typing import Callable, Iterable, Iterator, NamedTuple, Tuple, Union
 
 from .errors import check, refusal
 from .native import (LENGTH_BITS, REQUEST_LENGTH, SESSION_LENGTH, Buffer, as_bytes, library, mold_packer, mold_packet,
@@ -27,6 +28,7 @@ class Kind(enum.IntEnum):
 
 
 _KINDS = tuple(Kind)
+_decode = library.mold_decode
 
 
 class Packet(NamedTuple):
@@ -51,6 +53,10 @@ class Packet(NamedTuple):
         return enumerate(self.messages, self.sequence)
 
 
+# Makes a packet of the tuple of its fields. The constructor of a NamedTuple is written in Python, and takes twice as long.
+_packet_of: Callable[[Tuple[bytes, int, Kind, Tuple[bytes, ...]]], Packet] = partial(tuple.__new__, Packet)
+
+
 def _messages(datagram: bytes, count: int) -> Tuple[bytes, ...]:
     """The messages of a datagram that the library has decoded. Their blocks follow the header."""
     messages, at = [], HEADER_LENGTH
@@ -69,10 +75,11 @@ def decode(datagram: Buffer) -> Packet:
     """
     datagram = as_bytes(datagram)
     packet = mold_packet()
-    code = library.mold_decode(datagram, len(datagram), byref(packet))
+    code = _decode(datagram, len(datagram), byref(packet))
     if code:
         raise refusal(code, packet.detail)
-    return Packet(datagram[:SESSION_LENGTH], packet.sequence, _KINDS[packet.kind], _messages(datagram, packet.count))
+    messages = _messages(datagram, packet.count)
+    return _packet_of((datagram[:SESSION_LENGTH], packet.sequence, _KINDS[packet.kind], messages))
 
 
 def encode(session: Union[str, Buffer], sequence: int, messages: Iterable[Buffer] = (),
