@@ -19,7 +19,8 @@ def header():
 
 def declared():
     """The structs that the module declares, each with its name in mold.h."""
-    structs = {name: it for name, it in vars(native).items() if isinstance(it, type) and issubclass(it, ctypes.Structure)}
+    types = {name: it for name, it in vars(native).items() if isinstance(it, type)}
+    structs = {name: it for name, it in types.items() if issubclass(it, ctypes.Structure)}
     handle = structs.pop("mold_handle")
     return [*structs.items(), *((name, handle) for name in sorted(HANDLES))]
 
