@@ -53,7 +53,8 @@ class Packet(NamedTuple):
         return enumerate(self.messages, self.sequence)
 
 
-# Makes a packet of the tuple of its fields. The constructor of a NamedTuple is written in Python, and takes twice as long.
+# Makes a packet of the tuple of its fields. The constructor of a NamedTuple is written in Python, and takes twice as
+# long.
 _packet_of: Callable[[Tuple[bytes, int, Kind, Tuple[bytes, ...]]], Packet] = partial(tuple.__new__, Packet)
 
 

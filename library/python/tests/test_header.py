@@ -8,8 +8,6 @@ from mold import Code, errors, native
 
 HEADER = os.path.join(os.path.dirname(os.path.abspath(__file__)), "..", "..", "mold.h")
 HANDLES = {"mold_listener", "mold_repairer", "mold_publisher", "mold_server", "mold_checker"}
-# Structs of mold.h whose calls the module does not have.
-UNUSED = {"mold_place", "mold_delivery", "mold_told", "mold_heard"}
 SCALARS = {"uint16_t": ctypes.c_uint16, "uint32_t": ctypes.c_uint32, "uint64_t": ctypes.c_uint64,
            "size_t": ctypes.c_size_t, "bool": ctypes.c_bool, "void": None}
 
@@ -17,6 +15,14 @@ SCALARS = {"uint16_t": ctypes.c_uint16, "uint32_t": ctypes.c_uint32, "uint64_t":
 def header():
     with open(HEADER, encoding="utf-8") as file:
         return file.read()
+
+
+def declared():
+    """The structs that the module declares, each with its name in mold.h."""
+    types = {name: it for name, it in vars(native).items() if isinstance(it, type)}
+    structs = {name: it for name, it in types.items() if issubclass(it, ctypes.Structure)}
+    handle = structs.pop("mold_handle")
+    return [*structs.items(), *((name, handle) for name in sorted(HANDLES))]
 
 
 def type_of(parameter):
@@ -31,12 +37,10 @@ def type_of(parameter):
 class Header(unittest.TestCase):
     def test_layouts(self):
         text = header()
-        for name, size in re.findall(r"^MOLD_SIZE_\((\w+), (\d+)\);$", text, re.M):
-            if name in UNUSED:
-                continue
+        sizes = dict(re.findall(r"^MOLD_SIZE_\((\w+), (\d+)\);$", text, re.M))
+        for name, struct in declared():
             with self.subTest(name):
-                struct = native.mold_handle if name in HANDLES else getattr(native, name)
-                self.assertEqual(ctypes.sizeof(struct), int(size))
+                self.assertEqual(ctypes.sizeof(struct), int(sizes[name]))
                 places = re.findall(rf"^MOLD_FIELD_\({name}, (\w+), (\d+)\);$", text, re.M)
                 self.assertEqual([(field, getattr(struct, field).offset) for field, *_ in struct._fields_],
                                  [(field, int(place)) for field, place in places])
