@@ -40,6 +40,8 @@ FOLDERS = {
     "python": ("library/python",),
     "share/doc/mold": ("README.md", "CHANGELOG.md", "docs"),
 }
+# The tests of the bindings need other files of the repository, so they are left out.
+LEFT_OUT = ("library/rust/tests/", "library/python/tests/")
 # The root crates of the program and of the library.
 ROOTS = ("mold_cmd", "mold_ffi")
 # The environment variable that is set while the toolchain and the repository are hidden.
@@ -68,6 +70,12 @@ def run(*command, **how):
                           **how)
     need(done.returncode == 0, f"{' '.join(words)} ended with status {done.returncode}:\n{done.stdout}{done.stderr}")
     return done.stdout
+
+
+def passed_through(given, *command):
+    """The standard output of a program that reads these bytes, or this text."""
+    data = given.encode() if isinstance(given, str) else given
+    return subprocess.run(command, input=data, stdout=subprocess.PIPE, check=True, timeout=PATIENCE).stdout
 
 
 def read(path):
@@ -108,9 +116,9 @@ def proved():
 
 def copy_files(release):
     """Copies the files of FOLDERS that git knows. Each keeps its path below the folder that is listed there."""
-    for target, sources in FOLDERS.items():
-        for source in sources:
-            for path in run("git", "-C", TOP, "ls-files", "--", source).splitlines():
+    for target, source in ((target, source) for target, sources in FOLDERS.items() for source in sources):
+        for path in run("git", "-C", TOP, "ls-files", "--", source).splitlines():
+            if not path.startswith(LEFT_OUT):
                 below = os.path.basename(path) if path == source else os.path.relpath(path, source)
                 made = os.path.join(release, target, below)
                 os.makedirs(os.path.dirname(made), exist_ok=True)
@@ -221,10 +229,8 @@ def no_toolchain(release):
 
 def program(release):
     """`mold` prints a packet, and mold-join becomes `mold`."""
-    heartbeat = "53455353494f4e30303100000000000000010000\n"
-    shown = subprocess.run([f"{release}/bin/mold", "show"], input=heartbeat, stdout=subprocess.PIPE, text=True,
-                           timeout=PATIENCE, check=False)
-    need((shown.returncode, shown.stdout) == (0, "heartbeat 53455353494f4e303031 1\n"), f"mold show printed {shown}")
+    shown = passed_through("53455353494f4e30303100000000000000010000\n", f"{release}/bin/mold", "show")
+    need(shown == b"heartbeat 53455353494f4e303031 1\n", f"mold show printed {shown}")
     joined = run(f"{release}/bin/mold-join", "--a", "239.192.1.1:26477", "--interface-a", HOST, "--", "--version")
     need(joined == run(f"{release}/bin/mold", "--version"), f"mold-join printed {joined}")
 
@@ -258,10 +264,12 @@ def publish(release, room, a, b, server):
 
 
 def receives(release, room, *command):
-    """A handler prints all messages of a session. In its arguments, A, B and SERVER stand for addresses."""
-    a, b, server = free_ports(3)
+    """Runs a handler until it has received a session, and returns the lines that it prints. In its arguments, A, B and
+    SERVER stand for addresses, and PORT_A, PORT_B and PORT_SERVER for their ports."""
+    ports = a, b, server = free_ports(3)
     places = {"A": f"{HOST}:{a}", "B": f"{HOST}:{b}", "SERVER": f"{HOST}:{server}"}
-    words = [re.sub(r"\b(A|B|SERVER)\b", lambda found: places[found[0]], it) for it in command]
+    places |= {f"PORT_{name}": str(port) for name, port in zip(places, ports)}
+    words = [re.sub(r"\b(PORT_)?(A|B|SERVER)\b", lambda found: places[found[0]], it) for it in command]
     with subprocess.Popen(words, stdin=subprocess.DEVNULL, stdout=subprocess.PIPE, text=True) as handler:
         await_ports([a, b])
         serving = publish(release, room, a, b, server)
@@ -314,8 +322,22 @@ def rust_example(release, room):
 
 
 def python_example(release, room):
-    """The Python module finds its shared library, and its tests pass."""
-    run(sys.executable, "-m", "unittest", "discover", "-s", "tests", "-t", ".", cwd=f"{release}/python")
+    """The handler in Python prints all messages."""
+    printed = receives(release, room, "env", f"PYTHONPATH={release}/python", sys.executable,
+                       f"{release}/python/examples/receive.py", SESSION, "PORT_A", "PORT_B", "PORT_SERVER")
+    need(numbered(printed) == MESSAGES, f"the handler printed {printed[-5:]}")
+
+
+def captured_example(release):
+    """A script in Python prints the messages of a capture."""
+    packets = passed_through("\n".join(MESSAGES) + "\n", f"{release}/bin/mold", "pack", "--session", SESSION)
+    capture = passed_through(packets, sys.executable, f"{release}/examples/write-capture.py", "239.192.1.1:26477")
+    with tempfile.NamedTemporaryFile(suffix=".pcap") as file:
+        file.write(capture)
+        file.flush()
+        printed = run("env", f"PYTHONPATH={release}/python", sys.executable, f"{release}/python/examples/messages.py",
+                      file.name)
+    need(numbered(printed.splitlines()) == MESSAGES, f"the script printed {printed[-100:]}")
 
 
 CHECKS = (
@@ -326,6 +348,7 @@ CHECKS = (
     (("c++", "g++"), cpp_example),
     (("cargo",), rust_example),
     ((), python_example),
+    ((), captured_example),
 )
 
 
