@@ -30,6 +30,7 @@ import subprocess
 import sys
 import tarfile
 import tempfile
+import time
 
 TOP = os.path.dirname(os.path.realpath(__file__))
 HOST = "127.0.0.1"
@@ -244,10 +245,12 @@ def free_ports(count):
         return [made.getsockname()[1] for made in found]
 
 
-def await_ports(ports):
-    """Waits until each port is in use."""
-    wanted = {f":{port:04X}" for port in ports}
+def await_ports(handler, ports):
+    """Waits until a handler uses these ports."""
+    wanted, end = {f":{port:04X}" for port in ports}, time.monotonic() + PATIENCE
     while wanted:
+        need(handler.poll() is None and time.monotonic() < end, "the handler does not use its ports")
+        time.sleep(0.01)
         table = read("/proc/net/udp")
         wanted = {it for it in wanted if f"{it} " not in table}
 
@@ -271,7 +274,7 @@ def receives(release, room, *command):
     places |= {f"PORT_{name}": str(port) for name, port in zip(places, ports)}
     words = [re.sub(r"\b(PORT_)?(A|B|SERVER)\b", lambda found: places[found[0]], it) for it in command]
     with subprocess.Popen(words, stdin=subprocess.DEVNULL, stdout=subprocess.PIPE, text=True) as handler:
-        await_ports([a, b])
+        await_ports(handler, [a, b])
         serving = publish(release, room, a, b, server)
         try:
             printed = handler.communicate(timeout=PATIENCE)[0].splitlines()
