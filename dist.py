@@ -273,14 +273,13 @@ def receives(release, room, *command):
     places = {"A": f"{HOST}:{a}", "B": f"{HOST}:{b}", "SERVER": f"{HOST}:{server}"}
     places |= {f"PORT_{name}": str(port) for name, port in zip(places, ports)}
     words = [re.sub(r"\b(PORT_)?(A|B|SERVER)\b", lambda found: places[found[0]], it) for it in command]
-    with subprocess.Popen(words, stdin=subprocess.DEVNULL, stdout=subprocess.PIPE, text=True) as handler:
+    how = {"stdin": subprocess.DEVNULL, "stdout": subprocess.PIPE, "text": True}
+    with subprocess.Popen(words, **how) as handler, contextlib.ExitStack() as at_the_end:
+        at_the_end.callback(handler.kill)
         await_ports(handler, [a, b])
-        serving = publish(release, room, a, b, server)
-        try:
-            printed = handler.communicate(timeout=PATIENCE)[0].splitlines()
-        finally:
-            serving.kill()
-            serving.wait()
+        serving = at_the_end.enter_context(publish(release, room, a, b, server))
+        at_the_end.callback(serving.kill)
+        printed = handler.communicate(timeout=PATIENCE)[0].splitlines()
     need(handler.returncode == 0, f"{words[0]} ended with status {handler.returncode}")
     return printed
 
