@@ -96,7 +96,8 @@ LANES = (
     (
         Part("sh tests/launcher", ("mold", "tests/checks.sh")),
         over_program("tests/manual", "docs/*.1", "mold-join", "completions/*"),
-        over_program("tests/dist", "dist", "dist.py", "install.sh", "mold-join", "library/*", crate=LIBRARY),
+        over_program("tests/dist", "dist", "dist.py", "install.sh", "mold-join", "library/*", crate=LIBRARY,
+                     needs_compiler=True),
         over_program("tests/install", "install.sh", "mold", "mold-join", "docs/*.1", "completions/*", "LICENSE*",
                      "library/*", "tests/checks.sh"),
         # Longer conditions of the network are not part of the gate.
