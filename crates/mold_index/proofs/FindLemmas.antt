@@ -30,6 +30,25 @@ ascending entries apart i (suc j) d order within =
           omega (arith, one, step, ap (λ (n : ℕ). (get_or entries n d).number) more)
     ]
 
+-- If an entry is up to the message and the next one is above it, the entries are split between them.
+pub split_after : (entries : List Entry) (i number : ℕ) (d : Entry) → IsNonDecreasingBy (λ entry. entry.number) entries →
+    i < length entries → (get_or entries i d).number ≤ number →
+    (i + 1 < length entries → number < (get_or entries (i + 1) d).number) → IsSplit entries number (i + 1)
+split_after entries i number d up within below above = (
+  λ k other low high. omega (
+    arith,
+    up k i d (omega (arith, high)) within,
+    below,
+    ap (λ (e : Entry). e.number) (get_or_default entries k other d (omega (arith, high, within))),
+  ),
+  λ k other low high. omega (
+    arith,
+    up (i + 1) k d low high,
+    above (omega (arith, low, high)),
+    ap (λ (e : Entry). e.number) (get_or_default entries k other d high),
+  ),
+)
+
 -- There is an entry up to each message.
 record HasUpTo (index : IndexState) (lengths : List ℕ) (number above : ℕ) : Type 0 where
   k : ℕ

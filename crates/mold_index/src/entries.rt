@@ -1,6 +1,6 @@
 //! The entries of an index, in ascending order.
 
-ghost use Rattle.std.specs.Prelude.{◌≡◌, ◌-◌, ◌<◌, ◌≤◌, false, length, slice_get, IsOk, OnErr, OnOk};
+ghost use Rattle.std.specs.Prelude.{◌≡◌, ◌+◌, ◌-◌, ◌<◌, ◌≤◌, false, length, slice_get, IsOk, IsTrue, OnErr, OnOk};
 ghost use Rattle.std.specs.List.Sorted.{IsNonDecreasingBy, IsPartitionPoint};
 ghost use Rattle.mold_index.specs.Adding.{is_due, offset_or, with_entry, without_above};
 
@@ -52,12 +52,32 @@ pub(crate) fn remove_above(entries: &mut Vec<Entry>, number: u64)
     }
 }
 
-/// Returns the number of entries up to message `number`.
+// Returns whether the entry at index `i` is the last one up to message `number`.
+fn is_last_up_to(entries: &[Entry], i: usize, number: u64) -> bool
+    ensures within { IsTrue result → i < length entries.now }
+    ensures split { IsTrue result → IsNonDecreasingBy (λ entry. entry.number) entries.now →
+        IsPartitionPoint (λ entry. entry.number ≤ number) (λ entry. number < entry.number) entries.now (i + 1) }
+{
+    if i >= entries.len() {
+        return false;
+    }
+    if number < entries[i].number {
+        return false;
+    }
+    i + 1 == entries.len() || number < entries[i + 1].number
+}
+
+/// Returns the number of entries up to message `number`. It takes constant time if each entry is 64 messages after the
+/// one before it, as in a file of short messages, and otherwise time that is logarithmic in the number of entries.
 pub(crate) fn count_up_to(entries: &[Entry], number: u64) -> usize
     ensures bound { result ≤ length entries.now }
     ensures split { IsNonDecreasingBy (λ entry. entry.number) entries.now →
         IsPartitionPoint (λ entry. entry.number ≤ number) (λ entry. number < entry.number) entries.now result }
 {
+    let likely = (number.saturating_sub(1) / STRIDE_MESSAGES) as usize;
+    if is_last_up_to(entries, likely, number) {
+        return likely + 1;
+    }
     entries.partition_point(|entry| entry.number <= number)
 }
 

@@ -163,8 +163,8 @@ impl Index {
     }
 
     /// Returns the last entry at or before message `number`, or `None` if there is no such message. From there, the
-    /// message is found by reading the lengths of at most 63 messages. It takes time that is logarithmic in the number
-    /// of entries.
+    /// message is found by reading the lengths of at most 63 messages. It takes time that is at most logarithmic in the
+    /// number of entries.
     pub fn find(&self, number: u64) -> Option<Entry>
         ensures some { IsSome result ↔ HasNumber self.now number }
         ensures found { (lengths : List ℕ) → Indexes self.now lengths →
