@@ -16,12 +16,8 @@
  * The last line is `published MESSAGES datagrams D requests R failed F`. D counts data packets, R the requests that got
  * a response, and F the sends and receives that failed. A refused input line is reported on standard error, and the
  * session goes on. The status is 0, or 2 if an input line was refused, or 3 after any other error. */
+#include "journal.h"
 #include "udp.h"
-
-#include <libgen.h>
-#include <limits.h>
-#include <sys/file.h>
-#include <sys/stat.h>
 
 static const char usage[] =
     "usage: exchange --session SESSION --a ADDRESS --b ADDRESS --bind ADDRESS [OPTION VALUE]..\n"
@@ -39,7 +35,7 @@ static const char usage[] =
     "  --interface ADDRESS  the interface on which it sends to multicast groups (chosen by the system)\n"
     "  --help               print this text\n";
 
-enum { INPUT = 1 << 16, LONGEST = 1 << 18, JOURNAL_HEAD = 19 };
+enum { INPUT = 1 << 16, LONGEST = 1 << 18 };
 
 struct options {
     uint8_t session[10];
@@ -50,19 +46,10 @@ struct options {
     uint64_t linger;
 };
 
-/* The journal file, its number of messages, and the offset of its shut gate. Without --journal the name is NULL. */
-struct journal {
-    const char *name;
-    int file;
-    uint64_t messages, at;
-    /* What a commit appends. */
-    uint8_t *records;
-    size_t room;
-};
-
 struct exchange {
     struct options options;
     mold_publisher publisher;
+    /* Without --journal it has no name. */
     struct journal journal;
     /* The sockets that send datagrams and receive requests. */
     int out, requests;
@@ -115,128 +102,18 @@ static struct options options_of(int count, char **words) {
     return read;
 }
 
-/* ---- The journal ---- */
-
-/* Writes bytes at an offset of the file, and waits until they are on disk. */
-static void write_at(const struct journal *journal, const uint8_t *bytes, size_t length, uint64_t offset) {
-    while (length > 0) {
-        ssize_t written = pwrite(journal->file, bytes, length, (off_t)offset);
-        if (written < 0 && errno != EINTR)
-            fail(journal->name, strerror(errno));
-        if (written > 0) {
-            bytes += written;
-            length -= (size_t)written;
-            offset += (uint64_t)written;
-        }
-    }
-    if (fdatasync(journal->file) != 0)
-        fail(journal->name, strerror(errno));
-}
-
-/* Makes all published messages durable, and the end of the session if it is closed. mold.h explains the order. */
-static void commit(struct exchange *exchange) {
-    struct journal *journal = &exchange->journal;
-    uint64_t from = journal->messages + 1;
-    size_t size = 0;
-    if (journal->name == NULL)
-        return;
-    if (mold_journal_records(&exchange->publisher, from, journal->records, journal->room, &size) == MOLD_E_ROOM) {
-        free(journal->records);
-        journal->room = 2 * size;
-        journal->records = malloc(journal->room);
-        if (journal->records == NULL)
-            fail(journal->name, "out of memory");
-        need("records", mold_journal_records(&exchange->publisher, from, journal->records, journal->room, &size));
-    }
-    write_at(journal, journal->records + 1, size - 1, journal->at + 1);
-    write_at(journal, journal->records, 1, journal->at);
-    journal->at += size - 1;
-    journal->messages = exchange->messages;
-}
-
-/* Opens a file and locks it. Returns -1 if there is no such file. */
-static int open_file(const char *name, int flags) {
-    int file = open(name, flags | O_RDWR | O_CLOEXEC, 0666);
-    if (file < 0 && errno == ENOENT)
-        return -1;
-    if (file < 0)
-        fail(name, strerror(errno));
-    if (flock(file, LOCK_EX | LOCK_NB) != 0)
-        fail(name, "another process has locked it");
-    return file;
-}
-
-/* Makes the name of a new file durable. */
-static void sync_folder(const char *name) {
-    char copy[PATH_MAX];
-    snprintf(copy, sizeof copy, "%s", name);
-    int folder = open(dirname(copy), O_RDONLY | O_DIRECTORY | O_CLOEXEC);
-    if (folder < 0 || fsync(folder) != 0)
-        fail(name, strerror(errno));
-    close(folder);
-}
-
-/* Makes the file of a new publisher. It gets its name when it is on disk. */
-static void create_journal(struct exchange *exchange) {
-    struct journal *journal = &exchange->journal;
-    uint8_t head[JOURNAL_HEAD];
-    char name[PATH_MAX];
-    size_t size = 0;
-    need("head", mold_journal_head(&exchange->publisher, head, sizeof head, &size));
-    if (snprintf(name, sizeof name, "%s.new", journal->name) >= (int)sizeof name)
-        fail(journal->name, "the name is too long");
-    journal->file = open_file(name, O_CREAT);
-    if (ftruncate(journal->file, 0) != 0)
-        fail(name, strerror(errno));
-    write_at(journal, head, size, 0);
-    journal->at = size - 1;
-    if (rename(name, journal->name) != 0)
-        fail(journal->name, strerror(errno));
-    sync_folder(journal->name);
-}
-
-/* Makes a publisher that continues the session of the file. What was read is on disk before it is used. */
-static void resume_journal(struct exchange *exchange) {
-    struct journal *journal = &exchange->journal;
-    struct stat stated;
-    size_t had = 0, size = 0;
-    if (fstat(journal->file, &stated) != 0)
-        fail(journal->name, strerror(errno));
-    uint8_t *bytes = malloc((size_t)stated.st_size + 1);
-    if (bytes == NULL)
-        fail(journal->name, "out of memory");
-    for (ssize_t came = 1; came > 0; had += (size_t)came) {
-        came = pread(journal->file, bytes + had, (size_t)stated.st_size - had, (off_t)had);
-        if (came < 0)
-            fail(journal->name, strerror(errno));
-    }
-    if (fdatasync(journal->file) != 0)
-        fail(journal->name, strerror(errno));
-    sync_folder(journal->name);
-    need(journal->name, mold_publisher_resume(&exchange->publisher, exchange->options.limit, bytes, had, &journal->at));
-    free(bytes);
-    exchange->ended = mold_publisher_end(&exchange->publisher, datagram, sizeof datagram, &size) == MOLD_DONE;
-    if (!exchange->ended)
-        need("heartbeat", mold_publisher_heartbeat(&exchange->publisher, datagram, sizeof datagram, &size));
-    mold_packet packet;
-    need("packet", mold_decode(datagram, size, &packet));
-    if (memcmp(packet.session, exchange->options.session, sizeof packet.session) != 0)
-        fail(journal->name, "another session");
-    exchange->messages = journal->messages = packet.sequence - 1;
-}
-
 /* Makes the publisher: of a new session, or of the journal file if it exists. */
 static void open_publisher(struct exchange *exchange) {
+    const struct options *options = &exchange->options;
     struct journal *journal = &exchange->journal;
-    journal->name = exchange->options.journal;
-    journal->file = journal->name == NULL ? -1 : open_file(journal->name, 0);
-    if (journal->file >= 0) {
-        resume_journal(exchange);
+    if (options->journal != NULL && open_journal(journal, options->journal)) {
+        exchange->ended = resume_journal(journal, &exchange->publisher, options->session, options->limit);
+        exchange->messages = journal->messages;
         return;
     }
-    need("publisher", mold_publisher_new(&exchange->publisher, exchange->options.session, exchange->options.limit));
-    if (journal->name != NULL)
-        create_journal(exchange);
+    need("publisher", mold_publisher_new(&exchange->publisher, options->session, options->limit));
+    if (options->journal != NULL)
+        create_journal(journal, options->journal, &exchange->publisher);
 }
 
 /* ---- Sending ---- */
@@ -335,11 +212,11 @@ static void read_input(struct exchange *exchange) {
     if (came == 0 && line_length > 0)
         publish_line(exchange);
     if (exchange->messages > exchange->journal.messages)
-        commit(exchange);
+        commit(&exchange->journal, &exchange->publisher, exchange->messages);
     send_messages(exchange);
     if (came == 0) {
         need("close", mold_publisher_close(&exchange->publisher, &unsent));
-        commit(exchange);
+        commit(&exchange->journal, &exchange->publisher, exchange->messages);
         exchange->ended = true;
         exchange->last_asked = now();
         send_heartbeat(exchange);
@@ -419,11 +296,9 @@ int main(int count, char **words) {
     printf("published %llu datagrams %llu requests %llu failed %llu\n", (unsigned long long)exchange.messages,
            (unsigned long long)exchange.datagrams, (unsigned long long)exchange.responded,
            (unsigned long long)exchange.failed);
-    if (exchange.journal.file >= 0)
-        close(exchange.journal.file);
+    close_journal(&exchange.journal);
     close(exchange.out);
     close(exchange.requests);
-    free(exchange.journal.records);
     mold_free(&exchange.publisher);
     return fflush(stdout) != 0 ? 3 : exchange.refused ? 2 : 0;
 }
