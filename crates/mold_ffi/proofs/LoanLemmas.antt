@@ -1,7 +1,8 @@
 -- An array whose elements are written one by one, from the first on, with slices of the elements of a list.
 use Rattle.std.proofs.Common.{◌≡◌, ℕ, suc, zero, ◌+◌, ◌<◌, List, [], ◌∷◌, ◌++◌, map, length, take, drop, set}
-use Rattle.std.proofs.Common.{refl, sym, ap, ◌∙◌, subst, arith, lt-suc_self, take-suc, get_or}
+use Rattle.std.proofs.Common.{refl, sym, ap, ◌∙◌, subst, arith, lt-suc_self, take-suc, get_or, slice_get, Some}
 use Rattle.std.proofs.lemmas.List.{map-append, take_more_set, drop-set-lt, length-map, get_or-map}
+use Rattle.std.proofs.lemmas.Option.{none-some, same_Some}
 
 -- A prefix of a list, and the rest of the list.
 front_more : {X : Type 0} (all rest : List X) (x : X) (n : ℕ) → drop n all ≡ x ∷ rest → take (suc n) all ≡ take n all ++ x ∷ []
@@ -38,6 +39,13 @@ pub told_more : {X Y : Type 0} (f : X → Y) (places : List X) (all rest : List 
     → map f (take n places) ≡ take n all → drop n all ≡ f x ∷ rest → n < length places
     → map f (take (n + 1) (set places n x)) ≡ take (n + 1) all
 told_more f places all rest x n told left room = told_one f places all x n told (front_more all rest (f x) n left) room
+
+-- Only the first element.
+pub told_first : {X Y : Type 0} (f : X → Y) (places : List X) (all : List Y) (x : X) → slice_get all 0 ≡ Some (f x) → 0 < length places
+    → map f (take 1 (set places 0 x)) ≡ take 1 all
+told_first f places [] x is room = absurd (none-some (f x) is)
+told_first f [] (y ∷ all) x is room = absurd (omega (arith, room))
+told_first f (place ∷ places) (y ∷ all) x is room = ap (λ t. t ∷ []) (sym (same_Some y (f x) is))
 
 -- The element at the index of the array element.
 pub told_at : {X Y Z : Type 0} (f : X → Y) (g : Z → Y) (places : List X) (all : List Z) (x : X) (d : Z) (n : ℕ)

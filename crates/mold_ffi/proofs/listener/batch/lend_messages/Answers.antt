@@ -1,17 +1,10 @@
-use Rattle.std.proofs.Common.{◌<◌, ◌∙◌, length, ap, arith, Bor, List, ℕ}
-use Rattle.mold_ffi.proofs.LoanLemmas.{told_more, behind_less, left_less}
+use Rattle.std.proofs.Common.{Bor, List, ℕ, length, arith, sym}
+use Rattle.std.proofs.lemmas.Bool.{eqb-false}
+use Rattle.mold_ffi.proofs.LoanLemmas.{told_first}
 use Rattle.mold_ffi.proofs.listener.batch.lend_messages.Goals as goal
 
-pub loop-bytes-preserved : goal.loop-bytes-preserved
-loop-bytes-preserved c =
-    let i = c.loop-bytes.invariant in
-    let n = c.loop-bytes.filled in
-    let left = i.left ∙ c.in-Some.ensures.steps in
-    let room : n < length c.loop-bytes.messages = omega (arith, i.room, c.loop-bytes.auto.messages, c.if-filled-messages.false) in
-    record {
-      left = left_less c.args.batch.now.messages c.next.new.self c.in-Some.bytes.now n left;
-      room = omega (arith, room, c.loop-bytes.auto.messages);
-      counted = omega (arith, i.counted, ap length c.in-Some.ensures.steps);
-      told = told_more (λ (bytes : Bor (List ℕ)). bytes.now) c.loop-bytes.messages c.args.batch.now.messages c.next.new.self c.in-Some.bytes n i.told left room;
-      behind = behind_less c.loop-bytes.messages c.args.messages.now c.in-Some.bytes n i.behind;
-    }
+pub returns-in-Some-clause-lent : goal.returns-in-Some-clause-lent
+returns-in-Some-clause-lent c =
+    told_first (λ (bytes : Bor (List ℕ)). bytes.now) c.args.messages.now c.args.batch.now.messages c.in-Some.bytes
+    (sym c.in-Some.ensures)
+    (omega (arith, eqb-false (length c.args.messages.now) 0 (sym c.if-not-is_empty.ensures)))

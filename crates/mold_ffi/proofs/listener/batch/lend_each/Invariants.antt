@@ -1,5 +1,5 @@
 use Rattle.std.proofs.Common.{◌≡◌, ◌+◌, ◌≤◌, length, take, drop, map}
-use Rattle.mold_ffi.proofs.listener.batch.lend_messages.Given as goal
+use Rattle.mold_ffi.proofs.listener.batch.lend_each.Given as goal
 
 -- As many elements are written as messages were read.
 abbrev pub invariant-loop-bytes : goal.invariant-loop-bytes
