@@ -1,6 +1,7 @@
 pub mod BlockLemmas
 pub mod DecimalLemmas
 pub mod DecodingLemmas
+pub mod DigitLemmas
 pub mod EncodingLemmas
 pub mod JoiningLemmas
 pub mod LaneLemmas

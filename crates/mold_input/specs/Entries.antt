@@ -1,10 +1,12 @@
 -- The entries of an input: for each message the message itself, or the reason why it is not a message.
-use Rattle.std.specs.Prelude.{◌≡◌, ℕ, List, [], ◌∷◌, map, Option, None, Some, Result, Ok, Err, ⊤}
+use Rattle.std.specs.Prelude.{◌≡◌, ℕ, ◌*◌, nat_lt, if◌then◌else◌, List, [], ◌∷◌, length, map, Option, None, Some}
+use Rattle.std.specs.Prelude.{Result, Ok, Err, ⊤}
 use Rattle.hex.specs.Hex.{decode_of}
 use Rattle.hex.specs.declared.error.FromHexError.{FromHexError}
 use Rattle.mold_devices.specs.Lines.{lines_of}
 use Rattle.mold_input.specs.declared.input_fault.InputFault.{InputFault}
-use Rattle.mold_input.specs.declared.input_fault.InputFault.TheVariants.{NotHex}
+use Rattle.mold_input.specs.declared.input_fault.InputFault.TheVariants.{NotHex, TooLong}
+use Rattle.mold_input.specs.declared.limits.TheConstants.{MAX_LINE}
 use Rattle.mold_input.specs.declared.input_kind.InputKind.{InputKind}
 use Rattle.mold_input.specs.declared.next.Next.{Next}
 use Rattle.mold_input.specs.declared.next.Next.TheVariants.{Message, Fault, End}
@@ -13,12 +15,16 @@ use Rattle.mold_input.specs.declared.next.Next.TheVariants.{Message, Fault, End}
 abbrev pub Entry : Type 0
 Entry = Result (List ℕ) InputFault
 
+-- The entry of a line that encodes these bytes. A line of more than `MAX_LINE` digits is too long for a message.
+abbrev pub bytes_entry : List ℕ → Entry
+bytes_entry bytes = if nat_lt MAX_LINE (2 * length bytes) then Err (TooLong (length bytes)) else Ok bytes
+
 -- The entry of a line whose digits decode to this result.
 abbrev pub digits_entry : Result (List ℕ) FromHexError → Entry
-digits_entry (Ok message) = Ok message
+digits_entry (Ok bytes) = bytes_entry bytes
 digits_entry (Err _) = Err NotHex
 
--- The entry of a line: the message that its hexadecimal digits encode.
+-- The entry of a line: the message that its hexadecimal digits encode, unless it is too long.
 abbrev pub line_entry : List ℕ → Entry
 line_entry line = digits_entry (decode_of line)
 

@@ -2,3 +2,4 @@ pub mod Blocks
 pub mod BlocksToEmpty
 pub mod Entries
 pub mod Formats
+pub mod LongLines
