@@ -1,17 +1,21 @@
 //! A reader used as a source.
 
-ghost use Rattle.std.specs.Prelude.{◌≡◌, ◌-◌, ◌<◌, ◌≤◌, IsErr, IfOk};
+ghost use Rattle.std.specs.Prelude.{◌≡◌, ◌+◌, ◌<◌, ◌≤◌, IsErr, IfOk};
 ghost use Rattle.std.specs.Io.{ReadsAtMost};
 ghost use Rattle.std.specs.Io.KnownBytes.{ReadConsumes};
 ghost use Rattle.mold_devices.specs.Devices.{Counts};
 
 use crate::device_fault::DeviceFault;
 use crate::source::Source;
-use std::io::Read;
+use std::io::{ErrorKind, Read};
 use std::marker::Model;
 
-/// A source that reads from a reader. Every error of the reader is a failure, including an interrupted call.
-/// Each call after the first `u64::MAX` is a failure too.
+/// The greatest number of times that one read repeats an interrupted call.
+const MAX_REPEATS: u64 = 16;
+
+/// A source that reads from a reader. An interrupted call is repeated, at most 16 times in one read. Every other error
+/// of the reader is a failure, and so is an interrupted call after 16 others. Each call after the first `u64::MAX` is a
+/// failure too.
 #[derive(Drop)]
 pub struct FromRead<R> {
     reader: R,
@@ -67,16 +71,14 @@ impl<R: Read> Source for FromRead<R> {
         ensures kept { self.new.calls_left ≤ self.old.calls_left }
         ensures failures { Counts self.old.failures self.new.failures result }
 
-        // Every call is counted, and a call beyond the limit does not reach the reader.
-        ensures calls_left { self.new.calls_left ≡ self.old.calls_left - 1 }
+        // Every call is counted: one, and at most 16 that repeat it. A call beyond the limit does not reach the reader.
+        ensures calls_left { self.old.calls_left ≤ self.new.calls_left + 17 }
+        ensures some { 0 < self.old.calls_left → self.new.calls_left < self.old.calls_left }
         ensures spent { self.old.calls_left ≡ 0 → IsErr result × (self.new.reader ≡ self.old.reader) }
         ensures bound { IfOk result (λ n. 0 < n → self.new.calls_left < self.old.calls_left) }
     {
-        if self.calls_left > 0 {
-            self.calls_left -= 1;
-            if let Ok(count) = self.reader.read(buffer) {
-                return Ok(count);
-            }
+        if let Ok(count) = read_some(&mut self.reader, &mut self.calls_left, buffer) {
+            return Ok(count);
         }
         self.failures = self.failures.saturating_add(1);
         Err(DeviceFault)
@@ -85,4 +87,29 @@ impl<R: Read> Source for FromRead<R> {
     fn failures(&self) -> u64 {
         self.failures
     }
+}
+
+// Calls the reader, and repeats the call while it is interrupted: at most 16 times, and only while calls are left.
+fn read_some<R: Read>(
+    reader: &mut R,
+    calls_left: &mut u64,
+    buffer: &mut [u8],
+) -> Result<usize, DeviceFault>
+    ensures count { ReadsAtMost result buffer.new }
+    ensures bytes { ReadConsumes (R.remaining reader.old) (R.remaining reader.new) result buffer.new }
+    ensures kept { calls_left.new ≤ calls_left.old }
+    ensures few { calls_left.old ≤ calls_left.new + 17 }
+    ensures some { 0 < calls_left.old → calls_left.new < calls_left.old }
+    ensures spent { calls_left.old ≡ 0 → IsErr result × (reader.new ≡ reader.old) }
+{
+    let first = *calls_left;
+    'calls: while *calls_left > 0 && first - *calls_left <= MAX_REPEATS {
+        *calls_left -= 1;
+        match reader.read(buffer) {
+            Ok(count) => return Ok(count),
+            Err(error) if error.kind() == ErrorKind::Interrupted => {}
+            Err(_) => break 'calls,
+        }
+    }
+    Err(DeviceFault)
 }

@@ -1,5 +1,5 @@
 -- The text of a message is the line that encodes it, with its digits in lower case.
-use Rattle.std.proofs.Common.{◌≡◌, ℕ, suc, ◌+◌, ◌-◌, ◌*◌, ◌/◌, ◌%◌, ◌<◌, nat_eq, Bool, true, List, [], ◌∷◌, ◌++◌, length, map}
+use Rattle.std.proofs.Common.{◌≡◌, ℕ, suc, ◌+◌, ◌-◌, ◌*◌, ◌/◌, ◌%◌, ◌<◌, nat_eq, nat_lt, Bool, true, false, cond, List, [], ◌∷◌, ◌++◌, length, map}
 use Rattle.std.proofs.Common.{take, drop, slice_index, decimal, Option, None, Some, Result, Ok, Err, refl, sym, ap, ◌∙◌, arith}
 use Rattle.std.specs.List.{AllByRecursion}
 use Rattle.std.specs.Result.{result_unwrap_or}
@@ -12,6 +12,8 @@ use Rattle.hex.specs.Hex.{pair_value, value_at, ◌>>=◌}
 use Rattle.hex.specs.declared.error.FromHexError.{FromHexError}
 use Rattle.mold_feed.specs.Received.{PrintedLine, Handed, Refuses, handed_of, lines_text, lower_digit, messages_text, printed_lines_text, shown}
 use Rattle.mold_input.specs.Entries.{Entry, digits_entry, line_entry}
+use Rattle.mold_input.specs.declared.input_fault.InputFault.TheVariants.{TooLong}
+use Rattle.mold_input.specs.declared.limits.TheConstants.{MAX_LINE}
 use Rattle.mold_input.specs.declared.message_format.MessageFormat.{MessageFormat}
 use Rattle.mold_input.specs.declared.message_format.MessageFormat.TheVariants.{Lines}
 use Rattle.mold_listen.specs.Text.{handed_text, message_text}
@@ -112,10 +114,15 @@ digits_shown (digit ∷ line) (byte ∷ message) is =
 abbrev pub AreSpelled : List (List ℕ) → List Message → Type 0
 AreSpelled lines messages = map decode_of lines ≡ map Ok messages
 
+short_spelled : (found message : List ℕ) (long : Bool) →
+    cond long (Err (TooLong (length found))) (Ok found) ≡ Ok message → found ≡ message
+short_spelled found message true is = let no : ⊥ = cc in absurd no
+short_spelled found message false is = ap (λ (entry : Entry). result_unwrap_or entry []) is
+
 -- a line whose entry is a message encodes this message
 entry_spelled : (digits : Result (List ℕ) FromHexError) (message : List ℕ) → digits_entry digits ≡ Ok message →
     digits ≡ Ok message
-entry_spelled (Ok found) message is = ap Ok (ap (λ (entry : Entry). result_unwrap_or entry []) is)
+entry_spelled (Ok found) message is = ap Ok (short_spelled found message (nat_lt MAX_LINE (2 * length found)) is)
 entry_spelled (Err why) message is = let no : ⊥ = cc in absurd no
 
 -- lines whose entries are messages encode these messages

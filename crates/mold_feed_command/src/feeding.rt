@@ -74,7 +74,7 @@ fn run<M: PieceReader, K: Source + Drop>(
 ) -> Result<u8, CommandFault>
     requires longest { feed.old.feeder.publisher.publisher.journal.max_message
         ≤ feed.old.requests.server.max_message }
-    requires input { IsInput M.unread K.left feed.old.input }
+    requires input { IsInput M.is_part M.unread K.left feed.old.input }
 {
     let mut sink = IntoWrite::new(rt.stdout());
     let mut journal = open_messages(rt, order)?;

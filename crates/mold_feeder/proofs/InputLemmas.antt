@@ -9,19 +9,13 @@ use Rattle.mold_feeder.specs.Input.{KeepsRest, entries_after}
 use Rattle.mold_feeder.specs.Pieces.{AreWhole}
 
 module _ (entries : List ℕ → List Entry) where
-  -- The whole entries of the bytes, and then the other bytes.
-  pub split_rest : (all whole part : List ℕ) (count : ℕ) (left : Option (List ℕ)) → whole ≡ take count all →
-      part ≡ drop count all → AreWhole entries (take count all) →
-      entries_after entries (entries whole) part left ≡ entries_after entries [] all left
-  split_rest all whole part count None first second is = refl
-  split_rest all whole part count (Some left) first second is =
-      ap (λ (es : List Entry). Some es) (
-      ap (λ (t : List ℕ). entries t ++ entries (part ++ left)) first
-      ∙ ap (λ (t : List ℕ). entries (take count all) ++ entries (t ++ left)) second
-      ∙ sym (is (drop count all ++ left))
-      ∙ ap entries (sym (append_assoc (take count all) (drop count all) left))
-      ∙ ap (λ (t : List ℕ). entries (t ++ left)) (take-append-drop count all)
-      )
+  -- A piece was added to a part: the whole entries, and then the other bytes.
+  pub split_rest : (whole part old piece : List ℕ) (left : Option (List ℕ)) →
+      ((more : List ℕ) → entries whole ++ entries (part ++ more) ≡ entries (old ++ (piece ++ more))) →
+      entries_after entries (entries whole) part left ≡ entries_after entries [] (old ++ piece) left
+  split_rest whole part old piece None same = refl
+  split_rest whole part old piece (Some left) same =
+      ap (λ (es : List Entry). Some es) (same left ∙ ap entries (sym (append_assoc old piece left)))
 
   nil_first : (first second : List ℕ) → first ++ second ≡ [] → first ≡ []
   nil_first first second is =

@@ -1,15 +1,16 @@
 -- Which bytes of the pieces of an input are whole entries.
 use Rattle.std.proofs.Common.{arith, ◌≡◌, ◌∙◌, ℕ, ◌+◌, ◌-◌, ◌<◌, ◌≤◌, Bool, cond, true, false, eqb, List, [], ◌∷◌}
 use Rattle.std.proofs.Common.{◌++◌, length, length-append, length-drop, take, drop, get_or, Ok, ap, refl, sym, subst, map}
-use Rattle.std.proofs.Common.{append_assoc, inl, inr, min, take_all, take-append-drop, take-suc, take-add, length-take-le, get_or-drop, add-one}
-use Rattle.std.proofs.lemmas.Bool.{cases_lt, eqb-true}
-use Rattle.std.proofs.lemmas.List.{drop_all, drop-drop, map-append, take-append-le}
+use Rattle.std.proofs.Common.{append_assoc, append-nil, zero, suc, inl, inr, min, take_all, take-append-drop, take-suc, take-add, length-take-le, get_or-drop, add-one}
+use Rattle.std.proofs.Math.Dec.{eqb-suc-zero}
+use Rattle.std.proofs.lemmas.Bool.{cases_Bool, cases_eq, cases_lt, cond-false, eqb-true}
+use Rattle.std.proofs.lemmas.List.{drop_all, drop_at, drop-drop, map-append, nil_from_length, take_at, take-append-le}
 use Rattle.byteorder.specs.Endian.{big_number}
-use Rattle.memchr.specs.Find.{NoneAfter, Nowhere, Passes, is_byte}
+use Rattle.memchr.specs.Find.{NoneAfter, Passes, is_byte}
 use Rattle.mold_devices.specs.Lines.{HasNoEnd, lines_of, onto_first}
-use Rattle.mold_devices.proofs.LineLemmas.{HasNoEnd-append, none_found}
 use Rattle.mold_input.specs.Blocks.{block_entries}
 use Rattle.mold_input.specs.Entries.{Entry, line_entries, line_entry}
+use Rattle.mold_input.specs.LongLines.{IsSameStart}
 use Rattle.mold_input.proofs.BlockLemmas.{cut_entries, first_entries, first_message, front_entries, no_entries, number_front}
 use Rattle.mold_feeder.specs.Pieces.{AreWhole}
 
@@ -53,51 +54,101 @@ ended_whole front = λ more.
     ap (map line_entry) (lines_more front more) ∙ map-append line_entry (lines_of (front ++ 10 ∷ [])) (lines_of more)
 
 -- The bytes up to an end of line are whole lines.
-pub lines_whole : (bytes : List ℕ) (at : ℕ) → at < length bytes → IsEnd bytes at → AreWhole line_entries (take (at + 1) bytes)
-lines_whole bytes at lt is =
-    let last : take (at + 1) bytes ≡ take at bytes ++ 10 ∷ [] =
-    ap (λ (n : ℕ). take n bytes) (add-one at)
-    ∙ take-suc bytes at 0 lt
-    ∙ ap (λ (b : ℕ). take at bytes ++ b ∷ []) (eqb-true (get_or bytes at 0) 10 is) in
-    subst (AreWhole line_entries) (sym last) (ended_whole (take at bytes))
-
--- The end of line that a search found in the bytes from `from` on.
-pub end_found : (bytes hay : List ℕ) (from at : ℕ) → hay ≡ drop from bytes → Passes (is_byte 10) hay at →
-    IsEnd bytes (from + at)
-end_found bytes hay from at same is =
-    subst (λ (b : ℕ). eqb b 10 ≡ true) (ap (λ (h : List ℕ). get_or h at 0) same ∙ get_or-drop from bytes at 0) is
-
-pub end_within : (bytes hay : List ℕ) (from at : ℕ) → hay ≡ drop from bytes → at < length hay → from ≤ length bytes →
-    from + at < length bytes
-end_within bytes hay from at same lt le =
-    omega (arith, lt, le, ap (λ (h : List ℕ). length h) same, length-drop from bytes)
+pub lines_whole : (front piece : List ℕ) (at : ℕ) → at < length piece → IsEnd piece at →
+    AreWhole line_entries (front ++ take (at + 1) piece)
+lines_whole front piece at lt is =
+    let last : front ++ take (at + 1) piece ≡ (front ++ take at piece) ++ 10 ∷ [] =
+    ap (λ (n : ℕ). front ++ take n piece) (add-one at)
+    ∙ ap (λ (t : List ℕ). front ++ t) (take-suc piece at 0 lt)
+    ∙ ap (λ (b : ℕ). front ++ (take at piece ++ b ∷ [])) (eqb-true (get_or piece at 0) 10 is)
+    ∙ sym (append_assoc front (take at piece) (10 ∷ [])) in
+    subst (AreWhole line_entries) (sym last) (ended_whole (front ++ take at piece))
 
 -- After the last end of line, no line ends.
-pub no_end_after : (bytes hay : List ℕ) (from at : ℕ) → hay ≡ drop from bytes → from ≤ length bytes →
-    NoneAfter (Passes (is_byte 10) hay) 0 (length hay) at → HasNoEnd (drop (from + at + 1) bytes)
-no_end_after bytes hay from at same le none = λ k lt is.
-    let sum : from + at + 1 + k ≡ from + (at + 1 + k) = omega arith in
-    none.after (at + 1 + k) (omega arith)
-    (omega (
-      arith,
-      lt,
-      le,
-      length-drop (from + at + 1) bytes,
-      length-drop from bytes,
-      ap (λ (h : List ℕ). length h) same,
-    ))
-    (subst (λ (b : ℕ). eqb b 10 ≡ true)
-    (get_or-drop (from + at + 1) bytes k 0
-    ∙ ap (λ (n : ℕ). get_or bytes n 0) sum
-    ∙ sym (get_or-drop from bytes (at + 1 + k) 0)
-    ∙ ap (λ (h : List ℕ). get_or h (at + 1 + k) 0) (sym same)) is)
+pub no_end_after : (piece : List ℕ) (at : ℕ) → NoneAfter (Passes (is_byte 10) piece) 0 (length piece) at →
+    HasNoEnd (drop (at + 1) piece)
+no_end_after piece at none = λ k lt is.
+    none.after (at + 1 + k) (omega arith) (omega (arith, lt, length-drop (at + 1) piece))
+    (subst (λ (b : ℕ). eqb b 10 ≡ true) (get_or-drop (at + 1) piece k 0) is)
 
--- If no line ends before `from` and none from there on, no line ends.
-pub no_end : (bytes hay : List ℕ) (from : ℕ) → hay ≡ drop from bytes →
-    Nowhere (Passes (is_byte 10) hay) 0 (length hay) → HasNoEnd (take from bytes) → HasNoEnd bytes
-no_end bytes hay from same none before =
-    subst HasNoEnd (take-append-drop from bytes)
-    (HasNoEnd-append (take from bytes) (drop from bytes) before (none_found hay (drop from bytes) same none))
+-- The first bytes of a part and a piece, up to an index of the piece.
+pub front_taken : (kept piece : List ℕ) (before at count : ℕ) → before ≡ length kept → count ≡ before + at + 1 →
+    take count (kept ++ piece) ≡ kept ++ take (at + 1) piece
+front_taken kept piece before at count sized is =
+    ap (λ (n : ℕ). take n (kept ++ piece)) (omega (arith, sized, is))
+    ∙ take-add (length kept) (at + 1) (kept ++ piece)
+    ∙ ap (λ (t : List ℕ). t ++ take (at + 1) (drop (length kept) (kept ++ piece))) (take_at kept piece (length kept) refl)
+    ∙ ap (λ (t : List ℕ). kept ++ take (at + 1) t) (drop_at kept piece (length kept) refl)
+
+pub front_dropped : (kept piece : List ℕ) (before at count : ℕ) → before ≡ length kept → count ≡ before + at + 1 →
+    drop count (kept ++ piece) ≡ drop (at + 1) piece
+front_dropped kept piece before at count sized is =
+    ap (λ (n : ℕ). drop n (kept ++ piece)) (omega (arith, sized, is))
+    ∙ sym (drop-drop (at + 1) (length kept) (kept ++ piece))
+    ∙ ap (λ (t : List ℕ). drop (at + 1) t) (drop_at kept piece (length kept) refl)
+
+-- The bytes before the first line, joined to it.
+abbrev onto_front : List ℕ → List (List ℕ) → List (List ℕ)
+onto_front front [] = front ∷ []
+onto_front front (line ∷ lines) = (front ++ line) ∷ lines
+
+onto_one : (byte : ℕ) (lines : List (List ℕ)) → onto_first byte lines ≡ onto_front (byte ∷ []) lines
+onto_one byte [] = refl
+onto_one byte (line ∷ lines) = refl
+
+onto_next : (byte : ℕ) (front : List ℕ) (lines : List (List ℕ)) →
+    onto_first byte (onto_front front lines) ≡ onto_front (byte ∷ front) lines
+onto_next byte front [] = refl
+onto_next byte front (line ∷ lines) = refl
+
+not_end : (byte : ℕ) → (eqb byte 10 ≡ true → ⊥) → eqb byte 10 ≡ false
+not_end byte none = elim (cases_Bool (eqb byte 10)) [ inl is ↦ absurd (none is) | inr is ↦ is ]
+
+front_lines : (front more : List ℕ) → 0 < length front → HasNoEnd front →
+    lines_of (front ++ more) ≡ onto_front front (lines_of more)
+front_lines [] more some none = absurd (omega (arith, some))
+front_lines (byte ∷ []) more some none =
+    cond-false (eqb byte 10) _ _ (not_end byte (none 0 (omega arith))) ∙ onto_one byte (lines_of more)
+front_lines (byte ∷ next ∷ front) more some none =
+    cond-false (eqb byte 10) _ _ (not_end byte (none 0 (omega arith)))
+    ∙ ap (onto_first byte) (front_lines (next ∷ front) more (omega arith) (λ k lt is. none (suc k) (omega (arith, lt)) is))
+    ∙ onto_next byte (next ∷ front) (lines_of more)
+
+same_first : (one other : List ℕ) (lines : List (List ℕ)) → IsSameStart one other →
+    map line_entry (onto_front one lines) ≡ map line_entry (onto_front other lines)
+same_first one other [] same =
+    ap (λ (e : Entry). e ∷ [])
+    (ap line_entry (sym (append-nil one)) ∙ same.entry [] ∙ ap line_entry (append-nil other))
+same_first one other (line ∷ lines) same = ap (λ (e : Entry). e ∷ map line_entry lines) (same.entry line)
+
+not_empty : (one other : ℕ) → eqb one 0 ≡ eqb other 0 → 0 < other → 0 < one
+not_empty (suc one) other same some = omega arith
+not_empty zero (suc other) same some = let no = sym (eqb-suc-zero other) ∙ sym same in absurd (cc)
+not_empty zero zero same some = absurd (omega (arith, some))
+
+-- Starts of a line with the same entry, whatever follows.
+pub same_entries : (one other more : List ℕ) → IsSameStart one other → HasNoEnd other →
+    line_entries (one ++ more) ≡ line_entries (other ++ more)
+same_entries one other more same none = elim (cases_eq (length other) 0) [
+  | inl empty ↦
+      let first : length one ≡ 0 =
+      eqb-true (length one) 0 (same.empty ∙ ap (λ (n : ℕ). eqb n 0) empty) in
+      ap (λ (t : List ℕ). line_entries (t ++ more)) (nil_from_length one first ∙ sym (nil_from_length other empty))
+  | inr some ↦
+      let filled : 0 < length other = omega (arith, some) in
+      let also : 0 < length one = not_empty (length one) (length other) same.empty filled in
+      ap (map line_entry) (front_lines one more also (same.no_end none))
+      ∙ same_first one other (lines_of more) same
+      ∙ sym (ap (map line_entry) (front_lines other more filled none))
+]
+
+-- The entries of a part and a piece are those of the whole bytes and of the rest.
+pub split_at : (entries : List ℕ → List Entry) (whole rest old bytes more : List ℕ) → AreWhole entries whole →
+    whole ++ rest ≡ old ++ bytes → entries whole ++ entries (rest ++ more) ≡ entries (old ++ (bytes ++ more))
+split_at entries whole rest old bytes more is same =
+    sym (is (rest ++ more))
+    ∙ ap entries
+    (sym (append_assoc whole rest more) ∙ ap (λ (t : List ℕ). t ++ more) same ∙ append_assoc old bytes more)
 
 no_lines : (end : Bool) (byte : ℕ) (lines : List (List ℕ)) →
     map line_entry (cond end ([] ∷ lines) (onto_first byte lines)) ≡ [] → ⊥

@@ -4,6 +4,7 @@ use Rattle.std.proofs.Common.{ap, inl, inr, refl, sym, subst, append_assoc, appe
 use Rattle.std.specs.Io.KnownBytes.{IsAtEnd}
 use Rattle.std.specs.Prelude.{⊤}
 use Rattle.mold_input.specs.Entries.{Entry}
+use Rattle.mold_input.specs.LongLines.{PartState, bytes_of}
 use Rattle.mold_input.specs.declared.input_kind.InputKind.{InputKind}
 use Rattle.mold_publish.specs.Publishing.{PublishedInput, entries_published, entry_outcome, published_from}
 use Rattle.mold_publish.specs.declared.filling.Filled.{Filled}
@@ -214,13 +215,13 @@ over_known entries come part (Some left) none over end nothing =
     ∙ nothing
 
 -- If the input is over, no entry remains.
-pub over_rest : {M K : Type 0} (unread : M → List ℕ) (left : K → Option (List ℕ)) (entries : List ℕ → List Entry)
-    (input : PieceInput M K) → IsInput unread left input → entries [] ≡ [] → (not input.ready && input.ended) ≡ true →
-    EndsRest (entries_of_rest unread left entries input)
-over_rest unread left entries input is nothing over =
+pub over_rest : {M K : Type 0} (is_part : PartState → Type 0) (unread : M → List ℕ) (left : K → Option (List ℕ))
+    (entries : List ℕ → List Entry) (input : PieceInput M K) → IsInput is_part unread left input → entries [] ≡ [] →
+    (not input.ready && input.ended) ≡ true → EndsRest (entries_of_rest unread left entries input)
+over_rest is_part unread left entries input is nothing over =
     let parts = over_parts input.ready input.ended over in
     let rest = is.over parts.1 in
-    over_known entries _ input.part.items (left input.source) (is.taken parts.0) rest.0 rest.1 nothing
+    over_known entries _ (bytes_of input.part) (left input.source) (is.taken parts.0) rest.0 rest.1 nothing
 
 -- ---- the comparison
 

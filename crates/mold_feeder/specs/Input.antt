@@ -2,6 +2,7 @@
 use Rattle.std.specs.Prelude.{◌≡◌, ℕ, false, true, List, [], ◌++◌, Option, None, Some, ⊤}
 use Rattle.std.specs.Io.KnownBytes.{IsAtEnd}
 use Rattle.mold_input.specs.Entries.{Entry}
+use Rattle.mold_input.specs.LongLines.{PartState, bytes_of}
 use Rattle.mold_feeder.specs.declared.piece_input.PieceInput.{PieceInput}
 
 -- The entries `come`, and then those of the bytes `part` with the bytes after them, if these are known.
@@ -23,11 +24,12 @@ bytes_come unread input = unread input.come.messages ++ input.come.source
 abbrev pub entries_of_rest : {M K : Type 0} → (M → List ℕ) → (K → Option (List ℕ)) → (List ℕ → List Entry) →
     PieceInput M K → Option (List Entry)
 entries_of_rest unread left entries input =
-    entries_after entries (entries (bytes_come unread input)) input.part.items (left input.source)
+    entries_after entries (entries (bytes_come unread input)) (bytes_of input.part) (left input.source)
 
 -- What holds of an input: if it is not ready, all entries that have come were taken. If it has ended, nothing comes
 -- after those that have come.
-pub record IsInput {M K : Type 0} (unread : M → List ℕ) (left : K → Option (List ℕ)) (input : PieceInput M K) :
-    Type 0 where
+pub record IsInput {M K : Type 0} (is_part : PartState → Type 0) (unread : M → List ℕ) (left : K → Option (List ℕ))
+    (input : PieceInput M K) : Type 0 where
+  pub part : is_part input.part
   pub taken : input.ready ≡ false → bytes_come unread input ≡ []
-  pub over : input.ended ≡ true → (input.part.items ≡ []) × IsAtEnd (left input.source)
+  pub over : input.ended ≡ true → (bytes_of input.part ≡ []) × IsAtEnd (left input.source)

@@ -4,25 +4,29 @@ ghost use Rattle.std.specs.Prelude.{◌≡◌, ◌≤◌, ◌<◌, min, drop, le
 ghost use Rattle.std.specs.Io.{ReadsAtMost};
 ghost use Rattle.std.specs.Io.KnownBytes.{ReadConsumes};
 ghost use Rattle.mold_devices.specs.Devices.{Counts};
+ghost use Rattle.mold_input.specs.LongLines.{bytes_of};
 
 use mold_devices::{DeviceFault, Source};
+use mold_input::LinePart;
 use std::alloc::Global;
 use std::marker::Model;
 
 /// The whole entries of an input that have come, as a source that ends after them.
 #[derive(Drop)]
 pub struct Arrived {
+    // The number of digits 0 that are read first, in place of the digits that were counted and not kept.
+    digits: usize,
     bytes: Vec<u8>,
     // The number of these bytes that are read.
     read: usize,
 }
 
 impl Model for Arrived {
-    ghost use Rattle.std.specs.Prelude.{◌≤◌, ℕ, List, drop, vec_len};
+    ghost use Rattle.std.specs.Prelude.{◌≤◌, ◌++◌, ℕ, List, drop, replicate, vec_len};
 
     ghost Value = { List ℕ };
 
-    ghost view = { λ a. drop a.read a.bytes.items };
+    ghost view = { λ a. replicate a.digits 48 ++ drop a.read a.bytes.items };
 
     ghost invariant = { λ a. a.read ≤ vec_len a.bytes };
 }
@@ -33,16 +37,22 @@ impl Arrived {
         ensures { result ≡ [] }
     {
         Arrived {
+            digits: 0,
             bytes: Vec::new(alloc),
             read: 0,
         }
     }
 
-    /// Returns a source of these bytes.
-    pub(crate) fn of(bytes: Vec<u8>) -> Arrived
-        ensures { result ≡ bytes.items }
+    /// Returns a source of the bytes of this part.
+    pub(crate) fn of(part: LinePart) -> Arrived
+        ensures { result ≡ bytes_of part }
     {
-        Arrived { bytes, read: 0 }
+        let (digits, bytes) = part.into_parts();
+        Arrived {
+            digits,
+            bytes,
+            read: 0,
+        }
     }
 }
 
@@ -65,11 +75,14 @@ impl Source for Arrived {
         ensures moved { result ≡ Ok (min (length self.old) (length buffer.old)) }
         ensures left { self.new ≡ drop (length buffer.old) self.old }
     {
-        let count = (self.bytes.len() - self.read).min(buffer.len());
+        let digits = self.digits.min(buffer.len());
+        buffer[..digits].fill(b'0');
+        let count = (self.bytes.len() - self.read).min(buffer.len() - digits);
         let end = self.read + count;
-        buffer[..count].copy_from_slice(&self.bytes[self.read..end]);
+        buffer[digits..digits + count].copy_from_slice(&self.bytes[self.read..end]);
+        self.digits -= digits;
         self.read = end;
-        Ok(count)
+        Ok(digits + count)
     }
 
     fn failures(&self) -> u64 {

@@ -18,6 +18,7 @@ ghost use Rattle.mold_feeder.specs.Feeder.{ended};
 ghost use Rattle.mold_feeder.specs.Comparison.{ComparesAll};
 ghost use Rattle.mold_feeder.specs.JournalMessages.{HasMessages};
 ghost use Rattle.mold_feeder.specs.declared.feed_lines.FeedLines.{FeedLines};
+ghost use Rattle.mold_input.specs.LongLines.{bytes_of};
 ghost use Rattle.mold_wire.specs.declared.limits.TheConstants.{MAX_LIMIT};
 
 use crate::compared::Compared;
@@ -70,8 +71,8 @@ impl<
     // Waits until something has to be sent, a request has come, or the input has bytes. If all messages were sent and
     // no entry has come, it then reads a piece of the input. It does not wait if an entry can be taken.
     fn pause(&mut self) -> Result<(), CommandFault>
-        requires input { IsInput M.unread K.left self.old.input }
-        ensures input { OnOk result (IsInput M.unread K.left self.new.input) }
+        requires input { IsInput M.is_part M.unread K.left self.old.input }
+        ensures input { OnOk result (IsInput M.is_part M.unread K.left self.new.input) }
         ensures rest { OnOk result (KeepsRest (entries_of_rest M.unread K.left M.entries self.old.input)
             (entries_of_rest M.unread K.left M.entries self.new.input)) }
         ensures feeder { self.new.feeder ≡ record self.old.feeder { ports = self.new.feeder.ports } }
@@ -181,12 +182,13 @@ impl<
     // Notes that all entries that have come were taken, if `taken` states it.
     fn note(&mut self, taken: Option<Gathered>) -> Result<(), CommandFault>
         requires ready { self.old.input.ready ≡ true }
+        requires part { M.is_part self.old.input.part }
         requires over { self.old.input.ended ≡ true →
-            (self.old.input.part.items ≡ []) × IsAtEnd (K.left self.old.input.source) }
-        ensures input { OnOk result (IsInput M.unread K.left self.new.input) }
+            (bytes_of self.old.input.part ≡ []) × IsAtEnd (K.left self.old.input.source) }
+        ensures input { OnOk result (IsInput M.is_part M.unread K.left self.new.input) }
         ensures rest { OnOk result (entries_of_rest M.unread K.left M.entries self.new.input
             ≡ entries_after M.entries (left_of taken (M.entries (bytes_come M.unread self.old.input)))
-            self.old.input.part.items (K.left self.old.input.source)) }
+            (bytes_of self.old.input.part) (K.left self.old.input.source)) }
         ensures feeder { self.new.feeder ≡ self.old.feeder }
         ensures requests { self.new.requests ≡ self.old.requests }
     {
@@ -205,7 +207,7 @@ impl<
     ) -> Result<Option<Gathered>, CommandFault>
         requires longest { self.old.feeder.publisher.publisher.journal.max_message
             ≤ self.old.requests.server.max_message }
-        requires input { IsInput M.unread K.left self.old.input }
+        requires input { IsInput M.is_part M.unread K.left self.old.input }
         requires buffer { length buffer.old ≡ MAX_LIMIT }
         ensures fed { (life : Life) → IsAtRest S.shows S.may_leave self.old.feeder.publisher life → OnOk result
             ((groups : List (List (List ℕ)))
@@ -223,7 +225,7 @@ impl<
             (entries_of_rest M.unread K.left M.entries self.new.input) (filled_now taken)) }
         ensures longest { OnOk result (self.new.feeder.publisher.publisher.journal.max_message
             ≤ self.new.requests.server.max_message) }
-        ensures input { OnOk result (IsInput M.unread K.left self.new.input) }
+        ensures input { OnOk result (IsInput M.is_part M.unread K.left self.new.input) }
         ensures buffer { OnOk result (length buffer.new ≡ MAX_LIMIT) }
     {
         self.pause()?;
@@ -261,7 +263,7 @@ impl<
     ) -> Result<Gathered, CommandFault>
         requires longest { self.old.feeder.publisher.publisher.journal.max_message
             ≤ self.old.requests.server.max_message }
-        requires input { IsInput M.unread K.left self.old.input }
+        requires input { IsInput M.is_part M.unread K.left self.old.input }
         requires buffer { length buffer.old ≡ MAX_LIMIT }
         ensures fed { (life : Life) → IsAtRest S.shows S.may_leave self.old.feeder.publisher life → OnOk result
             ((groups : List (List (List ℕ)))
@@ -332,10 +334,10 @@ impl<
         journal: &mut JournalMessages<J>,
         number: u64,
     ) -> Result<(u64, Compared), CommandFault>
-        requires input { IsInput M.unread K.left self.old.input }
+        requires input { IsInput M.is_part M.unread K.left self.old.input }
         requires some { 1 ≤ number }
         requires within { number ≤ length self.old.feeder.publisher.publisher.journal.messages + 1 }
-        ensures input { OnOk result (IsInput M.unread K.left self.new.input) }
+        ensures input { OnOk result (IsInput M.is_part M.unread K.left self.new.input) }
         ensures feeder { self.new.feeder ≡ self.old.feeder }
         ensures requests { self.new.requests ≡ self.old.requests }
         ensures compared { HasMessages J.left journal.old self.old.feeder.publisher.publisher.journal.messages number →
@@ -372,7 +374,7 @@ impl<
     ) -> Result<(u64, Compared), CommandFault>
         requires longest { self.old.feeder.publisher.publisher.journal.max_message
             ≤ self.old.requests.server.max_message }
-        requires input { IsInput M.unread K.left self.old.input }
+        requires input { IsInput M.is_part M.unread K.left self.old.input }
         requires buffer { length buffer.old ≡ MAX_LIMIT }
         ensures fed { (life : Life) → IsAtRest S.shows S.may_leave self.old.feeder.publisher life →
             HasFed S.shows S.may_leave S.moment S.left_since S.failed L.modeled D.modeled lines.now life [] false
@@ -384,7 +386,7 @@ impl<
         ensures journal { self.new.feeder.publisher.publisher.journal ≡ self.old.feeder.publisher.publisher.journal }
         ensures longest { OnOk result (self.new.feeder.publisher.publisher.journal.max_message
             ≤ self.new.requests.server.max_message) }
-        ensures input { OnOk result (IsInput M.unread K.left self.new.input) }
+        ensures input { OnOk result (IsInput M.is_part M.unread K.left self.new.input) }
         ensures buffer { OnOk result (length buffer.new ≡ MAX_LIMIT) }
     {
         M::empty_law();
@@ -487,7 +489,7 @@ impl<
     ) -> Result<FeedStop, CommandFault>
         requires longest { self.old.feeder.publisher.publisher.journal.max_message
             ≤ self.old.requests.server.max_message }
-        requires input { IsInput M.unread K.left self.old.input }
+        requires input { IsInput M.is_part M.unread K.left self.old.input }
         requires buffer { length buffer.old ≡ MAX_LIMIT }
         ensures fed { (life : Life) → IsAtRest S.shows S.may_leave self.old.feeder.publisher life → IfOk result (λ stop.
             (groups : List (List (List ℕ)))
@@ -528,7 +530,7 @@ impl<
     ) -> Result<FeedStop, CommandFault>
         requires longest { self.old.feeder.publisher.publisher.journal.max_message
             ≤ self.old.requests.server.max_message }
-        requires input { IsInput M.unread K.left self.old.input }
+        requires input { IsInput M.is_part M.unread K.left self.old.input }
         requires buffer { length buffer.old ≡ MAX_LIMIT }
         ensures fed { (life : Life) → IsAtRest S.shows S.may_leave self.old.feeder.publisher life → IfOk result (λ stop.
             (groups : List (List (List ℕ)))

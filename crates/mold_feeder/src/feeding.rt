@@ -72,7 +72,7 @@ pub fn feed_loop<
 ) -> Result<u8, CommandFault>
     requires longest { feed.old.feeder.publisher.publisher.journal.max_message
         ≤ feed.old.requests.server.max_message }
-    requires input { IsInput M.unread K.left feed.old.input }
+    requires input { IsInput M.is_part M.unread K.left feed.old.input }
     ensures finished { (life : Life) → IsAtRest S.shows S.may_leave feed.old.feeder.publisher life → IfOk result
         (HasFinished S.shows S.may_leave S.moment S.left_since S.failed L.modeled D.modeled
         (HasMessages J.left journal.old feed.old.feeder.publisher.publisher.journal.messages 1)

@@ -1,13 +1,15 @@
 //! An input that comes in pieces.
 
-ghost use Rattle.std.specs.Prelude.{◌≡◌, ◌&&◌, ◌≤◌, ◌++◌, [], false, true, drop, length, take, not, IfOk, OnOk};
+ghost use Rattle.std.specs.Prelude.{◌≡◌, ◌&&◌, ◌++◌, [], false, true, not, IfOk, OnOk};
 ghost use Rattle.mold_feeder.specs.Input.{IsInput, KeepsRest, bytes_come, entries_after, entries_of_rest};
 ghost use Rattle.mold_input.specs.Entries.{known_entries};
+ghost use Rattle.mold_input.specs.LongLines.{bytes_of};
 
 use crate::arrived::Arrived;
 use crate::feed_input::FeedInput;
 use crate::piece_reader::PieceReader;
 use mold_devices::{Piece, ReadFault, Source};
+use mold_input::LinePart;
 use std::alloc::{AllocError, Global};
 use std::mem;
 
@@ -21,7 +23,7 @@ pub struct PieceInput<M, K> {
     /// The whole entries that have come.
     pub come: FeedInput<M, Arrived>,
     // The part of the next entry that has come.
-    part: Vec<u8>,
+    part: LinePart,
     // What the pieces are read from.
     source: K,
     piece: Box<Piece<PIECE>>,
@@ -31,22 +33,10 @@ pub struct PieceInput<M, K> {
     ended: bool,
 }
 
-// Takes the first `count` bytes of the part, and leaves the others. After an error the bytes are lost.
-fn split_part(part: &mut Vec<u8>, count: usize, alloc: Global) -> Result<Vec<u8>, AllocError>
-    requires { count ≤ length part.old.items }
-    ensures whole { IfOk result (λ whole. whole.items ≡ take count part.old.items) }
-    ensures part { OnOk result (part.new.items ≡ drop count part.old.items) }
-{
-    let mut whole = mem::replace(part, Vec::new(alloc));
-    part.extend_from_slice(&whole[count..])?;
-    whole.truncate(count);
-    Ok(whole)
-}
-
 impl<M: PieceReader, K: Source + Drop> PieceInput<M, K> {
     /// Returns the input that this source gives. It fails if the allocation of its buffers fails.
     pub fn new(alloc: Global, source: K) -> Result<PieceInput<M, K>, AllocError>
-        ensures input { IfOk result (IsInput M.unread K.left) }
+        ensures input { IfOk result (IsInput M.is_part M.unread K.left) }
         ensures rest { IfOk result (λ input.
             entries_of_rest M.unread K.left M.entries input ≡ known_entries M.entries (K.left source)) }
     {
@@ -59,7 +49,7 @@ impl<M: PieceReader, K: Source + Drop> PieceInput<M, K> {
         Ok(PieceInput {
             alloc,
             come,
-            part: Vec::new(alloc),
+            part: LinePart::new(alloc),
             source,
             piece: Box::new(alloc, Piece::new())?,
             ready: false,
@@ -90,17 +80,16 @@ impl<M: PieceReader, K: Source + Drop> PieceInput<M, K> {
 
     // Adds what the piece has to what has come.
     fn add_piece(&mut self) -> Result<(), AllocError>
-        requires { self.old.come.source ≡ [] }
+        requires none { self.old.come.source ≡ [] }
+        requires part { M.is_part self.old.part }
+        ensures part { OnOk result (M.is_part self.new.part) }
         ensures split { OnOk result (
-            entries_after M.entries (M.entries self.new.come.source) self.new.part.items (K.left self.new.source)
-            ≡ entries_after M.entries [] (self.old.part.items ++ self.old.piece.value) (K.left self.old.source)) }
+            entries_after M.entries (M.entries self.new.come.source) (bytes_of self.new.part) (K.left self.new.source)
+            ≡ entries_after M.entries [] (bytes_of self.old.part ++ self.old.piece.value) (K.left self.old.source)) }
         ensures rest { self.new ≡ record self.old { come = self.new.come; part = self.new.part } }
         ensures messages { self.new.come.messages ≡ self.old.come.messages }
     {
-        let from = self.part.len();
-        self.part.extend_from_slice(self.piece.rest())?;
-        let count = M::whole(self.part.as_slice(), from);
-        let whole = split_part(&mut self.part, count, self.alloc)?;
+        let whole = M::add(&mut self.part, self.piece.rest(), self.alloc)?;
         self.come.source = Arrived::of(whole);
         Ok(())
     }
@@ -108,9 +97,9 @@ impl<M: PieceReader, K: Source + Drop> PieceInput<M, K> {
     /// Reads the next piece: at most 65,536 bytes, as many as the source gives. At the end of the input, the part of an
     /// entry that has come is the last entry.
     pub(crate) fn pull(&mut self) -> Result<(), ReadFault>
-        requires input { IsInput M.unread K.left self.old }
+        requires input { IsInput M.is_part M.unread K.left self.old }
         requires lacks { (not self.old.ready && not self.old.ended) ≡ true }
-        ensures input { OnOk result (IsInput M.unread K.left self.new) }
+        ensures input { OnOk result (IsInput M.is_part M.unread K.left self.new) }
         ensures rest { OnOk result (KeepsRest (entries_of_rest M.unread K.left M.entries self.old)
             (entries_of_rest M.unread K.left M.entries self.new)) }
     {
@@ -119,7 +108,7 @@ impl<M: PieceReader, K: Source + Drop> PieceInput<M, K> {
         self.ready = true;
         if count == 0 {
             self.ended = true;
-            let last = mem::replace(&mut self.part, Vec::new(self.alloc));
+            let last = mem::replace(&mut self.part, LinePart::new(self.alloc));
             self.come.source = Arrived::of(last);
             return Ok(());
         }

@@ -1,61 +1,84 @@
 //! The trait of readers whose input comes in pieces: which bytes of the pieces are whole entries.
 
-ghost use Rattle.std.specs.Prelude.{◌≡◌, ◌≤◌, ℕ, List, [], drop, length, take};
-ghost use Rattle.mold_feeder.specs.Pieces.{AreWhole, IsBlockPart};
-ghost use Rattle.mold_devices.specs.Lines.{HasNoEnd};
+ghost use Rattle.std.specs.Prelude.{◌≡◌, ◌++◌, ◌≤◌, ℕ, List, [], length, take, drop, IfOk, OnOk};
+ghost use Rattle.mold_input.specs.LongLines.{PartState, bytes_of};
+ghost use Rattle.mold_feeder.specs.Pieces.{AreWhole, IsLinePart, IsPartOfBlocks};
+ghost use Rattle.mold_feeder.specs.Pieces.{IsBlockPart};
+ghost use Rattle.mold_input.specs.Blocks.{block_entries};
 
 use byteorder::{BigEndian, ByteOrder};
 use memchr::memrchr;
-use mold_input::{HexLines, MessageBlocks, MessageReader};
+use mold_input::{HexLines, LinePart, MessageBlocks, MessageReader};
 use mold_wire::LENGTH_BYTES;
+use std::alloc::{AllocError, Global};
 
 /// A reader of messages whose input comes in pieces.
 pub trait PieceReader: MessageReader {
     // The bytes are at most a part of one entry.
-    ghost is_part: { List ℕ → Type 0 };
+    ghost is_part: { PartState → Type 0 };
 
-    /// Returns the number of bytes, from the first one on, that are whole entries, whatever follows. The bytes after
-    /// them are at most a part of one entry if the first `from` bytes are.
-    fn whole(bytes: &[u8], from: usize) -> usize
-        requires { from ≤ length bytes.now }
-        ensures within { result ≤ length bytes.now }
-        ensures whole { AreWhole Self.entries (take result bytes.now) }
-        ensures part { is_part (take from bytes.now) → is_part (drop result bytes.now) };
+    /// Adds bytes to the part of an entry that has come. Returns the whole entries, and leaves what follows them.
+    fn add(part: &mut LinePart, bytes: &[u8], alloc: Global) -> Result<LinePart, AllocError>
+        requires { is_part part.old }
+        ensures whole { IfOk result (λ whole. AreWhole Self.entries (bytes_of whole)) }
+        ensures part { OnOk result (is_part part.new) }
+        ensures split { IfOk result (λ whole. (more : List ℕ) →
+            Self.entries (bytes_of whole) ++ Self.entries (bytes_of part.new ++ more)
+            ≡ Self.entries (bytes_of part.old ++ (bytes.now ++ more))) };
 
-    /// States that exactly an empty input has no entries. It does nothing.
+    /// States that exactly an empty input has no entries, and that no bytes are a part of one entry. It does nothing.
     fn empty_law()
         ensures empty { (bytes : List ℕ) → Self.entries bytes ≡ [] → bytes ≡ [] }
-        ensures none { Self.entries [] ≡ [] };
+        ensures none { Self.entries [] ≡ [] }
+        ensures part { is_part (record { counted = 0; kept = [] }) };
 }
 
 impl PieceReader for HexLines {
-    ghost is_part = { HasNoEnd };
+    ghost is_part = { IsLinePart };
 
-    fn whole(bytes: &[u8], from: usize) -> usize {
-        match memrchr(b'\n', &bytes[from..]) {
-            Some(at) => from + at + 1,
-            None => 0,
-        }
+    fn add(part: &mut LinePart, bytes: &[u8], alloc: Global) -> Result<LinePart, AllocError> {
+        let Some(at) = memrchr(b'\n', bytes) else {
+            part.add(bytes)?;
+            return Ok(LinePart::new(alloc));
+        };
+        let before = part.kept().len();
+        part.extend(bytes)?;
+        part.split(before + at + 1, alloc)
     }
 
     fn empty_law() {}
 }
 
 impl PieceReader for MessageBlocks {
-    ghost is_part = { IsBlockPart };
+    ghost is_part = { IsPartOfBlocks };
 
-    fn whole(bytes: &[u8], _from: usize) -> usize {
-        let mut count = 0;
-        'blocks: while bytes.len() - count >= LENGTH_BYTES {
-            let rest = &bytes[count..];
-            let len = LENGTH_BYTES + usize::from(BigEndian::read_u16(rest));
-            if rest.len() < len {
-                break 'blocks;
-            }
-            count += len;
+    fn add(part: &mut LinePart, bytes: &[u8], alloc: Global) -> Result<LinePart, AllocError> {
+        part.extend(bytes)?;
+        let count = whole_blocks(part.kept());
+        if count == 0 {
+            return Ok(LinePart::new(alloc));
         }
-        count
+        part.split(count, alloc)
     }
 
     fn empty_law() {}
+}
+
+// Returns the number of bytes, from the first one on, that are whole blocks, whatever follows. The bytes after them are
+// at most a part of one block.
+fn whole_blocks(bytes: &[u8]) -> usize
+    ensures within { result ≤ length bytes.now }
+    ensures whole { AreWhole block_entries (take result bytes.now) }
+    ensures part { IsBlockPart (drop result bytes.now) }
+{
+    let mut count = 0;
+    'blocks: while bytes.len() - count >= LENGTH_BYTES {
+        let rest = &bytes[count..];
+        let len = LENGTH_BYTES + usize::from(BigEndian::read_u16(rest));
+        if rest.len() < len {
+            break 'blocks;
+        }
+        count += len;
+    }
+    count
 }

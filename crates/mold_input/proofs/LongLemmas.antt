@@ -1,20 +1,19 @@
 -- Lines of which only a part is kept have the entry of the whole line.
-use Rattle.std.proofs.Common.{arith, ◌≡◌, ◌∙◌, ℕ, ◌+◌, ◌*◌, ◌/◌, ◌%◌, ◌<◌, ◌≤◌, ◌&&◌, ◌⊎◌, zero, suc, Bool, true, false, cond, eqb}
+use Rattle.std.proofs.Common.{arith, ◌≡◌, ◌∙◌, ℕ, ◌+◌, ◌*◌, ◌/◌, ◌%◌, ◌<◌, ◌≤◌, ◌&&◌, ◌⊎◌, zero, suc, Bool, true, false, eqb}
 use Rattle.std.proofs.Common.{List, [], ◌∷◌, ◌++◌, length, length-append, replicate, get_or, Result, Ok, Err, ap, refl, sym, subst}
-use Rattle.std.proofs.Common.{append_assoc, append-nil, inl, inr, nat_lt}
+use Rattle.std.proofs.Common.{append-nil, inl, inr, nat_lt}
 use Rattle.std.specs.Prelude.{MatchResult}
-use Rattle.std.specs.List.{AllPass, list_all}
+use Rattle.std.specs.List.{list_all}
 use Rattle.std.proofs.Math.Dec.{eqb-suc-zero}
-use Rattle.std.proofs.lemmas.Bool.{cases_Bool, cases_eq, cases_lt, cond-false, cond-true, eqb-true}
-use Rattle.std.proofs.lemmas.List.{get_or-replicate, length-replicate, nil_from_length}
+use Rattle.std.proofs.lemmas.Bool.{cases_Bool, cases_eq, cond-false, cond-true, eqb-true}
+use Rattle.std.proofs.lemmas.List.{get_or-replicate, length-replicate}
 use Rattle.std.proofs.lemmas.List.Folds.{list_all-append}
 use Rattle.std.proofs.lemmas.List.Sums.{AllPass-from_list_all, list_all-from_AllPass}
 use Rattle.hex.specs.Hex.{decode_of, is_hex_digit}
 use Rattle.hex.specs.declared.error.FromHexError.{FromHexError}
-use Rattle.hex.specs.declared.error.FromHexError.TheVariants.{OddLength}
 use Rattle.hex.proofs.HexLemmas.{decode_of-digits, decode_of-odd, decode_of-ok}
 use Rattle.mold_devices.specs.Lines.{HasNoEnd}
-use Rattle.mold_input.specs.Entries.{Entry, bytes_entry, digits_entry, line_entry}
+use Rattle.mold_input.specs.Entries.{bytes_entry, digits_entry, line_entry}
 use Rattle.mold_input.specs.LongLines.{IsSameStart}
 use Rattle.mold_input.specs.declared.input_fault.InputFault.TheVariants.{NotHex, TooLong}
 use Rattle.mold_input.specs.declared.limits.TheConstants.{MAX_LINE}

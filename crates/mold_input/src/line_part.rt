@@ -1,6 +1,6 @@
 //! The part of an entry that has been read. Of a line that is too long for a message, only the digits are counted.
 
-ghost use Rattle.std.specs.Prelude.{◌≡◌, ◌+◌, ◌++◌, ◌≤◌, ◌==◌, [], length, IfOk, IfSome, OnOk};
+ghost use Rattle.std.specs.Prelude.{◌≡◌, ◌+◌, ◌++◌, ◌≤◌, ◌==◌, [], drop, length, take, IfOk, IfSome, OnOk};
 ghost use Rattle.mold_input.specs.Entries.{line_entry};
 ghost use Rattle.mold_input.specs.LongLines.{IsEntry, IsSameStart, bytes_of};
 ghost use Rattle.mold_input.specs.declared.limits.TheConstants.{MAX_LINE};
@@ -11,6 +11,7 @@ use crate::next::Next;
 use mold_digits::{are_digits, decode};
 use std::alloc::{AllocError, Global};
 use std::marker::Model;
+use std::mem;
 
 /// A byte that is not a digit.
 const NO_DIGIT: u8 = b'.';
@@ -82,6 +83,42 @@ impl LinePart {
         self.clear();
         self.kept.extend_from_slice(&[NO_DIGIT])?;
         Ok(())
+    }
+
+    /// Adds bytes of a block. It keeps all of them.
+    pub fn extend(&mut self, bytes: &[u8]) -> Result<(), AllocError>
+        ensures { OnOk result (self.new ≡ record self.old { kept = self.old.kept ++ bytes.now }) }
+    {
+        self.kept.extend_from_slice(bytes)
+    }
+
+    /// Returns the bytes that are kept.
+    pub fn kept(&self) -> &[u8]
+        ensures { result.now ≡ self.now.kept }
+    {
+        self.kept.as_slice()
+    }
+
+    /// Takes the counted digits and the first `count` kept bytes, and leaves the other bytes. After an error the bytes
+    /// are lost.
+    pub fn split(&mut self, count: usize, alloc: Global) -> Result<LinePart, AllocError>
+        requires { count ≤ length self.old.kept }
+        ensures whole { IfOk result (λ whole. whole ≡ record self.old { kept = take count self.old.kept }) }
+        ensures left { OnOk result (self.new ≡ record { counted = 0; kept = drop count self.old.kept }) }
+    {
+        let mut whole = mem::replace(self, LinePart::new(alloc));
+        self.kept.extend_from_slice(&whole.kept[count..])?;
+        whole.kept.truncate(count);
+        Ok(whole)
+    }
+
+    /// Returns the number of counted digits, and the kept bytes.
+    pub fn into_parts(self) -> (usize, Vec<u8>)
+        ensures counted { result.0 ≡ self.counted }
+        ensures kept { result.1.items ≡ self.kept }
+    {
+        let LinePart { counted, kept } = self;
+        (counted, kept)
     }
 
     // Returns the number of bytes, if `more` follow.

@@ -11,6 +11,8 @@ use Rattle.hex.specs.declared.error.FromHexError.{FromHexError}
 use Rattle.mold_wire.specs.Packing.{packet_length, Fits}
 use Rattle.mold_input.specs.Entries.{Entry, GivesNext, digits_entry, line_entry, with_kind}
 use Rattle.mold_input.specs.declared.input_fault.InputFault.{InputFault}
+use Rattle.mold_input.specs.declared.input_fault.InputFault.TheVariants as fault
+use Rattle.mold_input.specs.declared.limits.TheConstants.{MAX_LINE}
 use Rattle.mold_input.specs.declared.input_kind.InputKind.{InputKind}
 use Rattle.mold_input.specs.declared.input_kind.InputKind.TheVariants.{Lines}
 use Rattle.mold_input.specs.declared.next.Next.TheVariants as next
@@ -107,10 +109,17 @@ module _ (kind : InputKind) where
 
 -- ---- lines
 
+long_same : (journal : JournalState) (message : List ℕ) (long : Bool) →
+    entry_outcome Lines journal (cond long (Err (fault.TooLong (length message))) (Ok message))
+    ≡ cond long (Err (record { kind = Lines; why = NotRead (fault.TooLong (length message)) }))
+    (unless_refused Lines message (append_refusal journal message))
+long_same journal message true = refl
+long_same journal message false = refl
+
 -- A line has the outcome of its entry.
 line_same : (journal : JournalState) (digits : Result (List ℕ) FromHexError) →
     entry_outcome Lines journal (digits_entry digits) ≡ line_outcome journal digits
-line_same journal (Ok message) = refl
+line_same journal (Ok message) = long_same journal message (nat_lt MAX_LINE (2 * length message))
 line_same journal (Err why) = refl
 
 published_same : (journal : JournalState) (outcome : Result (List ℕ) MessageRefusal)

@@ -1,14 +1,15 @@
 -- The messages of an input that are published.
-use Rattle.std.specs.Prelude.{◌≡◌, ℕ, ◌≤◌, List, [], ◌∷◌, ◌++◌, codes, decimal, length, Option, None, Some}
-use Rattle.std.specs.Prelude.{Result, Ok, Err, ⊤}
+use Rattle.std.specs.Prelude.{◌≡◌, ℕ, ◌*◌, ◌≤◌, nat_lt, if◌then◌else◌, List, [], ◌∷◌, ◌++◌, codes, decimal, length}
+use Rattle.std.specs.Prelude.{Option, None, Some, Result, Ok, Err, ⊤}
 use Rattle.hex.specs.Hex.{decode_of}
 use Rattle.hex.specs.declared.error.FromHexError.{FromHexError}
 use Rattle.mold_wire.specs.Packing.{Fits}
 use Rattle.mold_input.specs.Entries.{Entry, InputEntries}
 use Rattle.mold_input.specs.declared.input_fault.InputFault.{InputFault}
-use Rattle.mold_input.specs.declared.input_fault.InputFault.TheVariants.{NotHex, Cut}
+use Rattle.mold_input.specs.declared.input_fault.InputFault.TheVariants.{NotHex, TooLong, Cut}
 use Rattle.mold_input.specs.declared.input_kind.InputKind.{InputKind}
 use Rattle.mold_input.specs.declared.input_kind.InputKind.TheVariants.{Lines, Blocks}
+use Rattle.mold_input.specs.declared.limits.TheConstants.{MAX_LINE}
 use Rattle.mold_refusals.specs.Words.{append_words}
 use Rattle.mold_text.specs.Text.{refused_line}
 use Rattle.mold_session.specs.Journal.{JournalState, append_refusal, appended}
@@ -28,6 +29,7 @@ entry_word Blocks = codes "block"
 -- The words that report why an entry is not a message.
 abbrev pub input_fault_words : InputFault → List (List ℕ)
 input_fault_words NotHex = codes "NotHex" ∷ []
+input_fault_words (TooLong len) = codes "TooLong" ∷ decimal len ∷ []
 input_fault_words Cut = codes "Cut" ∷ []
 
 -- The words that report why an entry is refused: a name, and the numbers that belong to it.
@@ -82,10 +84,13 @@ entries_published kind journal (entry ∷ entries) =
 abbrev pub input_published : JournalState → InputEntries → PublishedInput
 input_published journal input = entries_published input.kind journal input.entries
 
--- The message that a line's digits encode, or the reason why the line is refused.
+-- The message that a line's digits encode, or the reason why the line is refused. More than `MAX_LINE` digits are too
+-- long for a message of any journal.
 abbrev pub line_outcome : JournalState → Result (List ℕ) FromHexError → Result (List ℕ) MessageRefusal
 line_outcome journal (Err _) = refused_for Lines (NotRead NotHex)
-line_outcome journal (Ok message) = unless_refused Lines message (append_refusal journal message)
+line_outcome journal (Ok message) =
+    if nat_lt MAX_LINE (2 * length message) then refused_for Lines (NotRead (TooLong (length message)))
+    else unless_refused Lines message (append_refusal journal message)
 
 -- The journal after the lines were published in order, up to the first one that is refused, and the reason for that
 -- refusal.

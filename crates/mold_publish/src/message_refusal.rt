@@ -37,6 +37,11 @@ pub fn push_message_refused(
         RefusalReason::NotRead(InputFault::NotHex) => {
             push_line_with(out, &before, &[Word::Text(b"NotHex")])
         }
+        RefusalReason::NotRead(InputFault::TooLong { len }) => push_line_with(
+            out,
+            &before,
+            &[Word::Text(b"TooLong"), Word::Number(len as u64)],
+        ),
         RefusalReason::NotRead(InputFault::Cut) => {
             push_line_with(out, &before, &[Word::Text(b"Cut")])
         }

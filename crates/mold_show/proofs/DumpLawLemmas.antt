@@ -1,5 +1,5 @@
 -- What is printed for a journal's file is published as the same messages.
-use Rattle.std.proofs.Common.{◌≡◌, ℕ, zero, suc, ◌+◌, ◌-◌, ◌/◌, ◌%◌, ◌<◌, ◌≤◌, ◌==◌, Bool, true, false, cond, nat_lt, List, [], ◌∷◌}
+use Rattle.std.proofs.Common.{◌≡◌, ℕ, zero, suc, ◌+◌, ◌-◌, ◌*◌, ◌/◌, ◌%◌, ◌<◌, ◌≤◌, ◌==◌, Bool, true, false, cond, nat_lt, List, [], ◌∷◌}
 use Rattle.std.proofs.Common.{◌++◌, length, length-append, map, Option, None, Some, Result, Ok, refl, sym, ap}
 use Rattle.std.proofs.Common.{◌∙◌, append_assoc, append-nil, subst, arith}
 use Rattle.std.proofs.lemmas.Bool.Decides.{nat_tests}
@@ -15,6 +15,7 @@ use Rattle.mold_session.specs.File.{head_1, head_2}
 use Rattle.mold_session.specs.Journal.{IsWithin, JournalState, append_refusal, appended, fresh_journal}
 use Rattle.mold_session.specs.Loading.{SpellsFile}
 use Rattle.mold_session.specs.Records.{head_3, record_of, records}
+use Rattle.mold_wire.specs.declared.block.TheConstants.{MAX_MESSAGE}
 use Rattle.mold_wire.specs.declared.limits.TheConstants.{MESSAGE_OVERHEAD}
 use Rattle.mold_session.specs.declared.error.AppendError.{AppendError}
 use Rattle.mold_session.specs.declared.error.AppendError.TheVariants.{Closed, TooLong, Full}
@@ -22,11 +23,14 @@ use Rattle.mold_session.specs.declared.error.FileError.{FileError}
 use Rattle.mold_session.specs.declared.file_version.FileVersion.{FileVersion}
 use Rattle.mold_session.specs.declared.file_version.FileVersion.TheVariants.{One, Two, Three}
 use Rattle.mold_session.specs.declared.loading.FileHead.{FileHead}
+use Rattle.mold_input.specs.declared.input_fault.InputFault.TheVariants as fault
 use Rattle.mold_input.specs.declared.input_kind.InputKind.TheVariants as kind
+use Rattle.mold_input.specs.declared.limits.TheConstants.{MAX_LINE}
 use Rattle.mold_input.specs.declared.message_format.MessageFormat.{MessageFormat}
 use Rattle.mold_input.specs.declared.message_format.MessageFormat.TheVariants.{Lines, Blocks, BlocksToEmpty}
-use Rattle.mold_publish.specs.Publishing.{PublishedInput, line_outcome, lines_published, published_from, unless_refused}
+use Rattle.mold_publish.specs.Publishing.{PublishedInput, line_outcome, lines_published, published_from, refused_for, unless_refused}
 use Rattle.mold_publish.specs.declared.message_refusal.MessageRefusal.{MessageRefusal}
+use Rattle.mold_publish.specs.declared.refusal_reason.RefusalReason.TheVariants.{NotRead}
 use Rattle.mold_text.specs.Line.{joined}
 use Rattle.mold_show.specs.Dump.{PrintsAll, dump_text, dumped, end_mark, ends_session, fault_line, fault_of}
 use Rattle.mold_show.specs.Dump.{fault_status, fault_text, has_unprintable, is_empty, last_text, message_line}
@@ -132,6 +136,12 @@ file_few bytes head messages One spelled = spelled.1.listed.few
 file_few bytes head messages (Two count) spelled = spelled.listed.few
 file_few bytes head messages Three spelled = spelled.listed.few
 
+file_short : (bytes : List ℕ) (head : FileHead) (messages : List (List ℕ)) (version : FileVersion) →
+    SpellsFile head messages version bytes → AllByRecursion (IsWithin MAX_MESSAGE) messages
+file_short bytes head messages One spelled = spelled.1.listed.each
+file_short bytes head messages (Two count) spelled = spelled.listed.each
+file_short bytes head messages Three spelled = spelled.listed.each
+
 -- ---- the messages that are published
 
 short_enough : (a b : ℕ) → b ≤ a → nat_lt a b ≡ false
@@ -153,23 +163,26 @@ not_refused journal message opened within few =
 
 all_published : (messages : List (List ℕ)) (journal : JournalState) → journal.closed ≡ false →
     AllByRecursion IsBytes messages → AllByRecursion (IsWithin journal.max_message) messages →
-    length journal.messages + length messages < 18446744073709551615 →
+    AllByRecursion (IsWithin MAX_MESSAGE) messages → length journal.messages + length messages < 18446744073709551615 →
     lines_published journal (map encode_lower messages)
     ≡ record { journal = record journal { messages = journal.messages ++ messages }; refused = None }
 unfolding lines_published
-all_published [] journal opened are within few =
+all_published [] journal opened are within short few =
     ap (λ (ms : List (List ℕ)).
     let published : PublishedInput = record { journal = record journal { messages = ms }; refused = None } in published)
     (sym (append-nil journal.messages))
-all_published (message ∷ messages) journal opened are within few =
-    let short : length message ≤ journal.max_message = within.0 in
+all_published (message ∷ messages) journal opened are within short few =
+    let fits : length message ≤ journal.max_message = within.0 in
     let outcome : line_outcome journal (decode_of (encode_lower message)) ≡ Ok message =
     ap (line_outcome journal) (decode_of-encode_lower message are.0)
-    ∙ ap (unless_refused kind.Lines message) (not_refused journal message opened short (omega (arith, few)))
+    ∙ ap (λ (b : Bool). cond b (refused_for kind.Lines (NotRead (fault.TooLong (length message))))
+    (unless_refused kind.Lines message (append_refusal journal message)))
+    (short_enough MAX_LINE (2 * length message) (omega (arith, short.0)))
+    ∙ ap (unless_refused kind.Lines message) (not_refused journal message opened fits (omega (arith, few)))
     in
     ap (λ (r : Result (List ℕ) MessageRefusal).
     published_from journal r (λ next. lines_published next (map encode_lower messages))) outcome
-    ∙ all_published messages (appended journal message) opened are.1 within.1
+    ∙ all_published messages (appended journal message) opened are.1 within.1 short.1
     (omega (arith, few, length-append journal.messages (message ∷ [])))
     ∙ ap (λ (ms : List (List ℕ)).
     let published : PublishedInput = record { journal = record journal { messages = ms }; refused = None } in published)
@@ -217,6 +230,7 @@ dump_published law head messages bytes contents limit count are spelled within a
     (lines_printed law head messages bytes contents count spelled all)
     ∙ ap (lines_published (fresh_journal head.session (limit - MESSAGE_OVERHEAD))) (printed_lines messages)
     ∙ all_published messages (fresh_journal head.session (limit - MESSAGE_OVERHEAD)) refl (file_bytes bytes head messages head.version are spelled) within
+    (file_short bytes head messages head.version spelled)
     (omega (arith, file_few bytes head messages head.version spelled))
 
 -- ---- blocks

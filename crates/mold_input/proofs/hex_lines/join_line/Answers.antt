@@ -1,8 +1,7 @@
-use Rattle.std.proofs.Common.{◌≡◌, ◌∙◌, ◌++◌, ℕ, List, ap, arith, eqb, subst, sym, take}
-use Rattle.std.specs.Io.KnownBytes.{Consumes, prepend_known}
-use Rattle.mold_devices.proofs.LineLemmas.{IsOver, consumes_prepended, found_end, none_found}
+use Rattle.std.proofs.Common.{◌∙◌, ◌++◌, ℕ, List, arith, subst, take}
+use Rattle.mold_devices.proofs.LineLemmas.{IsOver, found_end, none_found}
 use Rattle.mold_input.specs.LongLines.{IsSameStart, bytes_of}
-use Rattle.mold_input.proofs.StartLemmas.{starting_ends, starting_more, starting_none, starting_over}
+use Rattle.mold_input.proofs.StartLemmas.{starting_ends, starting_more, starting_over}
 use Rattle.mold_input.proofs.hex_lines.join_line.Goals as goal
 
 pub returns-then-count-eq0-clause-line : goal.returns-then-count-eq0-clause-line

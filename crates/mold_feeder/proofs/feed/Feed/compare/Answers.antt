@@ -129,7 +129,7 @@ returns-then-not-compares_on-clause-compared g c = λ has.
     (entries_of_rest g.M.InputReader.unread g.K.Source.left g.M.MessageReader.entries c.serve.new.self.input)
     (entries_of_rest g.M.InputReader.unread g.K.Source.left g.M.MessageReader.entries c.compare_some.new.self.input) c.in_ok-at.compared
     (not c.compare_some.new.self.input.ready && c.compare_some.new.self.input.ended) (cc)
-    (over_rest g.M.InputReader.unread g.K.Source.left g.M.MessageReader.entries c.compare_some.new.self.input
+    (over_rest g.M.PieceReader.is_part g.M.InputReader.unread g.K.Source.left g.M.MessageReader.entries c.compare_some.new.self.input
     c.in_ok-at.ensures.input c.empty_law.ensures.none)
     (same_kept c.args.self.now.feeder.publisher.publisher.journal 1 c.loop.number (entries_of_rest g.M.InputReader.unread g.K.Source.left g.M.MessageReader.entries c.args.self.now.input)
     (entries_of_rest g.M.InputReader.unread g.K.Source.left g.M.MessageReader.entries c.loop.self.input)

@@ -19,7 +19,7 @@ invariant-loop g l = record {
       (state_of g.L.PortSet.state g.D.Datagrams.port l.self);
   longest : l.self.feeder.publisher.publisher.journal.max_message ≤ l.self.requests.server.max_message;
   buffer : length l.buffer ≡ MAX_LIMIT;
-  input : IsInput g.M.InputReader.unread g.K.Source.left l.self.input;
+  input : IsInput g.M.PieceReader.is_part g.M.InputReader.unread g.K.Source.left l.self.input;
   has :
       HasMessages g.J.Source.left l.fn.journal l.fn.self.feeder.publisher.publisher.journal.messages 1 →
       HasMessages g.J.Source.left l.journal l.fn.self.feeder.publisher.publisher.journal.messages l.number;

@@ -78,7 +78,7 @@ returns-in-Some-clause-taken g c = λ life is.
     (entries_of_rest g.M.InputReader.unread g.K.Source.left g.M.MessageReader.entries c.turn.new.self.input) c.in_ok-taken.taken
     (not c.turn.new.self.input.ready && c.turn.new.self.input.ended) c.in-Some.gathered
     (sym c.stop_of.ensures ∙ c.in-Some.is)
-    (over_rest g.M.InputReader.unread g.K.Source.left g.M.MessageReader.entries c.turn.new.self.input
+    (over_rest g.M.PieceReader.is_part g.M.InputReader.unread g.K.Source.left g.M.MessageReader.entries c.turn.new.self.input
     c.in_ok-taken.ensures.input c.empty_law.ensures.none)
     (takes_then g.M.MessageReader.input_kind c.args.self.now.feeder.publisher.publisher.journal
     c.loop.self.feeder.publisher.publisher.journal c.turn.new.self.feeder.publisher.publisher.journal

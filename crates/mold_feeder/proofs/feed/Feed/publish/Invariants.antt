@@ -26,5 +26,5 @@ invariant-loop g l = record {
       l.self.feeder.publisher.publisher.journal
       (entries_of_rest g.M.InputReader.unread g.K.Source.left g.M.MessageReader.entries l.fn.self.input)
       (entries_of_rest g.M.InputReader.unread g.K.Source.left g.M.MessageReader.entries l.self.input) Full;
-  input : IsInput g.M.InputReader.unread g.K.Source.left l.self.input;
+  input : IsInput g.M.PieceReader.is_part g.M.InputReader.unread g.K.Source.left l.self.input;
 }

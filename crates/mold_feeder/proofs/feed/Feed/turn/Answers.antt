@@ -3,6 +3,7 @@ use Rattle.mold_input.specs.Entries.{Entry}
 use Rattle.mold_devices.proofs.LineLemmas.{on_err}
 use Rattle.mold_session.specs.Journal.{JournalState}
 use Rattle.mold_durable_publisher.specs.DurablePublisher.{IsAtRest}
+use Rattle.mold_input.specs.LongLines.{bytes_of}
 use Rattle.mold_feeder.specs.Feeding.{MayNotClose, grown, state_of}
 use Rattle.mold_feeder.specs.Input.{bytes_come, entries_after, entries_of_rest}
 use Rattle.mold_feeder.specs.Taking.{Takes, TakesPart, filled_now, left_of}
@@ -20,20 +21,20 @@ returns-clause-taken g c = λ life is.
     let known = entries_of_rest g.M.InputReader.unread g.K.Source.left entries c.args.self.now.input in
     let before = c.pause.new.self.input in
     let left = left_of taken (entries (bytes_come g.M.InputReader.unread c.take.new.self.input)) in
-    let rest = entries_after entries left before.part.items (g.K.Source.left before.source) in
+    let rest = entries_after entries left (bytes_of before.part) (g.K.Source.left before.source) in
     let start : IsAtRest g.S.Storage.shows g.S.Storage.may_leave c.pause.new.self.feeder.publisher life =
     subst (λ (f : Feeder g.row.S.Denot g.row.L.Denot). IsAtRest g.S.Storage.shows g.S.Storage.may_leave f.publisher life)
     (sym c.in_ok-pause.ensures.feeder) is in
     let takes =
     turn_takes kind c.pause.new.self.feeder.publisher.publisher.journal c.take.new.self.feeder.publisher.publisher.journal
     known entries (entries (bytes_come g.M.InputReader.unread before))
-    (entries (bytes_come g.M.InputReader.unread c.take.new.self.input)) before.part.items
+    (entries (bytes_come g.M.InputReader.unread c.take.new.self.input)) (bytes_of before.part)
     (g.K.Source.left before.source) taken c.in_ok-pause.ensures.rest (c.in_ok-taken.ensures.taken life start) in
     subst (λ (r : Option (List Entry)). Takes kind c.args.self.now.feeder.publisher.publisher.journal
     c.note.new.self.feeder.publisher.publisher.journal known r (filled_now taken))
     (sym (c.in_ok-note.ensures.rest
     ∙ ap (λ (i : PieceInput g.row.M.Denot g.row.K.Denot).
-    entries_after entries left i.part.items (g.K.Source.left i.source)) c.take.ensures.input))
+    entries_after entries left (bytes_of i.part) (g.K.Source.left i.source)) c.take.ensures.input))
     (subst (λ (f : Feeder g.row.S.Denot g.row.L.Denot). Takes kind c.args.self.now.feeder.publisher.publisher.journal
     f.publisher.publisher.journal known rest (filled_now taken)) (sym c.note.ensures.feeder)
     (subst (λ (f : Feeder g.row.S.Denot g.row.L.Denot). Takes kind f.publisher.publisher.journal
@@ -95,7 +96,7 @@ returns-in_err-taken-clause-broken g c = λ life is.
     (λ journal part.
     subst (λ (j : JournalState). TakesPart g.M.MessageReader.input_kind j known journal)
     (ap (λ (f : Feeder g.row.S.Denot g.row.L.Denot). f.publisher.publisher.journal) c.pause.ensures.feeder)
-    (part_of_rest g.M.MessageReader.input_kind before journal known entries come input.part.items
+    (part_of_rest g.M.MessageReader.input_kind before journal known entries come (bytes_of input.part)
     (g.K.Source.left input.source) c.in_ok-pause.ensures.rest part))
     (λ journal never. never) (c.in_err-taken.ensures.broken (grown life []) waited.rests)))
 
@@ -115,7 +116,7 @@ returns-in_err-note-clause-broken g c = λ life is.
     c.pause.ensures.requests in
     let took = c.in_ok-taken.ensures.fed (grown life []) waited.rests in
     let takes = turn_takes g.M.MessageReader.input_kind before after known entries come
-    (entries (bytes_come g.M.InputReader.unread c.take.new.self.input)) input.part.items
+    (entries (bytes_come g.M.InputReader.unread c.take.new.self.input)) (bytes_of input.part)
     (g.K.Source.left input.source) c.in_ok-taken.taken c.in_ok-pause.ensures.rest
     (c.in_ok-taken.ensures.taken (grown life []) waited.rests) in
     on_err _

@@ -1,4 +1,5 @@
 use Rattle.std.proofs.Common.{◌∙◌, ap}
+use Rattle.mold_input.specs.LongLines.{bytes_of}
 use Rattle.mold_feeder.specs.declared.piece_input.PieceInput.{PieceInput}
 use Rattle.mold_feeder.proofs.InputLemmas.{lacks_ready, nil_second, rest_added, rest_ended}
 use Rattle.mold_feeder.proofs.piece_input.PieceInput.pull.Goals as goal
@@ -8,16 +9,16 @@ returns-then-count-eq0-clause-rest g c =
     let self = c.args.self.now in
     let last = c.replace-last.ensures.value in
     let after = c.replace-last.ensures.after in
-    let none = c.new.ensures.items in
+    let none = ap bytes_of c.new.ensures in
     let of = c.of.ensures in
     rest_ended g.M.MessageReader.entries (g.M.InputReader.unread self.come.messages) self.come.source c.of.result
-    self.part.items c.replace-last.new.dest.items c.refill.new.self (g.K.Source.left self.source)
+    (bytes_of self.part) (bytes_of c.replace-last.new.dest) c.refill.new.self (g.K.Source.left self.source)
     (g.K.Source.left c.refill.new.source) (c.requires.input.taken (lacks_ready self.ready self.ended c.requires.lacks))
     c.empty_law.ensures.none c.in_ok-count.ensures.bytes (c.in_ok-count.ensures.len ∙ c.if-count-eq0.true)
-    (c.in_ok-count.ensures.end c.if-count-eq0.true) (cc) (cc)
+    (c.in_ok-count.ensures.end c.if-count-eq0.true) (of ∙ ap bytes_of last) (ap bytes_of after ∙ none)
 
-pub add_piece-requires : goal.add_piece-requires
-add_piece-requires g c =
+pub add_piece-requires-none : goal.add_piece-requires-none
+add_piece-requires-none g c =
     let self = c.args.self.now in
     nil_second g.M.MessageReader.entries (g.M.InputReader.unread self.come.messages) self.come.source
     (c.requires.input.taken (lacks_ready self.ready self.ended c.requires.lacks))
@@ -27,7 +28,7 @@ returns-clause-rest g c =
     let self = c.args.self.now in
     rest_added g.M.MessageReader.entries (g.M.InputReader.unread self.come.messages)
     (g.M.InputReader.unread c.add_piece.new.self.come.messages) self.come.source c.add_piece.new.self.come.source
-    self.part.items c.add_piece.new.self.part.items c.refill.new.self (g.K.Source.left self.source)
+    (bytes_of self.part) (bytes_of c.add_piece.new.self.part) c.refill.new.self (g.K.Source.left self.source)
     (g.K.Source.left c.refill.new.source) (g.K.Source.left c.add_piece.new.self.source)
     (ap g.M.InputReader.unread c.in_ok-add_piece.ensures.messages)
     (ap (λ (i : PieceInput g.row.M.Denot g.row.K.Denot). g.K.Source.left i.source) c.in_ok-add_piece.ensures.rest)

@@ -1,4 +1,4 @@
-use Rattle.std.proofs.Common.{◌≡◌, ◌∙◌, ◌+◌, ℕ, List, ap, drop, sym, subst, take, true}
+use Rattle.std.proofs.Common.{◌≡◌, ◌∙◌, ◌+◌, ℕ, List, ap, drop, sym, subst, take}
 use Rattle.std.specs.Io.KnownBytes.{prepend_known}
 use Rattle.mold_devices.proofs.LineLemmas.{found_end, gives_read}
 use Rattle.mold_input.specs.Entries.{GivesNext, ReaderState, known_entries, line_entries, line_entry}

@@ -1,4 +1,4 @@
-use Rattle.std.proofs.Common.{arith, ◌≡◌, ◌∙◌, ◌+◌, ◌<◌, ap, sym, subst, List, [], ◌∷◌, ℕ, Bool, length, length-append, replicate, ◌++◌, true, false}
+use Rattle.std.proofs.Common.{arith, ◌≡◌, ◌∙◌, ◌<◌, ap, sym, subst, List, [], ◌∷◌, ℕ, length, length-append, replicate, ◌++◌, true, false}
 use Rattle.mold_input.specs.LongLines.{IsSameStart, PartState, bytes_of}
 use Rattle.mold_input.specs.declared.limits.TheConstants.{MAX_LINE}
 use Rattle.mold_input.proofs.LongLemmas.{bad_replaced, digits, digits_counted, not_both, part_bad, part_good, part_length}

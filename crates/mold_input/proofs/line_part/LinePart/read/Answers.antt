@@ -1,6 +1,6 @@
-use Rattle.std.proofs.Common.{arith, ◌≡◌, ◌∙◌, ◌/◌, ap, sym, List, ℕ, Bool, Err, length, replicate, ◌++◌, inl, inr, true, false}
+use Rattle.std.proofs.Common.{arith, ◌≡◌, ◌∙◌, ◌/◌, ap, sym, List, ℕ, Err, length, replicate, ◌++◌, inl, inr, true}
 use Rattle.mold_input.specs.Entries.{line_entry}
-use Rattle.mold_input.specs.LongLines.{PartState, bytes_of}
+use Rattle.mold_input.specs.LongLines.{bytes_of}
 use Rattle.mold_input.specs.declared.input_fault.InputFault.TheVariants.{TooLong}
 use Rattle.mold_input.proofs.LongLemmas.{counted_digits, digits, long_entry, part_length, part_refused}
 use Rattle.mold_input.proofs.line_part.LinePart.read.Goals as goal

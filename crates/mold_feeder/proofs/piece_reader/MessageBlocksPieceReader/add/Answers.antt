@@ -1,0 +1,1 @@
+use Rattle.mold_feeder.proofs.piece_reader.MessageBlocksPieceReader.add.Goals as goal
