@@ -13,3 +13,6 @@ pub mod FrugalRunLemmas
 pub mod AttemptsLemmas
 pub mod DelayLemmas
 pub mod ArrivalLemmas
+pub mod ApartLemmas
+pub mod RangeLemmas
+pub mod SentLemmas

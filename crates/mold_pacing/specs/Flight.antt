@@ -1,5 +1,6 @@
 -- Requests in flight.
 use Rattle.std.specs.Prelude.{◌≡◌, ℕ, ◌<◌, ◌≤◌, ◌&&◌, Bool, true, false, List, [], ◌∷◌, nat_le, nat_lt, slice_get, Some}
+use Rattle.std.specs.Prelude.{if◌then◌else◌}
 use Rattle.std.specs.List.{list_any}
 use Rattle.mold_pacing.specs.declared.flight.Flight.{Flight}
 
@@ -44,3 +45,18 @@ ArePassed fs now index number = (i : ℕ) (f : Flight) → i < index → slice_g
 -- The requests from this index on begin above `number`.
 abbrev pub BeginAbove : List Flight → ℕ → ℕ → Type 0
 BeginAbove fs index number = (i : ℕ) (f : Flight) → index ≤ i → slice_get fs i ≡ Some f → number < f.first
+
+-- Whether the request is not over before this time.
+abbrev pub waits_until : ℕ → Flight → Bool
+waits_until time f = nat_le time f.until
+
+-- Whether the request ends at or below this number.
+abbrev pub ends_below : ℕ → Flight → Bool
+ends_below number f = nat_le f.end number
+
+-- Whether each request asks for a number, and those in flight are apart: each begins at or above the end of the one
+-- before it, and the first begins at or above `low`.
+abbrev pub are_apart : ℕ → ℕ → List Flight → Bool
+are_apart now low [] = true
+are_apart now low (f ∷ fs) = nat_lt f.first f.end
+    && (if nat_lt now f.until then nat_le low f.first && are_apart now f.end fs else are_apart now low fs)

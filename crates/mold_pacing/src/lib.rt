@@ -6,6 +6,7 @@
 
 mod arrival;
 mod ask;
+mod bounds;
 mod bucket;
 mod cursor;
 mod delay;

@@ -2,9 +2,10 @@
 
 ghost use Rattle.std.specs.Prelude.{◌<◌, ◌≤◌, ◌+◌, ◌^◌, ◌≡◌, true, vec_capacity, vec_len};
 ghost use Rattle.std.specs.List.{list_all};
-ghost use Rattle.mold_pacing.specs.Flight.{is_ascending, is_over};
+ghost use Rattle.mold_pacing.specs.Flight.{are_apart, ends_below, is_ascending, is_over, waits_until};
 
 use crate::ask::Ask;
+use crate::bounds::Bounds;
 use crate::bucket::is_open;
 use crate::cursor::Cursor;
 use crate::flight::Flight;
@@ -17,7 +18,7 @@ use crate::response::{ended_request, take_arrival, take_response};
 use crate::state::PacerState;
 use crate::step::Step;
 use crate::table::{Free, all_begin_below, find_covering, first_free, free_end, next_hole};
-use crate::waiting::{free_from, next_over, over_from};
+use crate::waiting::{free_from, least_until, next_over, over_from};
 use std::alloc::{AllocError, Global};
 
 /// The policy of requests. It knows the time, the requests in flight, and the missing numbers only from its caller.
@@ -27,7 +28,11 @@ pub struct Pacer {
     state: PacerState,
     // The requests in flight and those that are over, in ascending order of their first numbers.
     flights: Vec<Flight>,
+    bounds: Bounds,
     ghost sorted: { is_ascending 0 flights.items ≡ true },
+    ghost apart: { are_apart state.now 0 flights.items ≡ true },
+    ghost waits: { list_all (waits_until bounds.over) flights.items ≡ true },
+    ghost bounded: { list_all (ends_below bounds.end) flights.items ≡ true },
     ghost few: { vec_len flights ≤ options.places },
     ghost room: { options.places ≤ vec_capacity flights },
     ghost timed: { state.now < 2 ^ 62 },
@@ -64,6 +69,10 @@ impl Pacer {
             options,
             state: PacerState::new(options, known),
             flights: Vec::with_capacity(alloc, options.places as usize)?,
+            bounds: Bounds {
+                over: u64::MAX,
+                end: 0,
+            },
         })
     }
 
@@ -99,7 +108,8 @@ impl Pacer {
             map (after_response self.old.options.settle self.old.state.now came.first came.end) self.old.flights.items }
     {
         let ended = ended_request(&self.flights, self.state.now, came);
-        take_response(&mut self.flights, self.options.settle, self.state.now, came);
+        let least = take_response(&mut self.flights, self.options.settle, self.state.now, came);
+        self.bounds.over = self.bounds.over.min(least);
         self.state = self.state.respond(self.options, server, ended);
     }
 
@@ -115,7 +125,8 @@ impl Pacer {
         if all_begin_below(&self.flights, came.first) {
             return;
         }
-        take_arrival(&mut self.flights, self.state.now, came);
+        let least = take_arrival(&mut self.flights, self.state.now, came);
+        self.bounds.over = self.bounds.over.min(least);
     }
 
     /// Returns whether no request begins at or above this number. Then the arrival of numbers from this one on changes
@@ -158,6 +169,8 @@ impl Pacer {
         requires place { IsPlace self.old.flights.items self.old.options.places self.old.state.now ask.first
             place.leaves place.before }
         requires opened { self.old.state.opens ≤ self.old.state.now + self.old.options.tolerance }
+        requires some { ask.first < ask.end }
+        requires free { NoneInFlight self.old.flights.items self.old.state.now ask.first ask.end }
         ensures options { self.new.options ≡ self.old.options }
         ensures state { self.new.state ≡ asked self.old.options.interval (ask.end - ask.first)
             (learned self.old.options place.before self.old.state) }
@@ -167,6 +180,10 @@ impl Pacer {
     {
         let sent = next_flight(self.options, self.state.now, place.before, ask);
         replace(&mut self.flights, place.leaves, sent);
+        self.bounds = Bounds {
+            over: self.bounds.over.min(sent.until),
+            end: self.bounds.end.max(sent.end),
+        };
         let state = self.state.learn(self.options, place.before);
         self.state = state.ask(self.options.interval, ask.end.saturating_sub(ask.first));
     }
@@ -184,7 +201,13 @@ impl Pacer {
             return None;
         }
         let free = first_free(&self.flights, now, self.state.ripe, gaps)?;
-        let place = place_for(&self.flights, self.options.places, now, free.first)?;
+        let place = place_for(
+            &self.flights,
+            self.bounds,
+            self.options.places,
+            now,
+            free.first,
+        )?;
         let ask = self.ask_for(free, place.before);
         self.send(place, ask);
         Some(ask)
@@ -207,8 +230,33 @@ impl Pacer {
     pub fn can_send(&self) -> bool
         ensures { result ≡ can_send self.now }
     {
-        is_open(self.state.opens, self.options.tolerance, self.state.now)
-            && self.room_from() <= self.state.now
+        let now = self.state.now;
+        if !is_open(self.state.opens, self.options.tolerance, now) {
+            return false;
+        }
+        if self.flights.len() < self.options.places as usize {
+            return true;
+        }
+        if now < self.bounds.over {
+            return false;
+        }
+        least_until(&self.flights, now).is_none()
+    }
+
+    /// Learns when the next request is over. After that, until then, no call looks for requests that are over. Call it
+    /// when `can_send` returned false.
+    pub fn note_full(&mut self)
+        ensures options { self.new.options ≡ self.old.options }
+        ensures state { self.new.state ≡ self.old.state }
+        ensures flights { self.new.flights.items ≡ self.old.flights.items }
+    {
+        let now = self.state.now;
+        if now < self.bounds.over {
+            return;
+        }
+        if let Some(over) = least_until(&self.flights, now) {
+            self.bounds.over = over;
+        }
     }
 
     /// Returns the first numbers at or above the cursor's number that are not in flight, up to the next request. To
@@ -264,11 +312,11 @@ impl Pacer {
     pub fn last_request(&self, number: u64) -> Option<Flight>
         ensures { result ≡ last_request self.now number }
     {
-        let index = stale_index(&self.flights, self.state.now, number)?;
+        let index = stale_index(&self.flights, self.bounds, self.state.now, number)?;
         Some(self.flights[index])
     }
 
-    /// Returns the request in flight for this number, if there is one. The cost is linear in the requests.
+    /// Returns the request in flight for this number, if there is one.
     pub fn request_for(&self, number: u64) -> Option<Flight>
         ensures { result ≡ request_for self.now number }
     {

@@ -1,13 +1,14 @@
 //! The places of the table: which request leaves it, and where a new one enters.
 
-ghost use Rattle.std.specs.Prelude.{◌≡◌, ◌<◌, ◌≤◌, ℕ, false, length, find, slice_get, IfNone, IfSome, Some, None};
+ghost use Rattle.std.specs.Prelude.{◌≡◌, ◌<◌, ◌≤◌, true, false, find, IfNone, IfSome, None};
 ghost use Rattle.std.specs.Prelude.{vec_capacity, vec_len};
-ghost use Rattle.std.specs.List.{list_any};
-ghost use Rattle.mold_pacing.specs.Flight.{is_over, is_stale};
-ghost use Rattle.mold_pacing.specs.declared.flight.Flight.{Flight};
-ghost use Rattle.mold_pacing.specs.Table.{AreBelow, IsFound, IsOverAt, IsPlace, has_room, placed, without};
+ghost use Rattle.std.specs.List.{list_all, list_any};
+ghost use Rattle.mold_pacing.specs.Flight.{ends_below, is_ascending, is_over, is_stale, waits_until};
+ghost use Rattle.mold_pacing.specs.Table.{IsFound, IsOverAt, IsPlace, has_room, placed, without};
 
+use crate::bounds::Bounds;
 use crate::flight::Flight;
+use crate::table::count_below;
 
 /// The place for a new request: the index of the request that leaves the table, if one has to, and the last request for
 /// the same number.
@@ -24,17 +25,43 @@ fn is_stale_for(flight: Flight, now: u64, number: u64) -> bool
     flight.until <= now && flight.first <= number && number < flight.end
 }
 
-/// Returns the index of the first request that is over and asked for this number.
-pub(crate) fn stale_index(flights: &[Flight], now: u64, number: u64) -> Option<usize>
+// Returns the index of the first request that is over and asked for this number. It looks at the requests that begin at
+// or below it.
+fn find_stale(flights: &[Flight], now: u64, number: u64) -> Option<usize>
+    requires sorted { is_ascending 0 flights.now ≡ true }
     ensures found { IfSome result (λ index. IsFound (is_stale now number) flights.now index) }
     ensures none { IfNone result (find (is_stale now number) flights.now ≡ None) }
 {
-    for index in 0..flights.len() {
+    let mut index = 0usize;
+    while index < flights.len() {
+        if number < flights[index].first {
+            return None;
+        }
         if is_stale_for(flights[index], now, number) {
             return Some(index);
         }
+        index += 1;
     }
     None
+}
+
+/// Returns the index of the first request that is over and asked for this number.
+pub(crate) fn stale_index(
+    flights: &[Flight],
+    bounds: Bounds,
+    now: u64,
+    number: u64,
+) -> Option<usize>
+    requires sorted { is_ascending 0 flights.now ≡ true }
+    requires waits { list_all (waits_until bounds.over) flights.now ≡ true }
+    requires ends { list_all (ends_below bounds.end) flights.now ≡ true }
+    ensures found { IfSome result (λ index. IsFound (is_stale now number) flights.now index) }
+    ensures none { IfNone result (find (is_stale now number) flights.now ≡ None) }
+{
+    if now < bounds.over || bounds.end <= number {
+        return None;
+    }
+    find_stale(flights, now, number)
 }
 
 // Returns the index of the first request that is over.
@@ -51,11 +78,20 @@ fn over_index(flights: &[Flight], now: u64) -> Option<usize>
 }
 
 /// Returns the place for a request that begins with this number, if the table has room.
-pub(crate) fn place_for(flights: &[Flight], places: u32, now: u64, number: u64) -> Option<Place>
+pub(crate) fn place_for(
+    flights: &[Flight],
+    bounds: Bounds,
+    places: u32,
+    now: u64,
+    number: u64,
+) -> Option<Place>
+    requires sorted { is_ascending 0 flights.now ≡ true }
+    requires waits { list_all (waits_until bounds.over) flights.now ≡ true }
+    requires ends { list_all (ends_below bounds.end) flights.now ≡ true }
     ensures place { IfSome result (λ place. IsPlace flights.now places now number place.leaves place.before) }
     ensures none { IfNone result (has_room places now flights.now ≡ false) }
 {
-    if let Some(index) = stale_index(flights, now, number) {
+    if let Some(index) = stale_index(flights, bounds, now, number) {
         return Some(Place {
             leaves: Some(index),
             before: Some(flights[index]),
@@ -74,27 +110,14 @@ pub(crate) fn place_for(flights: &[Flight], places: u32, now: u64, number: u64) 
     })
 }
 
-// Returns the index of the first request that doesn't begin below this number.
-fn index_for(flights: &[Flight], first: u64) -> usize
-    ensures bound { result ≤ length flights.now }
-    ensures below { AreBelow flights.now result first }
-    ensures next { (f : Flight) → slice_get flights.now result ≡ Some f → first ≤ f.first }
-{
-    for index in 0..flights.len() {
-        if flights[index].first >= first {
-            return index;
-        }
-    }
-    flights.len()
-}
-
 // Inserts the request before the first one that doesn't begin below it.
 fn put(flights: &mut Vec<Flight>, sent: Flight)
-    requires { vec_len flights.old < vec_capacity flights.old }
+    requires room { vec_len flights.old < vec_capacity flights.old }
+    requires sorted { is_ascending 0 flights.old.items ≡ true }
     ensures items { flights.new.items ≡ placed sent flights.old.items }
     ensures capacity { vec_capacity flights.new ≡ vec_capacity flights.old }
 {
-    let index = index_for(flights, sent.first);
+    let index = count_below(flights, sent.first);
     let _ = flights.insert(index, sent);
 }
 
@@ -102,6 +125,7 @@ fn put(flights: &mut Vec<Flight>, sent: Flight)
 pub(crate) fn replace(flights: &mut Vec<Flight>, leaves: Option<usize>, sent: Flight)
     requires there { IfSome leaves (λ index. index < vec_len flights.old) }
     requires room { leaves ≡ None → vec_len flights.old < vec_capacity flights.old }
+    requires sorted { is_ascending 0 flights.old.items ≡ true }
     ensures items { flights.new.items ≡ placed sent (without leaves flights.old.items) }
     ensures capacity { vec_capacity flights.new ≡ vec_capacity flights.old }
 {

@@ -1,11 +1,14 @@
 //! What responses and arrivals do to the requests in flight.
 
-ghost use Rattle.std.specs.Prelude.{◌≡◌, ◌<◌, ◌+◌, ◌^◌, find, map};
+ghost use Rattle.std.specs.Prelude.{◌≡◌, ◌<◌, ◌+◌, ◌^◌, ℕ, true, find, map, min};
+ghost use Rattle.std.specs.List.{list_all};
+ghost use Rattle.mold_pacing.specs.Flight.{are_apart, is_ascending, waits_until};
 ghost use Rattle.mold_pacing.specs.Most.{ends_request};
 ghost use Rattle.mold_pacing.specs.Responses.{after_arrival, after_response, is_response_to};
 
 use crate::flight::Flight;
 use crate::gap::Gap;
+use crate::table::{count_below, passed_index};
 
 // Returns whether a number of the range responds to the request.
 fn is_response(flight: Flight, now: u64, came: Gap) -> bool
@@ -58,29 +61,67 @@ fn is_end(flight: Flight, now: u64, came: Gap) -> bool
 
 /// Returns the first request that a response with the numbers of the range frees.
 pub(crate) fn ended_request(flights: &[Flight], now: u64, came: Gap) -> Option<Flight>
+    requires sorted { is_ascending 0 flights.now ≡ true }
+    requires apart { are_apart now 0 flights.now ≡ true }
     ensures { result ≡ find (ends_request now came.first came.end) flights.now }
 {
-    flights
-        .iter()
-        .copied()
-        .find(|flight| is_end(*flight, now, came))
+    let mut index = passed_index(flights, now, came.first);
+    while index < flights.len() {
+        let flight = flights[index];
+        if came.end <= flight.first {
+            return None;
+        }
+        if is_end(flight, now, came) {
+            return Some(flight);
+        }
+        index += 1;
+    }
+    None
 }
 
-/// Applies a response with the numbers of the range to each request.
-pub(crate) fn take_response(flights: &mut [Flight], settle: u64, now: u64, came: Gap)
-    requires { now + settle < 2 ^ 64 }
-    ensures { flights.new ≡ map (after_response settle now came.first came.end) flights.old }
+/// Applies a response with the numbers of the range to each request. Returns a time before which none of those that it
+/// looked at is over.
+pub(crate) fn take_response(flights: &mut [Flight], settle: u64, now: u64, came: Gap) -> u64
+    requires fits { now + settle < 2 ^ 64 }
+    requires sorted { is_ascending 0 flights.old ≡ true }
+    requires apart { are_apart now 0 flights.old ≡ true }
+    ensures flights { flights.new ≡ map (after_response settle now came.first came.end) flights.old }
+    ensures waits { (time : ℕ) → list_all (waits_until time) flights.old ≡ true →
+        list_all (waits_until (min time result)) flights.new ≡ true }
 {
-    for flight in flights.iter_mut() {
-        *flight = with_response(*flight, settle, now, came);
+    let mut least = u64::MAX;
+    let mut index = passed_index(flights, now, came.first);
+    while index < flights.len() {
+        if came.end <= flights[index].first {
+            return least;
+        }
+        let flight = with_response(flights[index], settle, now, came);
+        least = least.min(flight.until);
+        flights[index] = flight;
+        index += 1;
     }
+    least
 }
 
-/// Frees each request whose whole range is within this one, which arrived.
-pub(crate) fn take_arrival(flights: &mut [Flight], now: u64, came: Gap)
-    ensures { flights.new ≡ map (after_arrival now came.first came.end) flights.old }
+/// Frees each request whose whole range is within this one, which arrived. Returns a time before which none of those
+/// that it looked at is over.
+pub(crate) fn take_arrival(flights: &mut [Flight], now: u64, came: Gap) -> u64
+    requires sorted { is_ascending 0 flights.old ≡ true }
+    requires apart { are_apart now 0 flights.old ≡ true }
+    ensures flights { flights.new ≡ map (after_arrival now came.first came.end) flights.old }
+    ensures waits { (time : ℕ) → list_all (waits_until time) flights.old ≡ true →
+        list_all (waits_until (min time result)) flights.new ≡ true }
 {
-    for flight in flights.iter_mut() {
-        *flight = with_arrival(*flight, now, came);
+    let mut least = u64::MAX;
+    let mut index = count_below(flights, came.first);
+    while index < flights.len() {
+        if came.end <= flights[index].first {
+            return least;
+        }
+        let flight = with_arrival(flights[index], now, came);
+        least = least.min(flight.until);
+        flights[index] = flight;
+        index += 1;
     }
+    least
 }

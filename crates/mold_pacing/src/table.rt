@@ -4,7 +4,7 @@ ghost use Rattle.std.specs.Prelude.{◌≡◌, ◌≤◌, ◌<◌, ◌⊎◌, �
 ghost use Rattle.std.specs.Prelude.{slice_get, Some};
 ghost use Rattle.mold_pacing.specs.Table.{AreBelow};
 ghost use Rattle.mold_pacing.specs.Flight.{AllInFlight, ArePassed, BeginAbove, NoneInFlight, covers, in_flight};
-ghost use Rattle.mold_pacing.specs.Flight.{is_ascending};
+ghost use Rattle.mold_pacing.specs.Flight.{are_apart, is_ascending};
 ghost use Rattle.mold_pacing.specs.declared.flight.Flight.{Flight};
 ghost use Rattle.mold_pacing.specs.Asks.{AreGaps, AreAllInFlight, IsFirstFree};
 
@@ -80,10 +80,63 @@ pub(crate) fn next_hole(flights: &[Flight], now: u64, from: Cursor) -> Hole
     }
 }
 
+/// Returns how many requests begin below this number.
+pub(crate) fn count_below(flights: &[Flight], number: u64) -> usize
+    requires sorted { is_ascending 0 flights.now ≡ true }
+    ensures bound { result ≤ length flights.now }
+    ensures below { AreBelow flights.now result number }
+    ensures next { (i : ℕ) (f : Flight) → result ≤ i → slice_get flights.now i ≡ Some f → number ≤ f.first }
+{
+    let mut low = 0usize;
+    let mut high = flights.len();
+    while low < high {
+        let middle = low + (high - low) / 2;
+        if flights[middle].first < number {
+            low = middle + 1;
+        } else {
+            high = middle;
+        }
+    }
+    low
+}
+
+/// Returns an index before which all requests in flight end at or below this number. From there on, only the first
+/// request in flight can begin below it.
+pub(crate) fn passed_index(flights: &[Flight], now: u64, number: u64) -> usize
+    requires sorted { is_ascending 0 flights.now ≡ true }
+    requires apart { are_apart now 0 flights.now ≡ true }
+    ensures { ArePassed flights.now now result number }
+{
+    let below = count_below(flights, number);
+    let mut index = below;
+    while index > 0 {
+        index -= 1;
+        let flight = flights[index];
+        if now < flight.until {
+            return if flight.end <= number { below } else { index };
+        }
+    }
+    below
+}
+
+// Returns the cursor's index, or a greater one if it is 0.
+fn index_from(flights: &[Flight], now: u64, from: Cursor) -> usize
+    requires sorted { is_ascending 0 flights.now ≡ true }
+    requires apart { are_apart now 0 flights.now ≡ true }
+    requires passed { ArePassed flights.now now from.index from.number }
+    ensures { ArePassed flights.now now result from.number }
+{
+    if from.index == 0 {
+        return passed_index(flights, now, from.number);
+    }
+    from.index
+}
+
 /// Returns the least number of the gaps that is below `ripe` and not in flight. Each gap and each request is visited at
-/// most once, and no gap after the first one that begins at or above `ripe`.
+/// most once, but no gap after the first one that begins at or above `ripe`, and no request below the first gap.
 pub(crate) fn first_free(flights: &[Flight], now: u64, ripe: u64, gaps: &[Gap]) -> Option<Free>
     requires sorted { is_ascending 0 flights.now ≡ true }
+    requires apart { are_apart now 0 flights.now ≡ true }
     requires gaps { AreGaps gaps.now }
     ensures found { IfSome result (λ free. IsFirstFree flights.now now ripe gaps.now free.first free.end) }
     ensures passed { IfSome result (λ free. ArePassed flights.now now free.index free.first) }
@@ -104,7 +157,8 @@ pub(crate) fn first_free(flights: &[Flight], now: u64, ripe: u64, gaps: &[Gap]) 
                 index: cursor.index,
                 number: cursor.number.max(gap.first),
             };
-            cursor = pass_flights(flights, now, from);
+            let index = index_from(flights, now, from);
+            cursor = pass_flights(flights, now, Cursor { index, ..from });
             let end = gap.end.min(ripe);
             if cursor.number < end {
                 return Some(Free {
@@ -139,12 +193,22 @@ fn is_covering(flight: Flight, now: u64, number: u64) -> bool
 
 /// Returns the first request in flight that asks for this number.
 pub(crate) fn find_covering(flights: &[Flight], now: u64, number: u64) -> Option<Flight>
+    requires sorted { is_ascending 0 flights.now ≡ true }
+    requires apart { are_apart now 0 flights.now ≡ true }
     ensures { result ≡ find (covers now number) flights.now }
 {
-    flights
-        .iter()
-        .copied()
-        .find(|flight| is_covering(*flight, now, number))
+    let mut index = passed_index(flights, now, number);
+    while index < flights.len() {
+        let flight = flights[index];
+        if number < flight.first {
+            return None;
+        }
+        if is_covering(flight, now, number) {
+            return Some(flight);
+        }
+        index += 1;
+    }
+    None
 }
 
 // Returns whether the request is in flight and asks for a number.

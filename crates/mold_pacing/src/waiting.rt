@@ -2,7 +2,8 @@
 
 ghost use Rattle.std.specs.Prelude.{◌≡◌, ◌<◌, ◌≤◌, ◌^◌, ℕ, true, false, length, nat_lt, if◌then◌else◌, slice_get, Some};
 ghost use Rattle.std.specs.List.{list_all, list_any};
-ghost use Rattle.mold_pacing.specs.Flight.{asks_for, in_flight, is_over};
+ghost use Rattle.std.specs.Prelude.{IfNone, IfSome};
+ghost use Rattle.mold_pacing.specs.Flight.{asks_for, in_flight, is_over, waits_until};
 ghost use Rattle.mold_pacing.specs.declared.flight.Flight.{Flight};
 
 use crate::flight::Flight;
@@ -27,6 +28,25 @@ pub(crate) fn free_from(flights: &[Flight], number: u64) -> u64
         }
     }
     from
+}
+
+/// Returns the time from which on one of the requests is over, if none of them is over now. It looks at no request
+/// after one that is over.
+pub(crate) fn least_until(flights: &[Flight], now: u64) -> Option<u64>
+    requires { now < 2 ^ 62 }
+    ensures some { IfSome result (λ time. now < time) }
+    ensures waits { IfSome result (λ time. list_all (waits_until time) flights.now ≡ true) }
+    ensures none { IfNone result (list_any (is_over now) flights.now ≡ true) }
+{
+    let mut least = u64::MAX;
+    for index in 0..flights.len() {
+        let until = flights[index].until;
+        if until <= now {
+            return None;
+        }
+        least = least.min(until);
+    }
+    Some(least)
 }
 
 /// Returns the time from which on one of the requests is over.

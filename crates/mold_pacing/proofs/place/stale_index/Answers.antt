@@ -1,31 +1,18 @@
-use Rattle.std.proofs.Common.{arith, sym, ◌∙◌}
-use Rattle.std.proofs.lemmas.Option.{slice_get-get_or, slice_get_within}
-use Rattle.mold_pacing.specs.Flight.{is_stale}
-use Rattle.mold_pacing.proofs.PlaceLemmas.{find_at, find_none, none_more}
-use Rattle.mold_pacing.proofs.TableLemmas.{flight_at}
+use Rattle.mold_pacing.specs.Flight.{ends_below, is_stale, waits_until}
+use Rattle.mold_pacing.proofs.PlaceLemmas.{find_none}
+use Rattle.mold_pacing.proofs.RangeLemmas.{all_at, not_stale_before, not_stale_past}
+use Rattle.mold_pacing.proofs.place.stale_index.Goals.{then-now-bounds-via-then-now-bounds, then-now-bounds-via-else-now-bounds+then-bounds-number}
 use Rattle.mold_pacing.proofs.place.stale_index.Goals as goal
 
-pub returns-then-is_stale_for-clause-found : goal.returns-then-is_stale_for-clause-found
-returns-then-is_stale_for-clause-found c =
+pub returns-then-now-bounds-clause-none : goal.returns-then-now-bounds-clause-none
+returns-then-now-bounds-clause-none c =
     let fs = c.args.flights.now in
-    let f = flight_at fs c.loop-index.index in
-    let there = slice_get-get_or fs c.loop-index.index _ c.loop-index-test.true in
-    let passes = sym c.is_stale_for.ensures ∙ c.if-is_stale_for.true in
-    record {
-      flight = f;
-      there = there;
-      passes = passes;
-      found = find_at (is_stale c.args.now c.args.number) fs c.loop-index.index f c.loop-index.invariant there passes;
-    }
-
-pub loop-index-preserved : goal.loop-index-preserved
-loop-index-preserved c =
-    let fs = c.args.flights.now in
-    none_more (is_stale c.args.now c.args.number) fs c.loop-index.index (flight_at fs c.loop-index.index)
-    (slice_get-get_or fs c.loop-index.index _ c.loop-index-test.true) c.loop-index.invariant
-    (sym c.is_stale_for.ensures ∙ c.if-is_stale_for.false)
-
-pub returns-clause-none : goal.returns-clause-none
-returns-clause-none c =
-    find_none (is_stale c.args.now c.args.number) c.args.flights.now (λ i f there. c.loop-index.invariant i f
-    (omega (arith, c.loop-index-test.false, slice_get_within c.args.flights.now i f there)) there)
+    let bounds = c.args.bounds in
+    find_none (is_stale c.args.now c.args.number) fs (λ i f there. elim c.then-now-bounds.branch [
+      | then-now-bounds-via-then-now-bounds w ↦
+          not_stale_before c.args.now c.args.number bounds.over f w.if-now-bounds.true
+          (all_at (waits_until bounds.over) fs i f c.requires.waits there)
+      | then-now-bounds-via-else-now-bounds+then-bounds-number w ↦
+          not_stale_past c.args.now c.args.number bounds.end f w.if-bounds-number.true
+          (all_at (ends_below bounds.end) fs i f c.requires.ends there)
+    ])

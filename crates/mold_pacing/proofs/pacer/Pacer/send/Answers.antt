@@ -1,8 +1,10 @@
-use Rattle.std.proofs.Common.{ℕ, ◌+◌, ◌∙◌, List, ap, arith, length}
+use Rattle.std.proofs.Common.{ℕ, ◌+◌, ◌<◌, ◌∙◌, List, ap, arith, length, max, min, subst, sym}
 use Rattle.std.specs.List.{list_all}
-use Rattle.mold_pacing.specs.Flight.{is_ascending, is_over}
+use Rattle.mold_pacing.specs.Flight.{NoneInFlight, are_apart, ends_below, is_ascending, is_over, waits_until}
 use Rattle.mold_pacing.specs.Table.{without}
+use Rattle.mold_pacing.proofs.ApartLemmas.{sent_apart}
 use Rattle.mold_pacing.proofs.EndLemmas.{all_placed, all_without, sent_ends}
+use Rattle.mold_pacing.proofs.SentLemmas.{pause_some, sent_bounded, sent_waits, without_ascending}
 use Rattle.mold_pacing.specs.declared.flight.Flight.{Flight}
 use Rattle.mold_pacing.specs.declared.state.PacerState.{PacerState}
 use Rattle.mold_pacing.proofs.LawLemmas.{learned_marked, learned_most, learned_now, learned_opens}
@@ -23,9 +25,23 @@ invariant_of-self c =
     ∙ learned_marked old.options before old.state in
     let opens = ap (λ (s : PacerState). s.opens) c.ask-self.ensures in
     let most = ap (λ (s : PacerState). s.most) c.ask-self.ensures ∙ ap (λ (s : PacerState). s.most) learns in
+    let is = c.next_flight-sent.ensures in
+    let first = ap (λ (f : Flight). f.first) is in
+    let end = ap (λ (f : Flight). f.end) is in
+    let until = ap (λ (f : Flight). f.until) is in
+    let flies : old.state.now < sent.until = omega (arith, until, pause_some old.options before old.options.waits.0) in
     let some = learned_most old.options before old.state old.options.asks.0 old.learned.0 old.learned.1 in
     record {
       sorted = ap (is_ascending 0) c.replace.ensures.items ∙ sent_ascending sent leaves fs old.sorted;
+      apart = ap (λ (n : ℕ). are_apart n 0 c.replace.new.flights.items) now
+          ∙ ap (are_apart old.state.now 0) c.replace.ensures.items
+          ∙ sent_apart old.state.now sent leaves fs (without_ascending leaves fs old.sorted)
+          (subst (λ (n : ℕ). NoneInFlight fs old.state.now n sent.end) (sym first)
+          (subst (λ (n : ℕ). NoneInFlight fs old.state.now c.args.ask.first n) (sym end) c.requires.free)) (omega (arith, first, end, c.requires.some)) flies old.apart;
+      waits = rw c.min.ensures (ap (list_all (waits_until (min old.bounds.over sent.until))) c.replace.ensures.items
+          ∙ sent_waits old.bounds.over sent leaves fs old.waits);
+      bounded = rw c.max.ensures (ap (list_all (ends_below (max old.bounds.end sent.end))) c.replace.ensures.items
+          ∙ sent_bounded old.bounds.end sent leaves fs old.bounded);
       few = omega (
         arith,
         c.replace.new.flights.ok.0,

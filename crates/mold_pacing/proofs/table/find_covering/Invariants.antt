@@ -1,0 +1,10 @@
+use Rattle.std.proofs.Common.{◌-◌, length}
+use Rattle.mold_pacing.specs.Flight.{covers}
+use Rattle.mold_pacing.specs.Table.{NonePass}
+use Rattle.mold_pacing.proofs.table.find_covering.Given as goal
+
+abbrev pub invariant-loop-index : goal.invariant-loop-index
+invariant-loop-index l = NonePass (covers l.now l.number) l.flights l.index
+
+abbrev pub decreases-loop-index : goal.decreases-loop-index
+decreases-loop-index l = length l.flights - l.index
