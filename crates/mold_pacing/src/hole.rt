@@ -9,4 +9,6 @@ pub struct Hole {
     pub first: u64,
     /// The first number of the next request, or `u64::MAX` if there is none.
     pub end: u64,
+    /// The time until which the numbers from the cursor's one to below `first` are in flight.
+    pub until: u64,
 }

@@ -17,7 +17,9 @@ use crate::repeat::{next_flight, next_server, repeat_end};
 use crate::response::{ended_request, take_arrival, take_response};
 use crate::state::PacerState;
 use crate::step::Step;
-use crate::table::{Free, all_begin_below, find_covering, first_free, free_end, next_hole};
+use crate::table::{
+    Free, all_begin_below, find_covering, first_free, free_end, next_hole, passed_index,
+};
 use crate::waiting::{free_from, least_until, next_over, over_from};
 use std::alloc::{AllocError, Global};
 
@@ -259,6 +261,17 @@ impl Pacer {
         }
     }
 
+    /// Returns the cursor at which a walk from this number on begins. It passes the requests below without a walk.
+    pub fn cursor(&self, number: u64) -> Cursor
+        ensures number { result.number ≡ number }
+        ensures passed { ArePassed self.now.flights.items self.now.state.now result.index number }
+    {
+        Cursor {
+            index: passed_index(&self.flights, self.state.now, number),
+            number,
+        }
+    }
+
     /// Returns the first numbers at or above the cursor's number that are not in flight, up to the next request. To
     /// find the next ones, call it again with the end and the index of the result: all such calls together look at each
     /// request once.
@@ -266,6 +279,9 @@ impl Pacer {
     pub fn hole(&self, from: Cursor) -> Hole
         requires passed { ArePassed self.now.flights.items self.now.state.now from.index from.number }
         ensures passed { ArePassed self.now.flights.items self.now.state.now result.index result.first }
+        ensures later { self.now.state.now < result.until }
+        ensures stays { (time : ℕ) → time < result.until →
+            AllInFlight self.now.flights.items time from.number result.first }
         ensures low { from.number ≤ result.first }
         ensures busy { AllInFlight self.now.flights.items self.now.state.now from.number result.first }
         ensures free { NoneInFlight self.now.flights.items self.now.state.now result.first result.end }

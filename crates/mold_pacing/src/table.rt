@@ -1,6 +1,6 @@
 //! Walks over the table of requests, which is in ascending order of their first numbers.
 
-ghost use Rattle.std.specs.Prelude.{◌≡◌, ◌≤◌, ◌<◌, ◌⊎◌, ◌&&◌, ℕ, true, false, nat_lt, length, find, IfSome, IfNone};
+ghost use Rattle.std.specs.Prelude.{◌≡◌, ◌≤◌, ◌<◌, ◌⊎◌, ◌&&◌, ◌^◌, ℕ, true, false, nat_lt, length, find, IfSome, IfNone};
 ghost use Rattle.std.specs.Prelude.{slice_get, Some};
 ghost use Rattle.mold_pacing.specs.Table.{AreBelow};
 ghost use Rattle.mold_pacing.specs.Flight.{AllInFlight, ArePassed, BeginAbove, NoneInFlight, covers, in_flight};
@@ -21,11 +21,23 @@ pub(crate) struct Free {
     pub(crate) end: u64,
 }
 
-/// Passes each request that begins at or below the cursor's number. The cursor's number then is the least one from
-/// there on that is not in flight.
-pub(crate) fn pass_flights(flights: &[Flight], now: u64, from: Cursor) -> Cursor
+/// How far a walk has come: the index of the next request, the least number that can be free, and the time until which
+/// the numbers from the walk's first one to below it are in flight.
+#[derive(Clone, Copy)]
+pub(crate) struct Passed {
+    pub(crate) index: usize,
+    pub(crate) number: u64,
+    pub(crate) until: u64,
+}
+
+/// Passes each request that begins at or below the cursor's number. The number then is the least one from there on that
+/// is not in flight.
+pub(crate) fn pass_flights(flights: &[Flight], now: u64, from: Cursor) -> Passed
+    requires now { now < 2 ^ 62 }
     requires sorted { is_ascending 0 flights.now ≡ true }
     requires passed { ArePassed flights.now now from.index from.number }
+    ensures later { now < result.until }
+    ensures stays { (time : ℕ) → time < result.until → AllInFlight flights.now time from.number result.number }
     ensures passed { ArePassed flights.now now result.index result.number }
     ensures low { from.number ≤ result.number }
     ensures busy { AllInFlight flights.now now from.number result.number }
@@ -34,6 +46,7 @@ pub(crate) fn pass_flights(flights: &[Flight], now: u64, from: Cursor) -> Cursor
 {
     let mut index = from.index;
     let mut number = from.number;
+    let mut until = u64::MAX;
     while index < flights.len() {
         let flight = flights[index];
         if flight.first > number {
@@ -41,10 +54,15 @@ pub(crate) fn pass_flights(flights: &[Flight], now: u64, from: Cursor) -> Cursor
         }
         if flight.until > now {
             number = number.max(flight.end);
+            until = until.min(flight.until);
         }
         index += 1;
     }
-    Cursor { index, number }
+    Passed {
+        index,
+        number,
+        until,
+    }
 }
 
 // Returns the first number of the request at this index, or `u64::MAX` if there is none.
@@ -64,19 +82,27 @@ fn begin_at(flights: &[Flight], index: usize) -> u64
 /// Returns the first numbers at or above the cursor's number that are not in flight, up to the next request.
 #[inline(always)]
 pub(crate) fn next_hole(flights: &[Flight], now: u64, from: Cursor) -> Hole
+    requires now { now < 2 ^ 62 }
     requires sorted { is_ascending 0 flights.now ≡ true }
     requires passed { ArePassed flights.now now from.index from.number }
     ensures passed { ArePassed flights.now now result.index result.first }
+    ensures later { now < result.until }
+    ensures stays { (time : ℕ) → time < result.until → AllInFlight flights.now time from.number result.first }
     ensures low { from.number ≤ result.first }
     ensures busy { AllInFlight flights.now now from.number result.first }
     ensures free { NoneInFlight flights.now now result.first result.end }
     ensures some { (result.first < result.end) ⊎ (result.end ≡ 18446744073709551615) }
 {
-    let Cursor { index, number } = pass_flights(flights, now, from);
+    let Passed {
+        index,
+        number,
+        until,
+    } = pass_flights(flights, now, from);
     Hole {
         index,
         first: number,
         end: begin_at(flights, index),
+        until,
     }
 }
 
@@ -135,6 +161,7 @@ fn index_from(flights: &[Flight], now: u64, from: Cursor) -> usize
 /// Returns the least number of the gaps that is below `ripe` and not in flight. Each gap and each request is visited at
 /// most once, but no gap after the first one that begins at or above `ripe`, and no request below the first gap.
 pub(crate) fn first_free(flights: &[Flight], now: u64, ripe: u64, gaps: &[Gap]) -> Option<Free>
+    requires now { now < 2 ^ 62 }
     requires sorted { is_ascending 0 flights.now ≡ true }
     requires apart { are_apart now 0 flights.now ≡ true }
     requires gaps { AreGaps gaps.now }
@@ -158,7 +185,11 @@ pub(crate) fn first_free(flights: &[Flight], now: u64, ripe: u64, gaps: &[Gap]) 
                 number: cursor.number.max(gap.first),
             };
             let index = index_from(flights, now, from);
-            cursor = pass_flights(flights, now, Cursor { index, ..from });
+            let passed = pass_flights(flights, now, Cursor { index, ..from });
+            cursor = Cursor {
+                index: passed.index,
+                number: passed.number,
+            };
             let end = gap.end.min(ripe);
             if cursor.number < end {
                 return Some(Free {

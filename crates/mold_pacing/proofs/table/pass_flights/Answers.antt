@@ -11,21 +11,27 @@ loop-index-preserved c =
     let f = flight_at fs c.loop-index.index in
     let there = slice_get-get_or fs c.loop-index.index _ c.loop-index-test.true in
     elim c.if-flight-now.branch [
-      | then-flight-now w ↦ rw w.number-is (rw w.max-number.ensures (record {
+      | then-flight-now w ↦ rw w.until-is (rw w.min-until.ensures (rw w.number-is (rw w.max-number.ensures (record {
+        later = omega (arith, i.later, w.if-flight-now.true);
+        stays = λ time before. busy_more fs time c.args.from.number c.loop-index.number c.loop-index.index
+            (max c.loop-index.number f.end) f there c.if-flight-number.false (i.stays time (omega (arith, before)))
+            (λ more. (omega (arith, before), omega (arith, more)));
         low = omega (arith, i.low);
         passed = passed_more fs c.args.now c.loop-index.index c.loop-index.number (max c.loop-index.number f.end) f there
             i.passed (omega arith) (λ _. omega arith);
         busy = busy_more fs c.args.now c.args.from.number c.loop-index.number c.loop-index.index
             (max c.loop-index.number f.end) f there c.if-flight-number.false i.busy
             (λ more. (w.if-flight-now.true, omega (arith, more)));
-      }))
-      | else-flight-now w ↦ rw w.number-is (record {
+      }))))
+      | else-flight-now w ↦ rw w.until-is (rw w.number-is (record {
+        later = i.later;
+        stays = i.stays;
         low = i.low;
         passed = passed_more fs c.args.now c.loop-index.index c.loop-index.number c.loop-index.number f there i.passed
             (omega arith)
             (λ later. absurd (omega (arith, later, w.if-flight-now.false)));
         busy = i.busy;
-      })
+      }))
     ]
 
 pub returns-then-flight-number-clause-above : goal.returns-then-flight-number-clause-above
