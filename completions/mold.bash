@@ -16,9 +16,9 @@ _mold_options() {
     serve) printf '%s ' --journal --follow --limit --burst --bind --turns --live ;;
     listen) printf '%s ' --session --next --window --a --b --server --burst --turns --live --report --blocks \
         --end-at-empty ;;
-    receive) printf '%s ' --session --learn --next --from-now --a --b --source-a --source-b --server --window \
-        --patience --timeout --ceiling --requests --in-flight --give-up --audit --quiet --stats --journal \
-        --no-sync --blocks ;;
+    receive) printf '%s ' --session --learn --next --from-now --a --b --source-a --source-b --server --any-responder \
+        --window --store --patience --timeout --ceiling --requests --in-flight --give-up --audit --quiet --stats \
+        --journal --no-sync --blocks ;;
     loop) printf '%s ' --session --limit --server-limit --window --burst --drop-a --drop-b --turns --report \
         --blocks --end-at-empty ;;
     upgrade) printf '%s ' --journal --to --close ;;

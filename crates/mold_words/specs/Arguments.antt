@@ -204,6 +204,8 @@ pub record RequestArguments : Type 0 where
   pub in_flight : ℕ
   -- The number of unanswered requests after which a message is given up. With 0 none is.
   pub give_up : ℕ
+  -- Whether responses are accepted from all senders. Otherwise the sender has the IPv4 address of a server.
+  pub any_responder : Bool
 
 -- The model of the options of `receive` about the start of a session.
 pub record StartValues : Type 0 where
@@ -216,6 +218,8 @@ pub record StartValues : Type 0 where
 pub record ReceiverValues : Type 0 where
   -- The window of a receiver, in messages.
   pub window : ℕ
+  -- The maximum size of the stored messages, in MiB.
+  pub store : ℕ
   -- The number of delivered messages whose digests are kept.
   pub audit : ℕ
   -- The time without an accepted datagram after which `receive` ends, in seconds. With 0 it does not end.
@@ -236,6 +240,8 @@ pub record ReceiveArguments : Type 0 where
   pub servers : List HostPort
   -- The window of a receiver, in messages.
   pub window : ℕ
+  -- The maximum size of the stored messages, in MiB.
+  pub store : ℕ
   pub requests : RequestArguments
   -- The number of delivered messages whose digests are kept.
   pub audit : ℕ
@@ -401,6 +407,7 @@ request_options_view options = record {
   requests = options.requests;
   in_flight = options.in_flight;
   give_up = options.give_up;
+  any_responder = options.any_responder;
 }
 
 -- The model of the options about the start of a session, as the program reads them.
@@ -411,6 +418,7 @@ start_options_view options = record { session = options.session; next = options.
 abbrev pub receiver_options_view : ReceiverOptions → ReceiverValues
 receiver_options_view options = record {
   window = options.window;
+  store = options.store;
   audit = options.audit;
   quiet = options.quiet;
   stats = options.stats;
@@ -430,6 +438,7 @@ receive_view order = record {
   };
   servers = map address_view order.servers.items;
   window = order.window;
+  store = order.store;
   requests = record {
     patience = order.patience;
     timeout = order.timeout;
@@ -437,6 +446,7 @@ receive_view order = record {
     requests = order.requests;
     in_flight = order.in_flight;
     give_up = order.give_up;
+    any_responder = order.any_responder;
   };
   audit = order.audit;
   quiet = order.quiet;

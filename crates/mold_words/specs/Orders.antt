@@ -545,7 +545,7 @@ servers_in rows =
     if nat_lt MAX_SERVERS (length (texts_in (codes "server") rows)) then None
     else values_of address_of (texts_in (codes "server") rows)
 
--- When and how often messages are requested, if the numbers are valid. The ceiling is at least the timeout.
+-- When and how often messages are requested, and who may respond, if the numbers are valid. The ceiling is at least the timeout.
 unfoldable pub requests_in : List Row → Option RequestArguments
 requests_in rows =
     option_and_then
@@ -562,6 +562,7 @@ requests_in rows =
       requests = requests;
       in_flight = in_flight;
       give_up = give_up;
+      any_responder = flag_in (codes "any-responder") rows;
     }))
     (number_in (codes "give-up") 0 0 1000 rows))
     (number_in (codes "in-flight") 256 1 4096 rows))
@@ -582,10 +583,12 @@ unfoldable pub receiver_in : List Row → Option ReceiverValues
 receiver_in rows =
     option_and_then
     (λ window. option_and_then
+    (λ store. option_and_then
     (λ audit. option_and_then
     (λ quiet. option_and_then
     (λ stats. Some (record {
       window = window;
+      store = store;
       audit = audit;
       quiet = quiet;
       stats = stats;
@@ -594,6 +597,7 @@ receiver_in rows =
     (number_in (codes "stats") 0 0 86400 rows))
     (number_in (codes "quiet") 0 0 86400 rows))
     (number_in (codes "audit") 65536 0 1048576 rows))
+    (number_in (codes "store") 1024 1 1048576 rows))
     (number_in (codes "window") MAX_WIDE_WINDOW 1 MAX_WIDE_WINDOW rows)
 
 -- What `receive` asks for with the values of its groups of options.
@@ -605,6 +609,7 @@ received start lines requests receiver servers = record {
   lines = lines;
   servers = servers;
   window = receiver.window;
+  store = receiver.store;
   requests = requests;
   audit = receiver.audit;
   quiet = receiver.quiet;

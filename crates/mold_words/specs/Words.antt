@@ -100,11 +100,11 @@ receive_command = (
   codes "receive",
   (codes "session", Optional) ∷ (codes "learn", Flag) ∷ (codes "next", Optional) ∷ (codes "from-now", Flag)
       ∷ (codes "a", Required) ∷ (codes "b", Optional) ∷ (codes "source-a", Optional)
-      ∷ (codes "source-b", Optional) ∷ (codes "server", Repeated) ∷ (codes "window", Optional)
-      ∷ (codes "patience", Optional) ∷ (codes "timeout", Optional) ∷ (codes "ceiling", Optional)
-      ∷ (codes "requests", Optional) ∷ (codes "in-flight", Optional) ∷ (codes "give-up", Optional)
-      ∷ (codes "audit", Optional) ∷ (codes "quiet", Optional) ∷ (codes "stats", Optional)
-      ∷ (codes "journal", Optional) ∷ (codes "no-sync", Flag) ∷ (codes "blocks", Flag) ∷ [],
+      ∷ (codes "source-b", Optional) ∷ (codes "server", Repeated) ∷ (codes "any-responder", Flag)
+      ∷ (codes "window", Optional) ∷ (codes "store", Optional) ∷ (codes "patience", Optional) ∷ (codes "timeout", Optional)
+      ∷ (codes "ceiling", Optional) ∷ (codes "requests", Optional) ∷ (codes "in-flight", Optional)
+      ∷ (codes "give-up", Optional) ∷ (codes "audit", Optional) ∷ (codes "quiet", Optional)
+      ∷ (codes "stats", Optional) ∷ (codes "journal", Optional) ∷ (codes "no-sync", Flag) ∷ (codes "blocks", Flag) ∷ [],
 )
 
 -- The command `loop` with its options.

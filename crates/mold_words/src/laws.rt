@@ -536,7 +536,7 @@ pub fn listen_taken_law()
 /// alone, without servers. The other options have their defaults. A line is an address or a descriptor, and each option
 /// replaces its default. `--learn` asks for the session of the first packet, and `--from-now` to start at its number.
 /// Refused are a command without a session, a multicast group, a source of line B without line B, a ceiling below the
-/// timeout, nine servers, and options that exclude each other.
+/// timeout, a store of 0, nine servers, and options that exclude each other.
 pub fn receive_taken_law()
     ensures usual { Say
         (codes "receive" ∷ codes "--session" ∷ codes "MKT" ∷ codes "--a" ∷ codes "127.0.0.1:9000" ∷ [])
@@ -546,6 +546,7 @@ pub fn receive_taken_law()
           lines = record { a = bound_to (127 ∷ 0 ∷ 0 ∷ 1 ∷ [], 9000); b = None; source_a = None; source_b = None };
           servers = [];
           window = 1048576;
+          store = 1024;
           requests = record {
             patience = 0;
             timeout = 50;
@@ -553,6 +554,7 @@ pub fn receive_taken_law()
             requests = 1000;
             in_flight = 256;
             give_up = 0;
+            any_responder = false;
           };
           audit = 65536;
           quiet = 0;
@@ -563,10 +565,10 @@ pub fn receive_taken_law()
         (codes "receive" ∷ codes "--learn" ∷ codes "--from-now" ∷ codes "--a" ∷ codes "fd:3" ∷ codes "--b"
         ∷ codes "fd:1023" ∷ codes "--source-a" ∷ codes "10.0.0.7" ∷ codes "--source-b" ∷ codes "10.0.1.7"
         ∷ codes "--server" ∷ codes "10.0.0.9:26400" ∷ codes "--window" ∷ codes "1" ∷ codes "--server"
-        ∷ codes "10.0.0.8:26400" ∷ codes "--patience" ∷ codes "200" ∷ codes "--timeout" ∷ codes "60000"
-        ∷ codes "--ceiling" ∷ codes "60000" ∷ codes "--requests" ∷ codes "1" ∷ codes "--in-flight" ∷ codes "4096"
-        ∷ codes "--give-up" ∷ codes "1000" ∷ codes "--audit" ∷ codes "0" ∷ codes "--quiet" ∷ codes "86400"
-        ∷ codes "--stats" ∷ codes "60" ∷ codes "--blocks" ∷ [])
+        ∷ codes "10.0.0.8:26400" ∷ codes "--any-responder" ∷ codes "--store" ∷ codes "1048576" ∷ codes "--patience"
+        ∷ codes "200" ∷ codes "--timeout" ∷ codes "60000" ∷ codes "--ceiling" ∷ codes "60000" ∷ codes "--requests"
+        ∷ codes "1" ∷ codes "--in-flight" ∷ codes "4096" ∷ codes "--give-up" ∷ codes "1000" ∷ codes "--audit"
+        ∷ codes "0" ∷ codes "--quiet" ∷ codes "86400" ∷ codes "--stats" ∷ codes "60" ∷ codes "--blocks" ∷ [])
         (receive_wanted (record {
           session = None;
           next = None;
@@ -578,6 +580,7 @@ pub fn receive_taken_law()
           };
           servers = (10 ∷ 0 ∷ 0 ∷ 9 ∷ [], 26400) ∷ (10 ∷ 0 ∷ 0 ∷ 8 ∷ [], 26400) ∷ [];
           window = 1;
+          store = 1048576;
           requests = record {
             patience = 200;
             timeout = 60000;
@@ -585,6 +588,7 @@ pub fn receive_taken_law()
             requests = 1;
             in_flight = 4096;
             give_up = 1000;
+            any_responder = true;
           };
           audit = 0;
           quiet = 86400;
@@ -606,6 +610,9 @@ pub fn receive_taken_law()
     ensures ceiling { order_of
         (codes "receive" ∷ codes "--a" ∷ codes "127.0.0.1:9000" ∷ codes "--learn" ∷ codes "--timeout"
         ∷ codes "1001" ∷ []) ≡ None }
+    ensures store { order_of
+        (codes "receive" ∷ codes "--a" ∷ codes "127.0.0.1:9000" ∷ codes "--learn" ∷ codes "--store" ∷ codes "0"
+        ∷ []) ≡ None }
     ensures servers { order_of
         (codes "receive" ∷ codes "--a" ∷ codes "fd:3" ∷ codes "--learn" ∷ codes "--server" ∷ codes "10.0.0.9:1"
         ∷ codes "--server" ∷ codes "10.0.0.9:2" ∷ codes "--server" ∷ codes "10.0.0.9:3" ∷ codes "--server"
@@ -627,6 +634,7 @@ pub fn record_taken_law()
             lines = record { a = opened_as 3; b = None; source_a = None; source_b = None };
             servers = [];
             window = 1048576;
+            store = 1024;
             requests = record {
               patience = 0;
               timeout = 50;
@@ -634,6 +642,7 @@ pub fn record_taken_law()
               requests = 1000;
               in_flight = 256;
               give_up = 0;
+              any_responder = false;
             };
             audit = 65536;
             quiet = 0;
@@ -653,6 +662,7 @@ pub fn record_taken_law()
             lines = record { a = opened_as 3; b = None; source_a = None; source_b = None };
             servers = [];
             window = 1048576;
+            store = 1024;
             requests = record {
               patience = 0;
               timeout = 50;
@@ -660,6 +670,7 @@ pub fn record_taken_law()
               requests = 1000;
               in_flight = 256;
               give_up = 0;
+              any_responder = false;
             };
             audit = 65536;
             quiet = 0;

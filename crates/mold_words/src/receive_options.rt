@@ -40,6 +40,11 @@ const MIN_PATIENCE: u64 = 200;
 
 const MAX_PATIENCE: u64 = 1_000_000;
 
+// The size of the stored messages, in MiB: if it is not given, and the greatest.
+const DEFAULT_STORE: u64 = 1024;
+
+const MAX_STORE: u64 = 1_048_576;
+
 // Returns the session of `--session`, or `None` if `--learn` is given.
 #[tactic(auto, unfolding(crate::specs::Orders::learned_in))]
 fn learned_in(options: &ArgMatches<'_>) -> Result<Option<[u8; 10]>, NoOrder>
@@ -222,11 +227,13 @@ pub(crate) fn receiver_in(options: &ArgMatches<'_>) -> Result<ReceiverOptions, N
 {
     let widest = u64::from(MAX_WIDE_WINDOW);
     let window = number_in(options, "window", widest, 1, widest)?;
+    let store = number_in(options, "store", DEFAULT_STORE, 1, MAX_STORE)?;
     let audit = number_in(options, "audit", 65_536, 0, 1_048_576)?;
     let quiet = number_in(options, "quiet", 0, 0, 86_400)?;
     let stats = number_in(options, "stats", 0, 0, 86_400)?;
     Ok(ReceiverOptions {
         window: window as u32,
+        store: store as u32,
         audit: audit as u32,
         quiet: quiet as u32,
         stats: stats as u32,
@@ -234,7 +241,7 @@ pub(crate) fn receiver_in(options: &ArgMatches<'_>) -> Result<ReceiverOptions, N
     })
 }
 
-/// Returns when and how often messages are requested.
+/// Returns when and how often messages are requested, and who may respond.
 #[tactic(auto, unfolding(crate::specs::Orders::requests_in))]
 pub(crate) fn requests_in(options: &ArgMatches<'_>) -> Result<RequestOptions, NoOrder>
     ensures { MatchResult result
@@ -257,5 +264,6 @@ pub(crate) fn requests_in(options: &ArgMatches<'_>) -> Result<RequestOptions, No
         requests: requests as u32,
         in_flight: in_flight as u32,
         give_up: give_up as u32,
+        any_responder: flag_in(options, "any-responder"),
     })
 }

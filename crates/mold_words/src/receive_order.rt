@@ -29,8 +29,12 @@ pub struct ReceiveOrder {
     pub source_b: Option<[u8; 4]>,
     /// The addresses that requests are sent to, at most 8, in the order in which they are given.
     pub servers: Vec<Address>,
+    /// Whether responses are accepted from all senders. Otherwise the sender has the IPv4 address of a server.
+    pub any_responder: bool,
     /// The receiver's window in messages, 1 to `MAX_WIDE_WINDOW`.
     pub window: u32,
+    /// The maximum size of the stored messages, in MiB, 1 to 1,048,576.
+    pub store: u32,
     /// How long a message is missing before it is requested, in microseconds, 200 to 1,000,000. With 0 it adapts to the
     /// delay between the lines.
     pub patience: u32,
@@ -60,6 +64,7 @@ pub struct ReceiveOrder {
     ghost sourced: { is_some source_b ≡ true → is_some b ≡ true },
     ghost served: { length servers.items ≤ 8 },
     ghost windowed: { (1 ≤ window) × (window ≤ MAX_WIDE_WINDOW) },
+    ghost storing: { (1 ≤ store) × (store ≤ 1048576) },
     ghost patient: { (0 < patience → 200 ≤ patience) × (patience ≤ 1000000) },
     ghost timed: { (1 ≤ timeout) × (timeout ≤ 60000) },
     ghost doubling: { (timeout ≤ ceiling) × (ceiling ≤ 600000) },

@@ -7,11 +7,13 @@ ghost use Rattle.mold_wire.specs.declared.limits.TheConstants.{MAX_WIDE_WINDOW};
 #[derive(Clone, Copy)]
 pub(crate) struct ReceiverOptions {
     pub window: u32,
+    pub store: u32,
     pub audit: u32,
     pub quiet: u32,
     pub stats: u32,
     pub blocks: bool,
     ghost windowed: { (1 ≤ window) × (window ≤ MAX_WIDE_WINDOW) },
+    ghost storing: { (1 ≤ store) × (store ≤ 1048576) },
     ghost audited: { audit ≤ 1048576 },
     ghost daily: { (quiet ≤ 86400) × (stats ≤ 86400) },
 }

@@ -2,7 +2,7 @@
 
 ghost use Rattle.std.specs.Prelude.{◌<◌, ◌≤◌};
 
-/// When and how often messages are requested, as the fields of `ReceiveOrder` with these names.
+/// When and how often messages are requested, and who may respond, as the fields of `ReceiveOrder` with these names.
 #[derive(Clone, Copy)]
 pub(crate) struct RequestOptions {
     pub patience: u32,
@@ -11,6 +11,7 @@ pub(crate) struct RequestOptions {
     pub requests: u32,
     pub in_flight: u32,
     pub give_up: u32,
+    pub any_responder: bool,
     ghost patient: { (0 < patience → 200 ≤ patience) × (patience ≤ 1000000) },
     ghost timed: { (1 ≤ timeout) × (timeout ≤ 60000) },
     ghost doubling: { (timeout ≤ ceiling) × (ceiling ≤ 600000) },

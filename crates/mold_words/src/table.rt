@@ -82,6 +82,7 @@ fn number_name(option: &str) -> &'static str {
         "next" | "from" => "NUMBER",
         "port" => "PORT",
         "ttl" => "HOPS",
+        "store" => "MIB",
         _ => "COUNT",
     }
 }
@@ -640,9 +641,21 @@ pub static RECEIVE: CommandRow = CommandRow {
             help: "An address that requests are sent to. May be given up to 8 times",
         },
         OptionRow {
+            name: "any-responder",
+            kind: Kind::Flag,
+            help: "Accept responses from all senders. Without --any-responder, responses\n\
+                    are ignored unless their sender has the IPv4 address of a --server",
+        },
+        OptionRow {
             name: "window",
             kind: Kind::Optional,
             help: "How many messages ahead can be stored, 1 to 1048576 [default: 1048576]",
+        },
+        OptionRow {
+            name: "store",
+            kind: Kind::Optional,
+            help: "The maximum size of the stored messages in MiB, 1 to 1048576\n\
+                    [default: 1024]. What exceeds it is dropped, and requested later",
         },
         OptionRow {
             name: "patience",

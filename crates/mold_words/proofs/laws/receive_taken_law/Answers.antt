@@ -20,5 +20,6 @@ returns c = record {
   group = refl;
   source = refl;
   ceiling = refl;
+  store = refl;
   servers = refl;
 }

@@ -14,6 +14,7 @@ invariant_of-result c =
       sourced = lines.sourced;
       served = c.requires;
       windowed = receiver.windowed;
+      storing = receiver.storing;
       patient = requests.patient;
       timed = requests.timed;
       doubling = requests.doubling;
