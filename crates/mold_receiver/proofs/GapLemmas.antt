@@ -17,12 +17,14 @@ use Rattle.mold_rule.specs.Ranges.{lacking}
 use Rattle.mold_rule.specs.declared.refusal.Refusal.{Refusal}
 use Rattle.mold_receiver.specs.Gap.{HandsOn, IsTakenInGap, Took, messages_from}
 use Rattle.mold_receiver.specs.Receive.{data_packet, decide, handed_on, receive_read, reception, refusal, view_after}
-use Rattle.mold_receiver.specs.Store.{Message, available}
+use Rattle.mold_receiver.specs.Store.{Message, available, cut}
 use Rattle.mold_receiver.specs.View.{View, IsWellFormed}
 use Rattle.mold_receiver.specs.Wanted.{IsGap, lacks, missing}
-use Rattle.mold_receiver.proofs.LawLemmas.{goes_through, handed_reads, next_lacks, some_same, takes_well}
+use Rattle.mold_receiver.proofs.LawLemmas.{goes_through, handed_reads, next_lacks, some_same}
+use Rattle.mold_receiver.proofs.WellLemmas.{takes_well}
 use Rattle.mold_receiver.proofs.MissingLemmas.{CountsLacking, missing_is}
 use Rattle.mold_receiver.proofs.RefusalLemmas.{Admits, admitted_none, no_first_conflict}
+use Rattle.mold_receiver.proofs.RoomLemmas.{begun_kept, undropped_all}
 use Rattle.mold_receiver.proofs.RuleLemmas.{available_cases, available_from, message_bounds, message_past}
 use Rattle.mold_receiver.proofs.RuleLemmas.{message_within, stored_past}
 use Rattle.mold_receiver.proofs.StoreLemmas.{get-cut, none_some, run_had}
@@ -78,8 +80,12 @@ took v ms end is =
     let look = finite.get (available v.store v.next v.next ms) in
     let low = goes_through v p is.well (omega arith) in
     let well = takes_well v p is.well is.none in
+    let stored : (q : ℕ) → finite.get w.store q ≡ finite.get (cut (available v.store v.next v.next ms) w.next v.window) q =
+    λ q. ap (λ (t : List Message). finite.get (cut (available v.store v.next v.next t) w.next v.window) q)
+    (undropped_all v p (begun_kept v p (omega arith))) in
     let none : (q : ℕ) → q ≤ w.next → finite.get w.store q ≡ None = λ q below.
-    get-cut (available v.store v.next v.next ms) w.next v.window q
+    stored q
+    ∙ get-cut (available v.store v.next v.next ms) w.next v.window q
     ∙ cond-false (ltb w.next q && ltb q (w.next + v.window)) (look q) None
     (and_left (ltb w.next q) (ltb q (w.next + v.window)) (le-ltb w.next q below)) in
     record {
@@ -89,6 +95,7 @@ took v ms end is =
       known = omega (arith, is.fits, is.gap.within);
       ended = refl;
       window = refl;
+      room = refl;
       had = λ q past below.
           ap is_some (sym (behind v ms q past))
           ∙ run_had look v.next (max v.known (top_of p) - v.next) q (omega (arith, past)) below;
@@ -103,13 +110,15 @@ took v ms end is =
             | inl above ↦
                 elim (cases_lt q (w.next + v.window)) [
                   | inl inside ↦
-                      get-cut (available v.store v.next v.next ms) w.next v.window q
+                      stored q
+                      ∙ get-cut (available v.store v.next v.next ms) w.next v.window q
                       ∙ cond-true (ltb w.next q && ltb q (w.next + v.window)) (look q) None
                       (and_from (ltb w.next q) (ltb q (w.next + v.window)) (lt-ltb w.next q above)
                       (lt-ltb q (w.next + v.window) inside))
                       ∙ behind v ms q (omega (arith, low, from))
                   | inr outside ↦
-                      get-cut (available v.store v.next v.next ms) w.next v.window q
+                      stored q
+                      ∙ get-cut (available v.store v.next v.next ms) w.next v.window q
                       ∙ cond-false (ltb w.next q && ltb q (w.next + v.window)) (look q) None
                       (and_right (ltb w.next q) (ltb q (w.next + v.window)) (le-ltb q (w.next + v.window) outside))
                       ∙ sym (stored_past v.store v.next v.window (between_of v is.well) q (omega (arith, low, outside)))

@@ -1,5 +1,5 @@
 -- The view after missing messages were given up.
-use Rattle.std.proofs.Common.{◌≡◌, ℕ, ◌+◌, ◌-◌, ◌<◌, ◌≤◌, ◌&&◌, true, min, cond, ltb, ◌++◌, drop, replicate, List, length}
+use Rattle.std.proofs.Common.{◌≡◌, ℕ, ◌+◌, ◌-◌, ◌<◌, ◌≤◌, ◌&&◌, true, min, cond, ltb, ◌++◌, drop, replicate, List, [], length}
 use Rattle.std.proofs.Common.{length-append, length-drop, max, refl, sym, ap, subst, ◌∙◌, inl, inr, arith}
 use Rattle.std.specs.Prelude.{Option, None, Some, is_some}
 use Rattle.std.specs.FinMap as finite
@@ -9,11 +9,13 @@ use Rattle.mold_wire.specs.declared.session.Session.{Session}
 use Rattle.mold_receiver.specs.Handing.{run_in}
 use Rattle.mold_receiver.specs.Skip.{moved_to, skipped, skipped_run}
 use Rattle.mold_receiver.specs.Slots.{IsFirstEmpty, IsNextHeld, Slot, slot_at, store_of}
-use Rattle.mold_receiver.specs.Store.{Message, Store, cut}
+use Rattle.mold_receiver.specs.Store.{Message, Store, cut, stored_bytes}
 use Rattle.mold_receiver.specs.View.{View, IsWellFormed, view_over}
 use Rattle.mold_receiver.specs.Wanted.{HasNoGap, IsFirstAbsent, IsNextGap}
 use Rattle.mold_receiver.proofs.BatchLemmas.{run_more}
 use Rattle.mold_receiver.proofs.NextLemmas.{moved_looks, run_of_slots}
+use Rattle.mold_receiver.proofs.LawLemmas.{cut_had}
+use Rattle.mold_receiver.proofs.RoomLemmas.{cut_from, same_from, stored_more, within_less}
 use Rattle.mold_receiver.proofs.RuleLemmas.{cut_is}
 use Rattle.mold_receiver.proofs.StoreLemmas.{get-cut, none_some, run_is, run_short}
 use Rattle.mold_receiver.proofs.ViewLemmas.{between_of, get_from}
@@ -36,6 +38,13 @@ moved_well v next well low high = record {
             (ltb-true next q parts.0, ltb-true q (next + v.window) parts.1, lies.2)
       ];
   ends = well.ends;
+  bounded = within_less v.room (stored_bytes v.store) (stored_bytes (cut v.store next v.window))
+      (omega (
+        arith,
+        stored_more v.store (cut v.store next v.window) 0 [] v.known (λ q m is. (well.stored q m is).2) (λ q m is.
+            (well.stored q m (cut_had v.store next v.window q m is).0).2)
+            (cut_from v.store v.store next v.window 0 [] (same_from v.store)),
+      )) well.bounded;
 }
 
 -- The store after the slots moved to `new`, where nothing is stored.
@@ -60,16 +69,16 @@ cut_moved v new t well ahead stops looks =
     sym (looks q ∙ cond-false (ltb q new) None (finite.get v.store q) (le-ltb q new (omega arith))))
 
 -- Messages are given up over slots, of which `count` are dropped.
-module _ (session : Session) (next known : ℕ) (ended : Option ℕ) (slots : List Slot) (to : ℕ)
-    (well : IsWellFormed (view_over session next known ended slots)) (ahead : next ≤ to) (within : to ≤ known) where
-  pub skipped_run_is : skipped_run (view_over session next known ended slots) to ≡ run_in slots (to - next)
+module _ (room : Option ℕ) (session : Session) (next known : ℕ) (ended : Option ℕ) (slots : List Slot) (to : ℕ)
+    (well : IsWellFormed (view_over room session next known ended slots)) (ahead : next ≤ to) (within : to ≤ known) where
+  pub skipped_run_is : skipped_run (view_over room session next known ended slots) to ≡ run_in slots (to - next)
   skipped_run_is =
-      let run = run_of_slots session next known ended slots to well ahead in
+      let run = run_of_slots room session next known ended slots to well ahead in
       run_is (finite.get (store_of next slots)) to (known - to) (run_in slots (to - next)) run.each run.stops
       (omega (arith, run.within))
 
   pub skipped_low : to + length (run_in slots (to - next)) ≤ known
-  skipped_low = let run = run_of_slots session next known ended slots to well ahead in omega (arith, run.within)
+  skipped_low = let run = run_of_slots room session next known ended slots to well ahead in omega (arith, run.within)
 
   pub skipped_few : length (run_in slots (to - next)) ≤ length slots
   skipped_few = omega (arith, run_short (slot_at slots) (to - next) (length slots - (to - next)))
@@ -77,12 +86,12 @@ module _ (session : Session) (next known : ℕ) (ended : Option ℕ) (slots : Li
   module _ (new count : ℕ) (is : new ≡ to + length (run_in slots (to - next)))
       (counted : count ≡ min (new - next) (length slots)) where
     pub skipped_view :
-        view_over session new known ended (drop count slots ++ replicate count None) ≡ skipped
-        (view_over session next known ended slots) to
+        view_over room session new known ended (drop count slots ++ replicate count None) ≡ skipped
+        (view_over room session next known ended slots) to
     skipped_view =
-        let v = view_over session next known ended slots in
+        let v = view_over room session next known ended slots in
         let moved = drop count slots ++ replicate count None in
-        let run = run_of_slots session next known ended slots to well ahead in
+        let run = run_of_slots room session next known ended slots to well ahead in
         let here : to + length (skipped_run v to) ≡ new =
         ap (λ (t : List Message). to + length t) skipped_run_is ∙ sym is in
         let stored : cut v.store new v.window ≡ store_of new moved =
@@ -105,6 +114,7 @@ module _ (session : Session) (next known : ℕ) (ended : Option ℕ) (slots : Li
           ended = ended;
           store = stored i;
           window = size i;
+          room = room;
         }))
 
 none_some_held : (o : Option Message) → o ≡ None → is_some o ≡ true → ⊥
@@ -112,14 +122,14 @@ none_some_held None none some = true≢false (sym some)
 none_some_held (Some m) none some = none_some (sym none)
 
 -- The gaps, from the slots.
-module _ (session : Session) (next known : ℕ) (ended : Option ℕ) (slots : List Slot) where
+module _ (room : Option ℕ) (session : Session) (next known : ℕ) (ended : Option ℕ) (slots : List Slot) where
   pub held_from : (from first : ℕ) → next ≤ from → IsFirstEmpty slots (from - next) first → (number : ℕ) →
       from ≤ number → number < next + first → is_some (finite.get (store_of next slots) number) ≡ true
   held_from from first low is number least below =
       ap is_some (get_from next slots number (omega (arith, low, least)))
       ∙ is.held (number - next) (omega (arith, least)) (omega (arith, below))
 
-  known_of : (i : ℕ) (o : Option Message) → IsWellFormed (view_over session next known ended slots) →
+  known_of : (i : ℕ) (o : Option Message) → IsWellFormed (view_over room session next known ended slots) →
       slot_at slots i ≡ o → is_some o ≡ true → next + i < known
   known_of i None well is some = absurd (true≢false (sym some))
   known_of i (Some m) well is some =
@@ -129,11 +139,11 @@ module _ (session : Session) (next known : ℕ) (ended : Option ℕ) (slots : Li
       ∙ is)).2
 
   pub no_gap : (from first : ℕ) → next ≤ from → IsFirstEmpty slots (from - next) first → known - next ≤ first →
-      HasNoGap (view_over session next known ended slots) from
+      HasNoGap (view_over room session next known ended slots) from
   no_gap from first low is past number least below = held_from from first low is number least (omega (arith, past, below))
 
   pub first_absent_is : (from first : ℕ) → next ≤ from → IsFirstEmpty slots (from - next) first →
-      IsFirstAbsent (view_over session next known ended slots) from (next + first)
+      IsFirstAbsent (view_over room session next known ended slots) from (next + first)
   first_absent_is from first low is = record {
     after = omega (arith, is.after, low);
     held = λ number least below. held_from from first low is number least below;
@@ -143,7 +153,7 @@ module _ (session : Session) (next known : ℕ) (ended : Option ℕ) (slots : Li
   }
 
   -- It is at most `known`, or it is `from`.
-  pub absent_low : (from first : ℕ) → IsWellFormed (view_over session next known ended slots) → next ≤ from
+  pub absent_low : (from first : ℕ) → IsWellFormed (view_over room session next known ended slots) → next ≤ from
       → IsFirstEmpty slots (from - next) first → next + first ≤ max from known
   absent_low from first well low is =
       elim (cases_lt (from - next) first) [
@@ -155,7 +165,7 @@ module _ (session : Session) (next known : ℕ) (ended : Option ℕ) (slots : Li
 
   pub next_gap : (from first after : ℕ) → next ≤ known → next ≤ from → IsFirstEmpty slots (from - next) first →
       first < known - next → IsNextHeld slots first (known - next) after →
-      IsNextGap (view_over session next known ended slots) from (record { first = next + first; end = next + after })
+      IsNextGap (view_over room session next known ended slots) from (record { first = next + first; end = next + after })
   next_gap from first after ahead low is inside held =
       let look : (i : ℕ) → finite.get (store_of next slots) (next + i) ≡ slot_at slots i =
       λ i. get_from next slots (next + i) (omega arith)

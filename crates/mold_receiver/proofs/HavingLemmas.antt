@@ -1,5 +1,5 @@
 -- A message that a view has is never missing again.
-use Rattle.std.proofs.Common.{◌≡◌, ℕ, ◌+◌, ◌-◌, ◌<◌, ◌≤◌, ◌&&◌, true, ltb, length, []}
+use Rattle.std.proofs.Common.{◌≡◌, ℕ, ◌+◌, ◌-◌, ◌<◌, ◌≤◌, ◌&&◌, true, ltb, length, List, []}
 use Rattle.std.proofs.Common.{◌⊎◌, refl, sym, ap, subst, ◌∙◌, inl, inr, arith}
 use Rattle.std.specs.Prelude.{Option, None, Some, is_some}
 use Rattle.std.specs.FinMap as finite
@@ -10,13 +10,14 @@ use Rattle.mold_wire.specs.Packet.{messages_of, top_of}
 use Rattle.mold_wire.specs.Truth.{message_at}
 use Rattle.mold_wire.specs.declared.packet.Packet.{Packet}
 use Rattle.mold_receiver.specs.Having.{HasAllOf, HasMessage}
-use Rattle.mold_receiver.specs.Receive.{view_after}
+use Rattle.mold_receiver.specs.Receive.{HasRoomFor, undropped, view_after}
 use Rattle.mold_receiver.specs.Skip.{skipped, skipped_run}
 use Rattle.mold_receiver.specs.Store.{Message, Store, available, cut}
 use Rattle.mold_receiver.specs.View.{View, IsWellFormed}
 use Rattle.mold_receiver.proofs.LawLemmas.{next_lacks}
+use Rattle.mold_receiver.proofs.RoomLemmas.{undropped_all, undropped_none}
 use Rattle.mold_receiver.proofs.RuleLemmas.{available_from, message_within, none_unless}
-use Rattle.mold_receiver.proofs.StoreLemmas.{get-cut, run_ends}
+use Rattle.mold_receiver.proofs.StoreLemmas.{get-cut, none_some, run_ends}
 
 some_of : (o : Option Message) → is_some o ≡ true → (o ≡ None) → ⊥
 some_of o some none = true≢false (sym some ∙ ap is_some none)
@@ -71,17 +72,37 @@ has_skipped v to well ahead within number has =
           (omega (arith, ahead, (within_window v number well some).1)) some
     ]
 
+-- The new `next` is not available if the packet is dropped either.
+undropped_lacks : (v : View) (p : Packet) → IsWellFormed v →
+    finite.get (available v.store v.next p.sequence (undropped v p)) (view_after v p).next ≡ None
+undropped_lacks v p well =
+    let next = (view_after v p).next in
+    let ms = messages_of p.body in
+    let from : v.next ≤ next = omega arith in
+    let lacks = sym (available_from v.store v.next p.sequence ms next from) ∙ next_lacks v p well in
+    available_from v.store v.next p.sequence (undropped v p) next from
+    ∙ ap (λ (o : Option Message). option_or o (finite.get v.store next))
+    (undropped_none v p next (first_none (message_at p.sequence ms next) (finite.get v.store next) lacks))
+    ∙ second_none (message_at p.sequence ms next) (finite.get v.store next) lacks
+  where
+    first_none : (a b : Option Message) → option_or a b ≡ None → a ≡ None
+    first_none None b none = refl
+    first_none (Some m) b none = none
+    second_none : (a b : Option Message) → option_or a b ≡ None → b ≡ None
+    second_none None b none = none
+    second_none (Some m) b none = absurd (none_some (sym none))
+
 -- The packet's and the stored messages are below `next` or stored after the packet.
 available_has : (v : View) (p : Packet) (number : ℕ) → IsWellFormed v → number < (view_after v p).next + v.window
-    → is_some (finite.get (available v.store v.next p.sequence (messages_of p.body)) number) ≡ true
+    → is_some (finite.get (available v.store v.next p.sequence (undropped v p)) number) ≡ true
     → HasMessage (view_after v p) number
 available_has v p number well within some =
-    kept_or_passed (available v.store v.next p.sequence (messages_of p.body)) (view_after v p).next v.window number
-    (next_lacks v p well) within some
+    kept_or_passed (available v.store v.next p.sequence (undropped v p)) (view_after v p).next v.window number
+    (undropped_lacks v p well) within some
 
 pub has_received : (v : View) (p : Packet) → IsWellFormed v → HasAllOf v (view_after v p)
 has_received v p well number has =
-    let ms = messages_of p.body in
+    let ms = undropped v p in
     elim has [
       | inl below ↦ inl (omega (arith, below))
       | inr some ↦
@@ -92,15 +113,17 @@ has_received v p well number has =
     ]
 
 pub has_come : (v : View) (p : Packet) (number : ℕ) → IsWellFormed v → p.sequence ≤ number → number < top_of p →
-    number < (view_after v p).next + v.window → HasMessage (view_after v p) number
-has_come v p number well low high within =
+    number < (view_after v p).next + v.window → HasRoomFor v p → HasMessage (view_after v p) number
+has_come v p number well low high within room =
     let ms = messages_of p.body in
+    let all = undropped_all v p room in
     elim (cases_lt number v.next) [
       | inl below ↦ inl (omega (arith, below))
       | inr from ↦
           let there = message_within p.sequence ms number low
           ∙ slice_get-get_or ms (number - p.sequence) [] (omega (arith, low, high)) in
           available_has v p number well within
-          (ap is_some (available_from v.store v.next p.sequence ms number from)
+          (ap (λ (t : List Message). is_some (finite.get (available v.store v.next p.sequence t) number)) all
+          ∙ ap is_some (available_from v.store v.next p.sequence ms number from)
           ∙ some_first (message_at p.sequence ms number) (finite.get v.store number) (ap is_some there))
     ]

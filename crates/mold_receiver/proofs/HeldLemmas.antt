@@ -14,21 +14,8 @@ use Rattle.mold_receiver.specs.Segments.{bytes_of, one_at}
 use Rattle.mold_receiver.specs.Shelf.{IsKept, slots_in, slots_on}
 use Rattle.mold_receiver.specs.Slots.{count_held}
 use Rattle.mold_receiver.specs.Tight.{IsTight}
+use Rattle.mold_receiver.proofs.SumLemmas.{sum_both, sum_from, sum_zero}
 use Rattle.mold_receiver.proofs.TightLemmas.{count_nonzero}
-
--- The sum of a function over `count` keys from `at` on.
-abbrev pub sum_from : (ℕ → ℕ) → ℕ → ℕ → ℕ
-sum_from f at zero = 0
-sum_from f at (suc count) = f at + sum_from f (at + 1) count
-
-pub sum_zero : (at count : ℕ) → sum_from (λ _. 0) at count ≡ 0
-sum_zero at zero = refl
-sum_zero at (suc count) = omega (arith, sum_zero (at + 1) count)
-
-pub sum_both : (f g : ℕ → ℕ) (at count : ℕ) →
-    sum_from (λ key. f key + g key) at count ≡ sum_from f at count + sum_from g at count
-sum_both f g at zero = refl
-sum_both f g at (suc count) = omega (arith, sum_both f g (at + 1) count)
 
 one_is : (key : ℕ) → one_at key key ≡ 1
 one_is key = ap {B = ℕ} (λ (b : Bool). cond b 1 0) (eq-eqb key key refl)

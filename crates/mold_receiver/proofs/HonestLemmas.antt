@@ -1,6 +1,6 @@
 -- An honest view refuses nothing that is true, and stays honest.
 use Rattle.std.proofs.Common.{◌≡◌, ℕ, ◌+◌, ◌-◌, ◌<◌, ◌≤◌, Bool, true, false, leb, List, [], ◌∷◌, ◌++◌}
-use Rattle.std.proofs.Common.{length, length-append, sym, ap, ◌∙◌, inl, inr, arith, nat_cmp}
+use Rattle.std.proofs.Common.{length, length-append, sym, ap, subst, ◌∙◌, inl, inr, arith, nat_cmp}
 use Rattle.std.specs.Prelude.{Option, None, Some, Ok, slice_get}
 use Rattle.std.specs.FinMap as finite
 use Rattle.std.proofs.lemmas.Bool.{true≢false, cases_lt, cond-true, cond-false, le-leb, lt-leb}
@@ -15,11 +15,13 @@ use Rattle.mold_wire.specs.declared.session.Session.{Session}
 use Rattle.mold_rule.specs.declared.refusal.Refusal.{Refusal}
 use Rattle.mold_receiver.specs.Honest.{IsHonest, IsTakenHonestly}
 use Rattle.mold_receiver.specs.Receive.{decide, ended_after, receive_read, reception, refusal, view_after}
-use Rattle.mold_receiver.specs.Store.{Message}
-use Rattle.mold_receiver.specs.View.{View, fresh}
+use Rattle.mold_receiver.specs.Store.{Message, stored_bytes}
+use Rattle.mold_receiver.specs.View.{View, IsRoom, IsWithinRoom, fresh_within}
 use Rattle.mold_receiver.proofs.CaseLemmas.{get-append_left}
-use Rattle.mold_receiver.proofs.LawLemmas.{handed_had, some_same, stored_had, takes_well}
+use Rattle.mold_receiver.proofs.LawLemmas.{handed_had, some_same, stored_had}
+use Rattle.mold_receiver.proofs.WellLemmas.{takes_well}
 use Rattle.mold_receiver.proofs.RefusalLemmas.{Admits, admitted_none, no_first_conflict}
+use Rattle.mold_receiver.proofs.SizeLemmas.{bytes_slots}
 use Rattle.mold_receiver.proofs.StoreLemmas.{none_some}
 
 -- What a true packet states.
@@ -144,16 +146,20 @@ honest_closed v published honest = record {
   ends = λ end is. absurd (true≢false (sym (honest.ends end is).0));
 }
 
-pub honest_fresh : (session : Session) (next window : ℕ) (published : List Message) (closed : Bool) →
-    1 ≤ next → next ≤ length published + 1 → length published < 18446744073709551615
-    → IsHonest (fresh session next window) published closed
-honest_fresh session next window published closed first ahead few = record {
+no_bytes : stored_bytes finite.empty ≡ 0
+no_bytes = bytes_slots 0 []
+
+pub honest_fresh : (room : Option ℕ) (session : Session) (next window : ℕ) (published : List Message) (closed : Bool) →
+    IsRoom room → 1 ≤ next → next ≤ length published + 1 → length published < 18446744073709551615
+    → IsHonest (fresh_within room session next window) published closed
+honest_fresh room session next window published closed is_room first ahead few = record {
   well_formed = record {
     first = first;
     ahead = omega arith;
     last = omega (arith, ahead, few);
     stored = λ number m is. absurd (none_some (sym (finite.get-empty nat_cmp number) ∙ is));
     ends = λ end is. absurd (none_some is);
+    bounded = subst (IsWithinRoom room) (sym no_bytes) is_room;
   };
   stored = λ number m is. absurd (none_some (sym (finite.get-empty nat_cmp number) ∙ is));
   known = ahead;

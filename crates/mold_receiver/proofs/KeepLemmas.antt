@@ -220,3 +220,23 @@ filled_none slots first (m ∷ ms) none =
           sym (ap (λ (t : List (ℕ × Message)). length t) (fresh_later slots first m ms taken)) ∙ none in
           ap (λ (t : List Slot). filled t (suc first) ms) same ∙ filled_none slots (suc first) ms later
     ]
+
+-- One more message may have an empty slot, or none.
+pub absent_more : (slots : List Slot) (slot : ℕ) (m : Message) (ms : List Message) →
+    count_absent slots slot (m ∷ ms) ≡ cond (is_none (slot_at slots slot)) 1 0 + count_absent slots (suc slot) ms
+absent_more slots slot m ms =
+    let rest = filter (λ (pair : ℕ × Message). is_none (slot_at slots pair.0)) (numbered (suc slot) ms) in
+    elim (is_none (slot_at slots slot)) as (λ (b : Bool). length (cond b ((slot, m) ∷ rest) rest) ≡ cond {A = ℕ} b 1 0
+    + length rest) [
+      | true ↦ omega arith
+      | false ↦ omega arith
+    ]
+
+pub absent_few : (slots : List Slot) (slot : ℕ) (ms : List Message) → count_absent slots slot ms ≤ length ms
+absent_few slots slot [] = omega arith
+absent_few slots slot (m ∷ ms) =
+    omega (arith, absent_more slots slot m ms, one (is_none (slot_at slots slot)), absent_few slots (suc slot) ms)
+  where
+    one : (b : Bool) → cond {A = ℕ} b 1 0 ≤ 1
+    one true = omega arith
+    one false = omega arith

@@ -18,15 +18,15 @@ use Rattle.mold_wire.specs.declared.session.Session.{Session}
 use Rattle.mold_rule.specs.declared.refusal.Refusal.{Refusal}
 use Rattle.mold_rule.specs.declared.refusal.Refusal.TheVariants.{WrongSession}
 use Rattle.mold_receiver.specs.Receive.{IsTakenPacket, Reception, decide, handed_on, receive, receive_read}
-use Rattle.mold_receiver.specs.Receive.{reception, refusal, view_after}
+use Rattle.mold_receiver.specs.Receive.{reception, refusal, undropped, view_after}
 use Rattle.mold_rule.specs.Refusals.{past_last, wrong_session}
 use Rattle.mold_receiver.specs.Store.{Message, Store, available, cut}
 use Rattle.mold_receiver.specs.View.{View, IsWellFormed}
 use Rattle.mold_receiver.specs.Wanted.{IsGap, gap_end, lacking_run, wanted}
 use Rattle.mold_receiver.proofs.RuleLemmas.{available_cases, available_from, none_unless, message_bounds}
+use Rattle.mold_receiver.proofs.RoomLemmas.{undropped_is}
 use Rattle.mold_receiver.proofs.RuleLemmas.{message_within}
 use Rattle.mold_receiver.proofs.StoreLemmas.{get-cut, none_some, run_reads, run_ends}
-use Rattle.mold_receiver.proofs.ViewLemmas.{stays_well}
 use Rattle.mold_receiver.proofs.RefusalLemmas.{each_none}
 use Rattle.mold_receiver.proofs.WantedLemmas.{lacking_short, lacking_long, lacking_ends}
 
@@ -98,8 +98,11 @@ cut_had s next window q m is =
 pub stored_had : (v : View) (p : Packet) (q : ℕ) (m : Message) → finite.get (view_after v p).store q ≡ Some m
     → (finite.get v.store q ≡ Some m) ⊎ (Carries p q m)
 stored_had v p q m is =
-    had_or_carried v p q m
-    (cut_had (available v.store v.next p.sequence (messages_of p.body)) (view_after v p).next v.window q m is).0
+    elim (available_cases v.store v.next p.sequence (undropped v p) q m
+    (cut_had (available v.store v.next p.sequence (undropped v p)) (view_after v p).next v.window q m is).0) [
+      | inl carried ↦ inr (undropped_is v p q m carried.1)
+      | inr had ↦ inl had
+    ]
 
 own_session : (session : Session) (p : Packet) → wrong_session (Some session.0) p.session.0 ≡ None →
     p.session ≡ session
@@ -132,7 +135,7 @@ is_taken v bytes r is =
       | Err x ↦ λ e is. absurd (err_ok is)
     ] refl is
 
-not_past : (p : Packet) → past_last p ≡ None → top_of p < 2 ^ 64
+pub not_past : (p : Packet) → past_last p ≡ None → top_of p < 2 ^ 64
 not_past p none =
     elim (cases_lt 18446744073709551615 (top_of p)) [
       | inl past ↦ absurd
@@ -140,18 +143,6 @@ not_past p none =
           ∙ cond-true (ltb 18446744073709551615 (top_of p)) _ _ (lt-ltb 18446744073709551615 (top_of p) past)))
       | inr within ↦ omega arith
     ]
-
-pub takes_well : (v : View) (p : Packet) → IsWellFormed v → refusal v p ≡ None →
-    IsWellFormed (view_after v p)
-takes_well v p well none =
-    let each = each_none v p none in
-    stays_well v p well (not_past p each.1.1.0) each.1.1.1.1.0 each.1.1.1.1.1.0
-
-pub receives_well : (v : View) (bytes : List ℕ) (r : Reception) → IsWellFormed v → receive v bytes ≡ Ok r →
-    IsWellFormed r.view
-receives_well v bytes r well is =
-    let taken = is_taken v bytes r is in
-    subst (λ (r : Reception). IsWellFormed r.view) (sym taken.taken) (takes_well v taken.packet well taken.accepted)
 
 -- A packet that begins at or below `next` is delivered to its end.
 pub goes_through : (v : View) (p : Packet) → IsWellFormed v → p.sequence ≤ v.next → top_of p ≤ (view_after v p).next

@@ -14,7 +14,9 @@ pub mod NextLemmas
 pub mod NothingLemmas
 pub mod WantedLemmas
 pub mod GivingUpLemmas
+pub mod RoomLemmas
 pub mod LawLemmas
+pub mod WellLemmas
 pub mod RefusalLemmas
 pub mod HonestLemmas
 pub mod HonestSkipLemmas
@@ -25,11 +27,13 @@ pub mod ArbiterLemmas
 pub mod OwnLemmas
 pub mod MarkLemmas
 pub mod ShelfLemmas
+pub mod SumLemmas
 pub mod SegmentLemmas
 pub mod KeptLemmas
 pub mod TightLemmas
 pub mod HeldLemmas
 pub mod SizeLemmas
+pub mod UsedLemmas
 pub mod ReleaseLemmas
 pub mod PlacedLemmas
 pub mod SkipLemmas

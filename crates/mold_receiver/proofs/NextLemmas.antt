@@ -8,12 +8,13 @@ use Rattle.std.proofs.lemmas.List.{length-replicate}
 use Rattle.std.proofs.lemmas.Option.{slice_get-get_or}
 use Rattle.mold_wire.specs.declared.session.Session.{Session}
 use Rattle.mold_receiver.specs.Handing.{run_in, run_of}
-use Rattle.mold_receiver.specs.Receive.{handed_on, count_beyond, view_at, view_after, taken_of, data_packet}
+use Rattle.mold_receiver.specs.Receive.{handed_on, count_beyond, undropped, view_at, view_after, taken_of, data_packet}
 use Rattle.mold_receiver.specs.Slots.{Slot, slot_at, store_of}
 use Rattle.mold_receiver.specs.Store.{Message, numbered, available, cut}
 use Rattle.mold_receiver.specs.View.{IsWellFormed, view_over}
 use Rattle.mold_receiver.proofs.CaseLemmas.{at_handed, at_stored, at_kept}
-use Rattle.mold_receiver.proofs.RuleLemmas.{count_from}
+use Rattle.mold_receiver.proofs.NothingLemmas.{nothing_beyond}
+use Rattle.mold_receiver.proofs.RoomLemmas.{begun_kept, undropped_all}
 use Rattle.mold_receiver.proofs.SlotLemmas.{slot_past, slot_moved}
 use Rattle.mold_receiver.proofs.StoreLemmas.{run_reads, run_ends, run_short}
 use Rattle.mold_receiver.proofs.ViewLemmas.{between_of, get_from, get_below}
@@ -45,10 +46,10 @@ pub record IsRun (next known top : ℕ) (slots : List Slot) (stored : List Messa
   pub stops : finite.get (store_of next slots) (top + length stored) ≡ None
   pub within : top + length stored ≤ max known top
 
-pub run_of_slots : (session : Session) (next known : ℕ) (ended : Option ℕ) (slots : List Slot) (top : ℕ) →
-    IsWellFormed (view_over session next known ended slots) → next ≤ top
+pub run_of_slots : (room : Option ℕ) (session : Session) (next known : ℕ) (ended : Option ℕ) (slots : List Slot) (top : ℕ) →
+    IsWellFormed (view_over room session next known ended slots) → next ≤ top
     → IsRun next known top slots (run_in slots (top - next))
-run_of_slots session next known ended slots top well ahead =
+run_of_slots room session next known ended slots top well ahead =
     let start = top - next in
     let stored = run_in slots start in
     let each : (i : ℕ) (m : Message) → slice_get stored i ≡ Some m →
@@ -76,12 +77,12 @@ run_of_slots session next known ended slots top well ahead =
     }
 
 -- The messages that such a packet delivers.
-pub at_run : (session : Session) (next known : ℕ) (ended : Option ℕ) (slots : List Slot) (n top : ℕ) (ms : List Message)
-    → IsWellFormed (view_over session next known ended slots) → n ≤ next → next < top → n + length ms ≡ top
-    → handed_on (view_over session next known ended slots) n ms ≡ run_of slots next n top ms
-at_run session next known ended slots n top ms well low high tops =
-    let v = view_over session next known ended slots in
-    let run = run_of_slots session next known ended slots top well (omega arith) in
+pub at_run : (room : Option ℕ) (session : Session) (next known : ℕ) (ended : Option ℕ) (slots : List Slot) (n top : ℕ) (ms : List Message)
+    → IsWellFormed (view_over room session next known ended slots) → n ≤ next → next < top → n + length ms ≡ top
+    → handed_on (view_over room session next known ended slots) n ms ≡ run_of slots next n top ms
+at_run room session next known ended slots n top ms well low high tops =
+    let v = view_over room session next known ended slots in
+    let run = run_of_slots room session next known ended slots top well (omega arith) in
     at_handed v.store next v.window (max known (n + length ms) - next) n top ms (run_in slots (top - next))
     (between_of v well) low high tops run.each run.stops
     (omega (arith, tops, run.within, well.ahead))
@@ -93,22 +94,24 @@ length-run_of slots next n top ms low high tops =
     omega (arith, tops, length-append (drop (next - n) ms) (run_in slots (top - next)), length-drop (next - n) ms)
 
 -- The new view is over the slots that moved.
-pub at_view : (session : Session) (next known : ℕ) (ended : Option ℕ) (slots : List Slot) (n top : ℕ)
+pub at_view : (room : Option ℕ) (session : Session) (next known : ℕ) (ended : Option ℕ) (slots : List Slot) (n top : ℕ)
     (ms : List Message) (new count : ℕ)
-    → IsWellFormed (view_over session next known ended slots) → n ≤ next → next < top → n + length ms ≡ top
+    → IsWellFormed (view_over room session next known ended slots) → n ≤ next → next < top → n + length ms ≡ top
     → new ≡ next + length (run_of slots next n top ms) → count ≡ min (new - next) (length slots)
-    → view_after (view_over session next known ended slots) (data_packet session n ms) ≡ view_over session new
+    → view_after (view_over room session next known ended slots) (data_packet session n ms) ≡ view_over room session new
     (max known top) ended (drop count slots ++ replicate count None)
-at_view session next known ended slots n top ms new count well low high tops is counted =
-    let v = view_over session next known ended slots in
+at_view room session next known ended slots n top ms new count well low high tops is counted =
+    let v = view_over room session next known ended slots in
     let moved = drop count slots ++ replicate count None in
-    let run = run_of_slots session next known ended slots top well (omega arith) in
+    let run = run_of_slots room session next known ended slots top well (omega arith) in
     let at : new ≡ top + length (run_in slots (top - next)) = is ∙ length-run_of slots next n top ms low high tops in
     let here : next + length (handed_on v n ms) ≡ new =
-    ap (λ (t : List Message). next + length t) (at_run session next known ended slots n top ms well low high tops)
+    ap (λ (t : List Message). next + length t) (at_run room session next known ended slots n top ms well low high tops)
     ∙ sym is in
-    let stored : cut (available v.store next n ms) new v.window ≡ store_of new moved =
-    at_stored v.store (store_of new moved) next v.window n new ms (between_of v well) (omega (arith, at))
+    let p = data_packet session n ms in
+    let stored : cut (available v.store next n (undropped v p)) new v.window ≡ store_of new moved =
+    ap (λ (t : List Message). cut (available v.store next n t) new v.window) (undropped_all v p (begun_kept v p low))
+    ∙ at_stored v.store (store_of new moved) next v.window n new ms (between_of v well) (omega (arith, at))
     (omega (arith, at, tops))
     (subst (λ (q : ℕ). finite.get v.store q ≡ None) (sym at) run.stops)
     (moved_looks next new slots count (omega (arith, at)) counted)
@@ -130,17 +133,18 @@ at_view session next known ended slots n top ms new count well low high tops is 
       ended = ended;
       store = stored i;
       window = size i;
+      room = room;
     })
 
-pub at_taken : (session : Session) (next known : ℕ) (ended : Option ℕ) (slots : List Slot) (n top : ℕ)
+pub at_taken : (room : Option ℕ) (session : Session) (next known : ℕ) (ended : Option ℕ) (slots : List Slot) (n top : ℕ)
     (ms : List Message) (new count : ℕ)
-    → IsWellFormed (view_over session next known ended slots) → n ≤ next → next < top → n + length ms ≡ top
+    → IsWellFormed (view_over room session next known ended slots) → n ≤ next → next < top → n + length ms ≡ top
     → new ≡ next + length (run_of slots next n top ms) → count ≡ min (new - next) (length slots)
-    → taken_of (view_over session next known ended slots) (data_packet session n ms)
-    (view_after (view_over session next known ended slots) (data_packet session n ms))
+    → taken_of (view_over room session next known ended slots) (data_packet session n ms)
+    (view_after (view_over room session next known ended slots) (data_packet session n ms))
     ≡ record { handed = new - next; kept = 0; beyond = 0 }
-at_taken session next known ended slots n top ms new count well low high tops is counted =
-    let v = view_over session next known ended slots in
+at_taken room session next known ended slots n top ms new count well low high tops is counted =
+    let v = view_over room session next known ended slots in
     let moved = drop count slots ++ replicate count None in
     let at : new ≡ top + length (run_in slots (top - next)) = is ∙ length-run_of slots next n top ms low high tops in
     let size : length slots ≡ length moved =
@@ -154,23 +158,23 @@ at_taken session next known ended slots n top ms new count well low high tops is
     in
     let kept = at_kept v.store (store_of new moved) n new ms (omega (arith, at, tops))
     (moved_looks next new slots count (omega (arith, at)) counted) in
-    let past : count_beyond (new + length slots) (numbered n ms) ≡ 0 = count_from (new + length slots) n ms
-    ∙ (let e : n + length ms - max n (new + length slots) ≡ 0 = omega (arith, at, tops) in e) in
+    let past : count_beyond new (store_of new moved) (numbered n ms) ≡ 0 =
+    nothing_beyond new n (store_of new moved) ms (inl (omega (arith, at, tops))) in
     ap (taken_of v (data_packet session n ms))
-    (at_view session next known ended slots n top ms new count well low high tops is counted)
+    (at_view room session next known ended slots n top ms new count well low high tops is counted)
     ∙ (λ i. record { handed = new - next; kept = kept i; beyond = past i })
 
-pub handed_view : (session : Session) (next known : ℕ) (ended : Option ℕ) (slots : List Slot) (n top : ℕ)
+pub handed_view : (room : Option ℕ) (session : Session) (next known : ℕ) (ended : Option ℕ) (slots : List Slot) (n top : ℕ)
     (ms : List Message) (new count : ℕ) (new_known : ℕ) (new_slots : List Slot)
-    → IsWellFormed (view_over session next known ended slots) → n ≤ next → next < top → n + length ms ≡ top
+    → IsWellFormed (view_over room session next known ended slots) → n ≤ next → next < top → n + length ms ≡ top
     → new ≡ next + length (run_of slots next n top ms) → count ≡ min (new - next) (length slots)
     → new_known ≡ max known top → new_slots ≡ drop count slots ++ replicate count None
-    → view_over session new new_known ended new_slots ≡ view_after (view_over session next known ended slots)
+    → view_over room session new new_known ended new_slots ≡ view_after (view_over room session next known ended slots)
     (data_packet session n ms)
-handed_view session next known ended slots n top ms new count new_known new_slots well low high tops is counted knows
+handed_view room session next known ended slots n top ms new count new_known new_slots well low high tops is counted knows
     moved =
-    (λ i. view_over session new (knows i) ended (moved i))
-    ∙ sym (at_view session next known ended slots n top ms new count well low high tops is counted)
+    (λ i. view_over room session new (knows i) ended (moved i))
+    ∙ sym (at_view room session next known ended slots n top ms new count well low high tops is counted)
 
 -- A run has at most as many messages as the packet and the slots together.
 pub run_few : (slots : List Slot) (next n top : ℕ) (ms : List Message) → n ≤ next → next < top → n + length ms ≡ top →
@@ -184,10 +188,10 @@ run_few slots next n top ms low high tops =
     )
 
 -- A packet that has the message `next` delivers at least one message.
-pub some_handed : (session : Session) (next known : ℕ) (ended : Option ℕ) (slots : List Slot) (n top : ℕ)
+pub some_handed : (room : Option ℕ) (session : Session) (next known : ℕ) (ended : Option ℕ) (slots : List Slot) (n top : ℕ)
     (ms : List Message)
-    → IsWellFormed (view_over session next known ended slots) → n ≤ next → next < top → n + length ms ≡ top
-    → 0 < next + length (handed_on (view_over session next known ended slots) n ms) - next
-some_handed session next known ended slots n top ms well low high tops =
-    let run = ap (λ (t : List Message). length t) (at_run session next known ended slots n top ms well low high tops) in
+    → IsWellFormed (view_over room session next known ended slots) → n ≤ next → next < top → n + length ms ≡ top
+    → 0 < next + length (handed_on (view_over room session next known ended slots) n ms) - next
+some_handed room session next known ended slots n top ms well low high tops =
+    let run = ap (λ (t : List Message). length t) (at_run room session next known ended slots n top ms well low high tops) in
     omega (arith, run, length-run_of slots next n top ms low high tops)

@@ -1,19 +1,20 @@
 -- The view after a packet that has no message from `next` on.
-use Rattle.std.proofs.Common.{◌≡◌, ℕ, suc, ◌+◌, ◌-◌, ◌<◌, ◌≤◌, max, leb, List, [], ◌∷◌, length, refl, ap, ◌∙◌, inl, inr}
+use Rattle.std.proofs.Common.{◌≡◌, ℕ, suc, ◌+◌, ◌-◌, ◌<◌, ◌≤◌, max, leb, ◌&&◌, List, [], ◌∷◌, length, refl, ap, ◌∙◌, inl, inr}
 use Rattle.std.proofs.Common.{◌⊎◌, arith, nat_cmp}
-use Rattle.std.specs.Prelude.{Option, None, Some, slice_get}
+use Rattle.std.specs.Prelude.{Option, None, Some, is_none, slice_get}
 use Rattle.std.specs.FinMap as finite
-use Rattle.std.proofs.lemmas.Bool.{cases_lt, cond-false, cond-true, le-leb, lt-leb}
+use Rattle.std.proofs.lemmas.Bool.{and_left, cases_lt, cond-false, cond-true, le-leb, lt-leb}
 use Rattle.mold_wire.specs.Packet.{messages_of, top_of}
 use Rattle.mold_wire.specs.declared.packet.Packet.{Packet}
 use Rattle.mold_wire.specs.Truth.{message_at}
-use Rattle.mold_receiver.specs.Receive.{handed_on, count_beyond, ended_after, view_at, view_after, taken_of}
+use Rattle.mold_receiver.specs.Receive.{handed_on, count_beyond, ended_after, undropped, view_at, view_after, taken_of}
 use Rattle.mold_receiver.specs.Slots.{AreEmpty, Slot, slot_at, store_of}
 use Rattle.mold_receiver.specs.Store.{Message, Store, differs, numbered, from_next, first_conflict}
 use Rattle.mold_receiver.specs.View.{View, IsWellFormed}
 use Rattle.mold_receiver.proofs.SlotLemmas.{get-slots}
 use Rattle.mold_receiver.proofs.CaseLemmas.{nothing_handed, nothing_stored, nothing_kept}
-use Rattle.mold_receiver.proofs.RuleLemmas.{message_below, message_past, message_within, count_from}
+use Rattle.mold_receiver.proofs.RuleLemmas.{message_below, message_past, message_within, count_none}
+use Rattle.mold_receiver.proofs.RoomLemmas.{undropped_none}
 use Rattle.mold_receiver.proofs.ViewLemmas.{between_of}
 
 -- The packet has no message at or above `next`.
@@ -27,7 +28,8 @@ nothing_view v p top well tops nothing =
     (between_of v well) nothing in
     let here : v.next + length (handed_on v p.sequence ms) ≡ v.next = ap (λ (t : List Message). v.next + length t) none
     ∙ (let e : v.next + 0 ≡ v.next = omega arith in e) in
-    let stored = nothing_stored v.store v.next v.window p.sequence ms (between_of v well) nothing in
+    let stored = nothing_stored v.store v.next v.window p.sequence (undropped v p) (between_of v well)
+    (λ q from. undropped_none v p q (nothing q from)) in
     ap (view_at v p) here
     ∙ (λ i. record {
       session = v.session;
@@ -37,11 +39,12 @@ nothing_view v p top well tops nothing =
           ended_after p.body p.sequence v.ended;
       store = stored i;
       window = v.window;
+      room = v.room;
     })
 
 pub nothing_taken : (v : View) (p : Packet) (top : ℕ) → IsWellFormed v → top_of p ≡ top →
     ((q : ℕ) → v.next ≤ q → message_at p.sequence (messages_of p.body) q ≡ None)
-    → count_beyond (v.next + v.window) (numbered p.sequence (messages_of p.body)) ≡ 0
+    → count_beyond v.next v.store (numbered p.sequence (messages_of p.body)) ≡ 0
     → taken_of v p (view_after v p) ≡ record { handed = 0; kept = 0; beyond = 0 }
 nothing_taken v p top well tops nothing past =
     let zero_handed : v.next - v.next ≡ 0 = omega arith in
@@ -63,11 +66,12 @@ nothing_there next n ms (inr none) q low =
       | inr above ↦ message_within n ms q above ∙ ap (λ (t : List Message). slice_get t (q - n)) none
     ]
 
-pub nothing_beyond : (next n window : ℕ) (ms : List Message) → (n + length ms ≤ next) ⊎ (ms ≡ []) →
-    count_beyond (next + window) (numbered n ms) ≡ 0
-nothing_beyond next n window ms (inl below) = count_from (next + window) n ms
-    ∙ (let e : n + length ms - max n (next + window) ≡ 0 = omega arith in e)
-nothing_beyond next n window ms (inr none) = ap (λ (t : List Message). count_beyond (next + window) (numbered n t)) none
+pub nothing_beyond : (next n : ℕ) (s : Store) (ms : List Message) → (n + length ms ≤ next) ⊎ (ms ≡ []) →
+    count_beyond next s (numbered n ms) ≡ 0
+nothing_beyond next n s ms (inl below) =
+    count_none (λ q. leb next q && is_none (finite.get s q)) n ms
+    (λ i within. and_left (leb next (n + i)) (is_none (finite.get s (n + i))) (lt-leb next (n + i) (omega (arith, below, within))))
+nothing_beyond next n s ms (inr none) = ap (λ (t : List Message). count_beyond next s (numbered n t)) none
 
 pub none_handed : (v : View) (n : ℕ) (ms : List Message) → IsWellFormed v → (n + length ms ≤ v.next) ⊎ (ms ≡ []) →
     handed_on v n ms ≡ []

@@ -11,7 +11,6 @@ use Rattle.std.proofs.lemmas.Bool.{ltb-true, and_from, and_parts}
 use Rattle.std.proofs.lemmas.Option.{slice_get_past, slice_get_within}
 use Rattle.mold_wire.specs.Truth.{message_at}
 use Rattle.mold_receiver.specs.Store.{Message, Store, numbered, available, cut}
-use Rattle.mold_receiver.specs.Receive.{count_beyond}
 use Rattle.mold_receiver.proofs.StoreLemmas.{get-available, get-cut, same_store, none_some}
 
 -- Stored messages are above `next` and in the window.
@@ -145,7 +144,8 @@ count_none P n (m ∷ ms) never =
     ∙ count_none P (suc n) ms (λ i within. let b : suc n + i ≡ n + suc i = omega arith in ap P b
     ∙ never (suc i) (omega (arith, within)))
 
-pub count_from : (limit n : ℕ) (ms : List Message) → count_beyond limit (numbered n ms) ≡ (n + length ms) - max n limit
+pub count_from : (limit n : ℕ) (ms : List Message) →
+    length (filter (λ (p : ℕ × Message). nat_le limit p.0) (numbered n ms)) ≡ (n + length ms) - max n limit
 count_from limit n [] = omega arith
 count_from limit n (m ∷ ms) =
     elim (cases_lt n limit) [

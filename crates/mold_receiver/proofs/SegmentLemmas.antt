@@ -2,19 +2,20 @@
 use Rattle.std.proofs.Common.{◌≡◌, ℕ, zero, suc, ◌+◌, ◌-◌, ◌*◌, ◌<◌, ◌≤◌, ◌^◌, ◌⊎◌, Bool, true, false, cond, eqb, List, [], ◌∷◌, ◌++◌}
 use Rattle.std.proofs.Common.{length, length-append, length-take, drop, refl, sym, ap, subst, ◌∙◌, inl, inr, arith}
 use Rattle.std.proofs.Common.{Vec, Global}
-use Rattle.std.specs.Prelude.{Option, None, Some, Result, Ok, Err, IfOk, OnErr, slice_get, slice_index_or, vec_capacity}
+use Rattle.std.specs.Prelude.{Option, None, Some, Result, Ok, Err, IfOk, OnErr, min, slice_get, slice_index_or, vec_capacity}
 use Rattle.std.proofs.lemmas.Bool.{cases_eq, eq-eqb, ne_eqb}
 use Rattle.std.proofs.lemmas.List.{append-nil, drop_at}
-use Rattle.slab.specs.Slab.{Slab, Updates, get}
+use Rattle.slab.specs.Slab.{SameValues, Slab, Updates, get}
 use Rattle.mold_receiver.specs.declared.segment.Segment.{Segment}
 use Rattle.mold_receiver.specs.declared.segments.Segments.{Segments}
 use Rattle.mold_receiver.specs.declared.place.Place.{Place}
 use Rattle.mold_receiver.specs.Segments.{AreLeft, AreSegments, AreSpare, HasAppended, HasGained, HasLost, IsFilled, StaysOrGoes}
 use Rattle.mold_receiver.specs.Segments.{IsMemory, IsMemoryFor, IsSegment, bytes_at, bytes_of, count_at, live_at, live_of}
-use Rattle.mold_receiver.specs.Segments.{more_at, room_at, size_at, size_of, used_bytes}
+use Rattle.mold_receiver.specs.Segments.{count_used, more_at, room_at, size_at, size_of, used_bytes, used_of}
 use Rattle.mold_receiver.specs.declared.segment.TheConstants.{SEGMENT_BYTES}
 use Rattle.mold_receiver.specs.declared.segments.TheConstants.{MAX_SPARE}
 use Rattle.mold_receiver.proofs.StoreLemmas.{none_some}
+use Rattle.mold_receiver.proofs.SumLemmas.{used_few, used_same, used_updates}
 
 count_same : (key count : ℕ) → count_at key count key ≡ count
 count_same key count = ap {B = ℕ} (λ (b : Bool). cond b count 0) (eq-eqb key key refl)
@@ -52,15 +53,25 @@ module _ (old new : Segments) (key : ℕ) (slot : Option Segment) (up : Updates 
 some_same : {X : Type 0} (x y : X) → Some x ≡ Some y → x ≡ y
 some_same x y e = cc e
 
+-- The bytes in use are counted, if that is so as far as 64 bits can count.
+abbrev pub IsCounted : Slab Segment → ℕ → Type 0
+IsCounted table used = used_of table.slots < 2 ^ 64 → used ≡ used_of table.slots
+
+counted : (new : Segments) → ((at : ℕ) (s : Segment) → get new.table at ≡ Some s → IsSegment s)
+    → ((at : ℕ) (s : Segment) → get new.table at ≡ Some s → at < 2 ^ 32) → IsCounted new.table new.used
+    → new.used ≡ used_of new.table.slots
+counted new each keys count =
+    count (used_few new.table (λ at s is. let it = each at s is in omega (arith, it.used, it.few))
+    (λ at s is. omega (arith, keys at s is)))
+
 pub are_with : (old new : Segments) (key : ℕ) (segment : Segment) → AreSegments old
     → Updates old.table new.table key (Some segment) → IsSegment segment → key < 2 ^ 32
     → length segment.bytes.items ≤ 2 * segment.used + room_at old.roomy key → new.roomy ≡ old.roomy
-    → AreSpare new.spare new.small → AreSegments new
-are_with old new key segment are up is few size roomy spare = record {
-  each = each_of old new key (Some segment) up (λ _ s. IsSegment s)
-      (λ s e. subst IsSegment (some_same segment s e) is) (λ at s _ had. are.each at s had);
-  keys = each_of old new key (Some segment) up (λ at _. at < 2 ^ 32)
-      (λ s e. few) (λ at s _ had. are.keys at s had);
+    → AreSpare new.spare new.small → IsCounted new.table new.used → AreSegments new
+are_with old new key segment are up is few size roomy spare count = record {
+  each = each;
+  keys = keys;
+  total = counted new each keys count;
   size = subst (λ (r : Option ℕ). (at : ℕ) (s : Segment) → get new.table at ≡ Some s →
       length s.bytes.items ≤ 2 * s.used + room_at r at) (sym roomy)
       (each_of old new key (Some segment) up (λ at s. length s.bytes.items ≤ 2 * s.used + room_at old.roomy at)
@@ -68,25 +79,38 @@ are_with old new key segment are up is few size roomy spare = record {
       (some_same segment s e) size) (λ at s _ had. are.size at s had));
   spare = spare;
 }
+  where
+    each : (at : ℕ) (s : Segment) → get new.table at ≡ Some s → IsSegment s
+    each = each_of old new key (Some segment) up (λ _ s. IsSegment s)
+        (λ s e. subst IsSegment (some_same segment s e) is) (λ at s _ had. are.each at s had)
+    keys : (at : ℕ) (s : Segment) → get new.table at ≡ Some s → at < 2 ^ 32
+    keys = each_of old new key (Some segment) up (λ at _. at < 2 ^ 32)
+        (λ s e. few) (λ at s _ had. are.keys at s had)
 
 pub are_without : (old new : Segments) (key : ℕ) → AreSegments old → Updates old.table new.table key None
-    → new.roomy ≡ old.roomy → AreSpare new.spare new.small → AreSegments new
-are_without old new key are up roomy spare = record {
-  each = each_of old new key None up (λ _ s. IsSegment s) (λ s e. absurd (none_some e))
-      (λ at s _ had. are.each at s had);
-  keys = each_of old new key None up (λ at _. at < 2 ^ 32) (λ s e. absurd (none_some e))
-      (λ at s _ had. are.keys at s had);
+    → new.roomy ≡ old.roomy → AreSpare new.spare new.small → IsCounted new.table new.used → AreSegments new
+are_without old new key are up roomy spare count = record {
+  each = each;
+  keys = keys;
+  total = counted new each keys count;
   size = subst (λ (r : Option ℕ). (at : ℕ) (s : Segment) → get new.table at ≡ Some s →
       length s.bytes.items ≤ 2 * s.used + room_at r at) (sym roomy)
       (each_of old new key None up (λ at s. length s.bytes.items ≤ 2 * s.used + room_at old.roomy at)
       (λ s e. absurd (none_some e)) (λ at s _ had. are.size at s had));
   spare = spare;
 }
+  where
+    each : (at : ℕ) (s : Segment) → get new.table at ≡ Some s → IsSegment s
+    each = each_of old new key None up (λ _ s. IsSegment s) (λ s e. absurd (none_some e))
+        (λ at s _ had. are.each at s had)
+    keys : (at : ℕ) (s : Segment) → get new.table at ≡ Some s → at < 2 ^ 32
+    keys = each_of old new key None up (λ at _. at < 2 ^ 32) (λ s e. absurd (none_some e))
+        (λ at s _ had. are.keys at s had)
 
 -- Any segment may become the roomy one if none was.
 pub are_roomy : (old new : Segments) → AreSegments old → old.roomy ≡ None → new.table ≡ old.table
-    → new.spare ≡ old.spare → new.small ≡ old.small → AreSegments new
-are_roomy old new are none table spare less =
+    → new.spare ≡ old.spare → new.small ≡ old.small → new.used ≡ old.used → AreSegments new
+are_roomy old new are none table spare less used =
     let kept : (r : Option ℕ) (at : ℕ) (s : Segment) → get old.table at ≡ Some s →
     length s.bytes.items ≤ 2 * s.used + room_at r at =
     λ r at s had. omega (arith, are.size at s had, ap (λ (o : Option ℕ). room_at o at) none) in
@@ -96,13 +120,14 @@ are_roomy old new are none table spare less =
       size = λ at s had. kept new.roomy at s (ap (λ (t : Slab Segment). get t at) (sym table) ∙ had);
       spare = subst (λ (x : Vec (Vec ℕ Global) Global). AreSpare x new.small) (sym spare)
           (subst (AreSpare old.spare) (sym less) are.spare);
+      total = used ∙ are.total ∙ ap (λ (t : Slab Segment). used_of t.slots) (sym table);
     }
 
 -- No segment is roomy any more, if the roomy one's memory is at most twice as large as its bytes.
 pub are_tight : (old new : Segments) (key : ℕ) → AreSegments old → old.roomy ≡ Some key
     → size_at old key ≤ 2 * length (bytes_at old key) → new.table ≡ old.table → new.spare ≡ old.spare
-    → new.small ≡ old.small → AreSegments new
-are_tight old new key are roomy small table spare less =
+    → new.small ≡ old.small → new.used ≡ old.used → AreSegments new
+are_tight old new key are roomy small table spare less used =
     let kept : (r : Option ℕ) (at : ℕ) (s : Segment) → get old.table at ≡ Some s →
     length s.bytes.items ≤ 2 * s.used + room_at r at =
     λ r at s had.
@@ -132,6 +157,7 @@ are_tight old new key are roomy small table spare less =
       size = λ at s had. kept new.roomy at s (ap (λ (t : Slab Segment). get t at) (sym table) ∙ had);
       spare = subst (λ (x : Vec (Vec ℕ Global) Global). AreSpare x new.small) (sym spare)
           (subst (AreSpare old.spare) (sym less) are.spare);
+      total = used ∙ are.total ∙ ap (λ (t : Slab Segment). used_of t.slots) (sym table);
     }
 
 -- Segments with the same table have the same bytes and counts.
@@ -373,11 +399,63 @@ pub are_moved : (old new : Segments) (key : ℕ) (before after : Segment) (memor
     → IsMemoryFor memory (length (bytes_at old key) + more) (room_at old.roomy key)
     → after.used ≡ before.used + more → length after.bytes.items ≡ length memory.items
     → vec_capacity after.bytes ≡ vec_capacity memory → new.roomy ≡ old.roomy → AreSpare new.spare new.small
-    → AreSegments new
-are_moved old new key before after memory more are some is up fits filled size capacity roomy spare =
+    → IsCounted new.table new.used → AreSegments new
+are_moved old new key before after memory more are some is up fits filled size capacity roomy spare count =
     let used : after.used ≡ length (bytes_at old key) + more =
     omega (arith, used_there old key before are is, filled) in
     are_with old new key after are up
     (new_segment after memory (length (bytes_at old key) + more) (room_at old.roomy key) fits used size capacity
     (omega (arith, some)))
-    (are.keys key before is) (omega (arith, fits.most, size, used)) roomy spare
+    (are.keys key before is) (omega (arith, fits.most, size, used)) roomy spare count
+
+-- More bytes of a segment are in use, and counted.
+pub counted_more : (old : Segments) (table : Slab Segment) (key more used : ℕ) (before after : Segment)
+    → AreSegments old → get old.table key ≡ Some before → Updates old.table table key (Some after)
+    → after.used ≡ before.used + more → used ≡ min (old.used + more) (2 ^ 64 - 1) → IsCounted table used
+counted_more old table key more used before after are had up filled count few =
+    omega (arith, few, count, filled, are.total, used_updates old.table table key (Some after) up, ap count_used had)
+
+-- A segment is new, and its bytes in use are counted.
+pub counted_new : (old : Segments) (first table : Slab Segment) (key more used : ℕ) (after : Segment)
+    → AreSegments old → first.slots ≡ old.table.slots → get first key ≡ None
+    → Updates first table key (Some after) → after.used ≡ more → used ≡ min (old.used + more) (2 ^ 64 - 1)
+    → IsCounted table used
+counted_new old first table key more used after are same had up filled count few =
+    omega (
+      arith,
+      few,
+      count,
+      filled,
+      are.total,
+      used_updates first table key (Some after) up,
+      ap count_used had,
+      ap used_of same,
+    )
+
+-- The bytes in use of a segment that is gone are no longer counted.
+pub counted_gone : (old : Segments) (table : Slab Segment) (key used : ℕ) (before : Segment)
+    → AreSegments old → get old.table key ≡ Some before → Updates old.table table key None
+    → used ≡ old.used - before.used → IsCounted table used
+counted_gone old table key used before are had up count few =
+    omega (arith, count, are.total, used_updates old.table table key None up, ap count_used had)
+
+-- A segment's bytes in use stay the same.
+pub counted_still : (old : Segments) (table : Slab Segment) (key : ℕ) (before after : Segment)
+    → AreSegments old → get old.table key ≡ Some before → Updates old.table table key (Some after)
+    → after.used ≡ before.used → IsCounted table old.used
+counted_still old table key before after are had up same few =
+    omega (arith, same, are.total, used_updates old.table table key (Some after) up, ap count_used had)
+
+-- The table's memory changed, but no segment.
+pub are_same : (old new : Segments) → AreSegments old → SameValues old.table new.table → new.roomy ≡ old.roomy
+    → new.spare ≡ old.spare → new.small ≡ old.small → new.used ≡ old.used → AreSegments new
+are_same old new are same roomy spare less used = record {
+  each = λ at s had. are.each at s (sym (same at) ∙ had);
+  keys = λ at s had. are.keys at s (sym (same at) ∙ had);
+  size = λ at s had.
+      subst (λ (r : Option ℕ). length s.bytes.items ≤ 2 * s.used + room_at r at) (sym roomy)
+      (are.size at s (sym (same at) ∙ had));
+  spare = subst (λ (x : Vec (Vec ℕ Global) Global). AreSpare x new.small) (sym spare)
+      (subst (AreSpare old.spare) (sym less) are.spare);
+  total = used ∙ are.total ∙ sym (used_same old.table new.table same);
+}

@@ -21,7 +21,7 @@ use Rattle.mold_receiver.specs.Shelf.{IsKept, slots_in, slots_on}
 use Rattle.mold_receiver.specs.Slots.{Slot, slot_entries, slots_bytes, store_of}
 use Rattle.mold_receiver.specs.Store.{Message, entry_bytes, stored_bytes}
 use Rattle.mold_receiver.specs.Tight.{IsTight, block_length, length_in, length_of}
-use Rattle.mold_receiver.proofs.HeldLemmas.{sum_both, sum_from, sum_zero}
+use Rattle.mold_receiver.proofs.SumLemmas.{sum_both, sum_from, sum_zero}
 
 -- The number at one key is counted once at most.
 weight_past : (key weight at count : ℕ) → key < at → sum_from (count_at key weight) at count ≡ 0
@@ -33,7 +33,7 @@ weight_past key weight at (suc count) past =
       weight_past key weight (at + 1) count (omega (arith, past)),
     )
 
-weight_once : (key weight at count : ℕ) → sum_from (count_at key weight) at count ≤ weight
+pub weight_once : (key weight at count : ℕ) → sum_from (count_at key weight) at count ≤ weight
 weight_once key weight at zero = omega arith
 weight_once key weight at (suc count) =
     elim (cases_eq key at) [
@@ -57,7 +57,7 @@ total_length segments [] = 0
 total_length segments (None ∷ places) = total_length segments places
 total_length segments (Some place ∷ places) = block_length segments place + total_length segments places
 
-sum_lengths : (segments : Segments) (places : List (Option Place)) (at count : ℕ) →
+pub sum_lengths : (segments : Segments) (places : List (Option Place)) (at count : ℕ) →
     sum_from (λ key. length_in segments key places) at count ≤ total_length segments places
 sum_lengths segments [] at count = omega (arith, sum_zero at count)
 sum_lengths segments (None ∷ places) at count = sum_lengths segments places at count
@@ -97,7 +97,7 @@ room_once : (roomy : Option ℕ) (at count : ℕ) → sum_from (room_at roomy) a
 room_once None at count = omega (arith, sum_zero at count)
 room_once (Some key) at count = weight_once key SEGMENT_BYTES at count
 
-slots_total : (segments : Segments) (places : List (Option Place)) →
+pub slots_total : (segments : Segments) (places : List (Option Place)) →
     total_length segments places ≡ slots_bytes (slots_in segments places)
 slots_total segments [] = refl
 slots_total segments (None ∷ places) = slots_total segments places
@@ -181,7 +181,7 @@ weight_there key weight at (suc count) low high =
     ]
 
 -- All blocks are counted if the keys of their places are among these.
-lengths_sum : (segments : Segments) (places : List (Option Place)) (count : ℕ)
+pub lengths_sum : (segments : Segments) (places : List (Option Place)) (count : ℕ)
     → ((i : ℕ) (place : Place) → place_at places i ≡ Some place → place.segment < count)
     → total_length segments places ≤ sum_from (λ key. length_in segments key places) 0 count
 lengths_sum segments [] count keys = omega (arith, sum_zero 0 count)
@@ -224,7 +224,7 @@ memory_least f at (Some segment ∷ slots) none each =
     )
 
 -- A key of a place is one of the table.
-key_there : (slots : List (Option Segment)) (key : ℕ) → 0 < length (bytes_of (slice_index_or slots key None)) →
+pub key_there : (slots : List (Option Segment)) (key : ℕ) → 0 < length (bytes_of (slice_index_or slots key None)) →
     key < length slots
 key_there [] key some = absurd (omega (arith, some))
 key_there (slot ∷ slots) zero some = omega arith

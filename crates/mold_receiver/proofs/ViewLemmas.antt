@@ -1,6 +1,6 @@
 -- Views over slots.
 use Rattle.std.proofs.Common.{◌≡◌, ℕ, zero, suc, ◌+◌, ◌-◌, ◌<◌, ◌≤◌, ◌^◌, max, leb, ltb, ◌&&◌, List, length}
-use Rattle.std.proofs.Common.{replicate, refl, sym, ap, ◌∙◌, inl, inr, arith, nat_cmp}
+use Rattle.std.proofs.Common.{replicate, refl, sym, ap, subst, ◌∙◌, inl, inr, arith, nat_cmp}
 use Rattle.std.specs.Prelude.{Option, None, Some}
 use Rattle.std.specs.FinMap as finite
 use Rattle.std.proofs.lemmas.Bool.{cases_lt, cases_Bool, cond-true, cond-false, le-leb, lt-leb, lt-ltb, ltb-true}
@@ -12,9 +12,10 @@ use Rattle.mold_wire.specs.declared.packet.Body.TheVariants.{Data, Heartbeat, En
 use Rattle.mold_wire.specs.declared.session.Session.{Session}
 use Rattle.mold_rule.specs.Refusals.{end_below, past_end}
 use Rattle.mold_receiver.specs.Receive.{handed_on, ended_after, view_after}
-use Rattle.mold_receiver.specs.Slots.{Slot, slot_at, store_of, count_held}
+use Rattle.mold_receiver.specs.Slots.{Slot, slot_at, slots_bytes, store_of, count_held}
 use Rattle.mold_receiver.specs.Store.{Message, Store, available}
-use Rattle.mold_receiver.specs.View.{View, IsWellFormed, view_over}
+use Rattle.mold_receiver.specs.View.{View, IsRoom, IsWellFormed, IsWithinRoom, view_over}
+use Rattle.mold_receiver.proofs.SizeLemmas.{bytes_slots}
 use Rattle.mold_receiver.proofs.RuleLemmas.{IsBetween, message_bounds, available_cases, none_unless}
 use Rattle.mold_receiver.proofs.SlotLemmas.{get-slots, len-slots}
 use Rattle.mold_receiver.proofs.StoreLemmas.{get-cut, none_some, run_short}
@@ -39,7 +40,7 @@ past_data : (ended : Option ℕ) (ms : List Message) (top : ℕ) → past_end en
 past_data None ms top past = refl
 past_data (Some e) ms top past = past
 
-ends_well : (ended : Option ℕ) (body : Body) (sequence known top : ℕ) → sequence + length (messages_of body) ≡ top
+pub ends_well : (ended : Option ℕ) (body : Body) (sequence known top : ℕ) → sequence + length (messages_of body) ≡ top
     → ((end : ℕ) → ended ≡ Some end → end ≡ known) → end_below body sequence known ≡ None →
     past_end ended body top ≡ None
     → (end : ℕ) → ended_after body sequence ended ≡ Some end → end ≡ max known top
@@ -53,41 +54,6 @@ ends_well ended End sequence known top tops ends below past end is =
       | inr high ↦ omega (arith, at, tops)
     ]
 
--- A view that accepts a packet stays well formed.
-pub stays_well : (v : View) (p : Packet) → IsWellFormed v → top_of p < 2 ^ 64 →
-    end_below p.body p.sequence v.known ≡ None → past_end v.ended p.body (top_of p) ≡ None
-    → IsWellFormed (view_after v p)
-stays_well v p well fits below past =
-    let ms = messages_of p.body in
-    let short = run_short (finite.get (available v.store v.next p.sequence ms)) v.next
-    (max v.known (top_of p) - v.next) in
-    let new = v.next + length (handed_on v p.sequence ms) in
-    record {
-      first = omega (arith, well.first);
-      ahead = omega (arith, well.ahead, short);
-      last = omega (arith, well.last, fits);
-      stored = λ q m is.
-          let limit = ltb new q && ltb q (new + v.window) in
-          elim (cases_Bool limit) [
-            | inr out ↦ absurd
-                (none_some (sym (get-cut (available v.store v.next p.sequence ms) new v.window q
-                ∙ cond-false limit _ _ out) ∙ is))
-            | inl inside ↦
-                let parts = and_parts (ltb new q) (ltb q (new + v.window)) inside in
-                let found : finite.get (available v.store v.next p.sequence ms) q ≡ Some m =
-                sym (cond-true limit (finite.get (available v.store v.next p.sequence ms) q) None inside)
-                ∙ sym (get-cut (available v.store v.next p.sequence ms) new v.window q) ∙ is in (
-                  ltb-true new q parts.0,
-                  ltb-true q (new + v.window) parts.1,
-                  elim (available_cases v.store v.next p.sequence ms q m found) [
-                    | inl carried ↦ (let bounds = message_bounds p.sequence ms q m carried.1 in omega (arith, bounds.1))
-                    | inr had ↦ (let lies = well.stored q m had in omega (arith, lies.2))
-                  ],
-                )
-          ];
-      ends = ends_well v.ended p.body p.sequence v.known (top_of p) refl well.ends below past;
-    }
-
 -- The store over slots, by number.
 pub get_from : (next : ℕ) (slots : List Slot) (q : ℕ) → next ≤ q →
     finite.get (store_of next slots) q ≡ slot_at slots (q - next)
@@ -99,19 +65,19 @@ get_below next slots q low = get-slots next slots q
     ∙ cond-false (leb next q) (slot_at slots (q - next)) None (lt-leb next q low)
 
 -- One more than a stored number has 64 bits.
-pub slot_numbers : (session : Session) (next known : ℕ) (ended : Option ℕ) (slots : List Slot) →
-    IsWellFormed (view_over session next known ended slots)
+pub slot_numbers : (room : Option ℕ) (session : Session) (next known : ℕ) (ended : Option ℕ) (slots : List Slot) →
+    IsWellFormed (view_over room session next known ended slots)
     → (i : ℕ) (m : Message) → slot_at slots i ≡ Some m → next + i + 1 < 2 ^ 64
-slot_numbers session next known ended slots well i m is =
+slot_numbers room session next known ended slots well i m is =
     let place : next + i - next ≡ i = omega arith in
     let lies = well.stored (next + i) m (get_from next slots (next + i) (omega arith) ∙ ap (slot_at slots) place
     ∙ is) in
     omega (arith, lies.2, well.last)
 
 -- The first slot is that of `next`, which is never stored.
-pub first_empty : (session : Session) (next known : ℕ) (ended : Option ℕ) (slots : List Slot) →
-    IsWellFormed (view_over session next known ended slots) → slot_at slots 0 ≡ None
-first_empty session next known ended slots well =
+pub first_empty : (room : Option ℕ) (session : Session) (next known : ℕ) (ended : Option ℕ) (slots : List Slot) →
+    IsWellFormed (view_over room session next known ended slots) → slot_at slots 0 ≡ None
+first_empty room session next known ended slots well =
     none_unless (slot_at slots 0) (λ m is.
     let place : next - next ≡ 0 = omega arith in
     let lies = well.stored next m (get_from next slots next (omega arith) ∙ ap (slot_at slots) place ∙ is) in
@@ -122,15 +88,20 @@ pub empty_store : (next n : ℕ) → store_of next (replicate n None) ≡ finite
 empty_store next zero = refl
 empty_store next (suc n) = empty_store (suc next) n
 
-pub fresh_well : (session : Session) (next n : ℕ) → 1 ≤ next → next < 2 ^ 64 →
-    IsWellFormed (view_over session next next None (replicate n None))
-fresh_well session next n first last = record {
+empty_bytes : (n : ℕ) → slots_bytes (replicate n None) ≡ 0
+empty_bytes zero = refl
+empty_bytes (suc n) = empty_bytes n
+
+pub fresh_well : (room : Option ℕ) (session : Session) (next n : ℕ) → 1 ≤ next → next < 2 ^ 64 → IsRoom room →
+    IsWellFormed (view_over room session next next None (replicate n None))
+fresh_well room session next n first last is_room = record {
   first = first;
   ahead = omega arith;
   last = last;
   stored = λ q m is. absurd
       (none_some (sym (ap (λ (s : Store). finite.get s q) (empty_store next n) ∙ finite.get-empty nat_cmp q) ∙ is));
   ends = λ e is. absurd (none_some is);
+  bounded = subst (IsWithinRoom room) (sym (bytes_slots next (replicate n None) ∙ empty_bytes n)) is_room;
 }
 
 pub none_held : (next : ℕ) (slots : List Slot) → count_held slots ≡ 0 → store_of next slots ≡ finite.empty

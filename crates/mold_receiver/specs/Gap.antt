@@ -22,6 +22,7 @@ pub record Took (old : View) (count : ℕ) (new : View) : Type 0 where
   pub known : new.known ≡ old.known
   pub ended : new.ended ≡ old.ended
   pub window : new.window ≡ old.window
+  pub room : new.room ≡ old.room
   -- Each message between them and the new `next` was stored before.
   pub had : (number : ℕ) → old.next + count ≤ number → number < new.next →
       is_some (finite.get old.store number) ≡ true

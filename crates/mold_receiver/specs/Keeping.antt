@@ -17,6 +17,10 @@ AreFree slots first count = (first + count ≤ length slots) × AreEmpty slots f
 abbrev pub fresh : List Slot → ℕ → List Message → List (ℕ × Message)
 fresh slots first messages = filter (λ pair. is_fresh slots pair.0) (numbered first messages)
 
+-- The number of messages whose slot is empty or doesn't exist. The slot of the first message is `first`.
+abbrev pub count_absent : List Slot → ℕ → List Message → ℕ
+count_absent slots first messages = length (filter (λ pair. is_none (slot_at slots pair.0)) (numbered first messages))
+
 -- These messages without their slots.
 abbrev pub fresh_messages : List Slot → ℕ → List Message → List Message
 fresh_messages slots first messages = map (λ pair. pair.1) (fresh slots first messages)

@@ -1,8 +1,9 @@
 -- The receiving rule: what a datagram does to a view. It is a function over whole maps of stored messages.
-use Rattle.std.specs.Prelude.{◌≡◌, ◌⊎◌, ◌<◌, ℕ, ◌+◌, ◌-◌, max, ◌&&◌, nat_le, List, length, Option, None, Some}
-use Rattle.std.specs.Prelude.{is_some, is_none, Result, Ok, Err}
+use Rattle.std.specs.Prelude.{◌≡◌, ◌⊎◌, ◌<◌, ℕ, ◌+◌, ◌-◌, max, ◌&&◌, nat_le, nat_lt, List, [], length, Option, None}
+use Rattle.std.specs.Prelude.{Some, Bool, false, is_some, is_none, if◌then◌else◌, Result, Ok, Err}
 use Rattle.std.specs.List.{filter}
 use Rattle.std.specs.FinMap as finite
+use Rattle.mold_wire.specs.Block.{blocks}
 use Rattle.mold_wire.specs.Packet.{messages_of, top_of}
 use Rattle.mold_wire.specs.Reading.{reading}
 use Rattle.mold_wire.specs.declared.packet.Packet.{Packet}
@@ -16,6 +17,7 @@ use Rattle.mold_rule.specs.declared.refusal.Refusal.TheVariants.{Malformed, Memo
 use Rattle.mold_receiver.specs.declared.taken.Taken.{Taken}
 use Rattle.mold_receiver.specs.Batch.{Handed, followed_by}
 use Rattle.mold_receiver.specs.Store.{Message, Store, numbered, from_next, available, run_from, cut, first_conflict}
+use Rattle.mold_receiver.specs.Store.{stored_bytes}
 use Rattle.mold_receiver.specs.View.{View}
 
 -- The first refusal that applies to the packet, or none. A conflict is a number from `next` on at which the packet
@@ -37,9 +39,30 @@ abbrev pub count_kept : Store → Store → List (ℕ × Message) → ℕ
 count_kept old new pairs =
     length (filter (λ pair. is_some (finite.get new pair.0) && is_none (finite.get old pair.0)) pairs)
 
--- The number of the packet's messages whose number is at least `limit`.
-abbrev pub count_beyond : ℕ → List (ℕ × Message) → ℕ
-count_beyond limit pairs = length (filter (λ pair. nat_le limit pair.0) pairs)
+-- The number of the packet's messages that the view misses: those from `next` on that are not stored.
+abbrev pub count_beyond : ℕ → Store → List (ℕ × Message) → ℕ
+count_beyond next store pairs =
+    length (filter (λ pair. nat_le next pair.0 && is_none (finite.get store pair.0)) pairs)
+
+-- Whether there are more bytes than the room has.
+abbrev pub exceeds : Option ℕ → ℕ → Bool
+exceeds None bytes = false
+exceeds (Some room) bytes = nat_lt room bytes
+
+-- Whether none of the packet's messages is stored, because the store has no room for them. That is so if the packet
+-- begins above `next`, and its blocks and those of the stored messages are together longer than the room. A packet that
+-- has the message `next` needs no room, so the gap at `next` can always be filled.
+abbrev pub is_dropped : View → Packet → Bool
+is_dropped v p =
+    nat_lt v.next p.sequence && exceeds v.room (stored_bytes v.store + length (blocks (messages_of p.body)))
+
+-- The store has room for the packet, or the packet needs none.
+abbrev pub HasRoomFor : View → Packet → Type 0
+HasRoomFor v p = is_dropped v p ≡ false
+
+-- The messages of the packet, or none if it is dropped.
+abbrev pub undropped : View → Packet → List Message
+undropped v p = if is_dropped v p then [] else messages_of p.body
 
 -- The session's end as known after a packet. An end packet sets it to its sequence number.
 abbrev pub ended_after : Body → ℕ → Option ℕ → Option ℕ
@@ -61,8 +84,9 @@ view_at v p next = record {
   next = next;
   known = max v.known (top_of p);
   ended = ended_after p.body p.sequence v.ended;
-  store = cut (available v.store v.next p.sequence (messages_of p.body)) next v.window;
+  store = cut (available v.store v.next p.sequence (undropped v p)) next v.window;
   window = v.window;
+  room = v.room;
 }
 
 -- The receiver's counts for an accepted packet, given the new view.
@@ -70,7 +94,7 @@ abbrev pub taken_of : View → Packet → View → Taken
 taken_of v p new = record {
   handed = new.next - v.next;
   kept = count_kept v.store new.store (numbered p.sequence (messages_of p.body));
-  beyond = count_beyond (new.next + v.window) (numbered p.sequence (messages_of p.body));
+  beyond = count_beyond new.next new.store (numbered p.sequence (messages_of p.body));
 }
 
 -- The view after an accepted packet.

@@ -56,6 +56,16 @@ bytes_at segments key = bytes_of (get segments.table key)
 abbrev pub live_at : Segments → ℕ → ℕ
 live_at segments key = live_of (get segments.table key)
 
+-- The number of bytes in use of a segment. No segment has none.
+abbrev pub count_used : Option Segment → ℕ
+count_used None = 0
+count_used (Some segment) = segment.used
+
+-- The number of bytes in use of these segments together.
+abbrev pub used_of : List (Option Segment) → ℕ
+used_of [] = 0
+used_of (slot ∷ slots) = count_used slot + used_of slots
+
 -- One for the key itself, zero for another one.
 abbrev pub one_at : ℕ → ℕ → ℕ
 one_at segment key = if nat_eq segment key then 1 else 0
@@ -95,7 +105,7 @@ pub record AreSpare (spare : Vec (Vec ℕ Global) Global) (small : Vec ℕ Globa
   pub exact : vec_capacity small ≤ length small.items
 
 -- The segments are consistent, and each has a key that fits a place. The memory of each, except for the roomy one, is at
--- most twice as large as its bytes in use.
+-- most twice as large as its bytes in use. All bytes in use are counted.
 pub record AreSegments (segments : Segments) : Type 0 where
   pub each : (key : ℕ) (segment : Segment) → get segments.table key ≡ Some segment → IsSegment segment
   pub keys : (key : ℕ) (segment : Segment) → get segments.table key ≡ Some segment → key < 2 ^ 32
@@ -103,6 +113,7 @@ pub record AreSegments (segments : Segments) : Type 0 where
       (key : ℕ) (segment : Segment) → get segments.table key ≡ Some segment →
       length segment.bytes.items ≤ 2 * segment.used + room_at segments.roomy key
   pub spare : AreSpare segments.spare segments.small
+  pub total : segments.used ≡ used_of segments.table.slots
 
 -- Each segment has the bytes and the count that it had.
 pub record AreLeft (old new : Segments) : Type 0 where

@@ -22,6 +22,7 @@ moved_to v next = record {
   ended = v.ended;
   store = cut v.store next v.window;
   window = v.window;
+  room = v.room;
 }
 
 -- The view after the messages below `to` were given up. The stored messages that follow were delivered, and `next`

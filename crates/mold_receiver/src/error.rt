@@ -11,6 +11,9 @@ pub enum ReceiverError {
     /// The window is not 1 to `MAX_WINDOW` messages, or for `Receiver::wide` not 1 to `MAX_WIDE_WINDOW`.
     #[error("a window is 1 to 65,536 messages")]
     Window,
+    /// The room of the store is below `MIN_STORE` bytes.
+    #[error("a store has room for at least 65,507 bytes")]
+    Store,
     /// The allocation of the window failed.
     #[error("out of memory")]
     Memory,

@@ -2,7 +2,7 @@
 
 ghost use Rattle.std.specs.Prelude.{◌≡◌, ◌↔◌, ◌+◌, ◌<◌, ◌^◌, length, IfOk, OnOk, OnErr, IsTrue};
 ghost use Rattle.std.specs.List.{AllByRecursion};
-ghost use Rattle.mold_receiver.specs.Keeping.{filled, fresh, fresh_messages};
+ghost use Rattle.mold_receiver.specs.Keeping.{count_absent, filled, fresh, fresh_messages};
 ghost use Rattle.mold_receiver.specs.Segments.{IsAppended};
 ghost use Rattle.mold_receiver.specs.Shelf.{IsKept, slots_on};
 ghost use Rattle.mold_receiver.specs.Tight.{HasMarked, IsTight};
@@ -27,6 +27,23 @@ fn has_fresh(shelf: &Shelf, first: u64, blocks: &Blocks<'_>) -> bool
         slot += 1;
     }
     false
+}
+
+/// Returns how many of the packet's messages have an empty slot, or none. `first` is the slot of the first message.
+pub(crate) fn count_absent(shelf: &Shelf, first: u64, blocks: &Blocks<'_>) -> u32
+    requires numbered { first + length blocks.now < 2 ^ 64 }
+    requires few { length blocks.now < END_OF_SESSION }
+    ensures { result ≡ count_absent (slots_on shelf.now) first blocks.now }
+{
+    let mut count = 0;
+    let mut slot = first;
+    for _message in blocks.iter() {
+        if !shelf.has(slot as usize) {
+            count += 1;
+        }
+        slot += 1;
+    }
+    count
 }
 
 // Returns the blocks of the packet's messages for which there is an empty slot.

@@ -16,10 +16,12 @@ ghost use Rattle.mold_receiver.specs.Batch.{Handed, Follows, followed_by};
 ghost use Rattle.mold_wire.specs.Truth.{Carries, IsTruePacket};
 ghost use Rattle.mold_receiver.specs.Having.{HasAllOf, HasMessage};
 ghost use Rattle.mold_receiver.specs.Honest.{IsHonest, IsSkippedHonestly, IsTakenHonestly};
-ghost use Rattle.mold_receiver.specs.Receive.{IsTakenPacket, Reception, data_packet, handed_on, receive, view_after};
+ghost use Rattle.mold_receiver.specs.Receive.{HasRoomFor, IsTakenPacket, Reception, data_packet, ended_after, handed_on};
+ghost use Rattle.mold_receiver.specs.Receive.{is_dropped, receive, view_after};
 ghost use Rattle.mold_receiver.specs.Skip.{skipped};
 ghost use Rattle.mold_receiver.specs.Store.{Message, available};
-ghost use Rattle.mold_receiver.specs.View.{View, IsWellFormed, fresh};
+ghost use Rattle.mold_receiver.specs.View.{View, IsRoom, IsWellFormed, fresh, fresh_within};
+ghost use Rattle.mold_receiver.specs.declared.limits.TheConstants.{MIN_STORE};
 ghost use Rattle.mold_receiver.specs.Wanted.{IsGap, gap_end, gaps, lacks, missing, wanted};
 ghost use Rattle.mold_receiver.specs.Gap.{IsTakenInGap};
 
@@ -59,11 +61,12 @@ pub fn well_formed_law()
         IsWellFormed v → v.next ≤ to → to ≤ v.known → IsWellFormed (skipped v to) }
 {}
 
-/// A message that came is never missing again. After a packet is accepted, the view has each of its messages whose
-/// number is in the window. What a view has, it has after each later packet, and after messages are given up.
+/// A message that came is never missing again. After a packet is accepted for which the store has room, the view has
+/// each of its messages whose number is in the window. What a view has, it has after each later packet, and after messages
+/// are given up.
 pub fn having_law()
     ensures came { (v : View) (p : Packet) (number : ℕ) → IsWellFormed v → p.sequence ≤ number → number < top_of p →
-        number < (view_after v p).next + v.window → HasMessage (view_after v p) number }
+        number < (view_after v p).next + v.window → HasRoomFor v p → HasMessage (view_after v p) number }
     ensures received { (v : View) (p : Packet) → IsWellFormed v → HasAllOf v (view_after v p) }
     ensures skipped { (v : View) (to : ℕ) → IsWellFormed v → v.next ≤ to → to ≤ v.known → HasAllOf v (skipped v to) }
 {}
@@ -80,8 +83,24 @@ pub fn honest_take_law()
     refusal_law();
 }
 
+/// Which packets the store has room for. A packet that doesn't begin above `next` needs none, so the gap at `next` can be
+/// filled whatever is stored. An empty store has room for each datagram of at most `MIN_STORE` bytes, and a store without
+/// a limit for each packet. After a packet for which there is no room, the view knows of its messages, and that is all
+/// that changed.
+pub fn room_law()
+    ensures next { (v : View) (p : Packet) → p.sequence ≤ v.next → HasRoomFor v p }
+    ensures empty { (v : View) (p : Packet) (bytes : List ℕ) → IsWellFormed v → v.store ≡ finite.empty →
+        Spells p bytes → length bytes ≤ MIN_STORE → HasRoomFor v p }
+    ensures whole { (v : View) (p : Packet) → v.room ≡ None → HasRoomFor v p }
+    ensures dropped { (v : View) (p : Packet) → IsWellFormed v → is_dropped v p ≡ true →
+        view_after v p ≡ record v {
+          known = max v.known (top_of p);
+          ended = ended_after p.body p.sequence v.ended;
+        } }
+{}
+
 /// A view stays honest when a message is published and when the session is closed. The view of a new receiver is
-/// honest if it starts at a published message or at the next one.
+/// honest if it starts at a published message or at the next one, whatever the room of its store.
 pub fn honest_stays_law()
     ensures published { (v : View) (published : List Message) (message : Message) →
         IsHonest v published false → IsHonest v (published ++ message ∷ []) false }
@@ -90,6 +109,9 @@ pub fn honest_stays_law()
     ensures fresh { (session : Session) (next window : ℕ) (published : List Message) (closed : Bool) →
         1 ≤ next → next ≤ length published + 1 → length published < MAX_NUMBER →
         IsHonest (fresh session next window) published closed }
+    ensures within { (room : Option ℕ) (session : Session) (next window : ℕ) (published : List Message)
+        (closed : Bool) → IsRoom room → 1 ≤ next → next ≤ length published + 1 → length published < MAX_NUMBER →
+        IsHonest (fresh_within room session next window) published closed }
 {}
 
 /// A view stays honest when the messages below `to` are given up. Each message that it then delivers is the one that

@@ -4,9 +4,10 @@
 // emits calls that return structs through memory. They take a third of the time of a datagram with one message.
 
 ghost use Rattle.std.specs.Prelude.{◌≡◌, ◌↔◌, IsTrue, ◌⊎◌, [], ◌+◌, ◌*◌, ◌-◌, ◌<◌, ◌≤◌, ◌^◌, min, length};
-ghost use Rattle.std.specs.Prelude.{Some, None, Ok, Err, IfOk, IfErr, IfNone, IfSome, OnOk, OnErr, drop, max};
+ghost use Rattle.std.specs.Prelude.{true, false, Some, None, Ok, Err, IfOk, IfErr, IfNone, IfSome, OnOk, OnErr, drop, max};
 ghost use Rattle.std.specs.FinMap as finite;
 ghost use Rattle.std.specs.Option.{OnSome};
+ghost use Rattle.mold_wire.specs.Block.{blocks as packed};
 ghost use Rattle.mold_wire.specs.Packet.{IsBody, messages_of, top_of};
 ghost use Rattle.mold_wire.specs.Reading.{reading};
 ghost use Rattle.mold_wire.specs.declared.header.TheConstants.{END_OF_SESSION};
@@ -15,12 +16,13 @@ ghost use Rattle.mold_receiver.specs.Batch.{Follows, followed_by};
 ghost use Rattle.mold_receiver.specs.Handing.{HasNext};
 ghost use Rattle.mold_receiver.specs.Own.{HandsOwn, HasHeard, IsUnheardFor, NeedsRoom};
 ghost use Rattle.mold_receiver.specs.Receive.{HasTaken, HasTakenPacket, IsRefusedFor, TakesMemory, data_packet};
-ghost use Rattle.mold_receiver.specs.Receive.{ended_after, handed_on, refusal, top_read};
+ghost use Rattle.mold_receiver.specs.Receive.{ended_after, exceeds, handed_on, refusal, top_read};
 ghost use Rattle.mold_receiver.specs.Store.{first_conflict, from_next, stored_bytes};
 ghost use Rattle.mold_receiver.specs.Skip.{AreMissing, skipped, skipped_run};
 ghost use Rattle.mold_receiver.specs.Wanted.{HasNoGap, IsFirstAbsent, IsNextGap, wanted};
-ghost use Rattle.mold_receiver.specs.View.{View, IsWellFormed, IsWideWindow, IsWindow, fresh};
-ghost use Rattle.mold_receiver.specs.declared.error.ReceiverError.TheVariants.{NextZero, Window, Memory};
+ghost use Rattle.mold_receiver.specs.View.{View, IsRoom, IsWellFormed, IsWideWindow, IsWindow, IsWithinRoom, fresh};
+ghost use Rattle.mold_receiver.specs.View.{fresh_within};
+ghost use Rattle.mold_receiver.specs.declared.error.ReceiverError.TheVariants.{NextZero, Window, Store, Memory};
 ghost use Rattle.mold_receiver.specs.declared.segment.TheConstants.{SEGMENT_BYTES};
 ghost use Rattle.mold_receiver.specs.declared.segments.TheConstants.{MAX_SPARE};
 ghost use Rattle.mold_rule.specs.Refusals.{end_below, past_end};
@@ -31,6 +33,7 @@ use crate::error::ReceiverError;
 use crate::gap::Gap;
 use crate::hand::{deliver_following, hand_on, hand_stored};
 use crate::heard::{Heard, HeardPacket};
+use crate::limits::MIN_STORE;
 use crate::slots::Slots;
 use crate::taken::{Accepted, Taken};
 use mold_rule::{Refusal, check_header};
@@ -53,6 +56,28 @@ fn count_beyond(next: u64, window: usize, top: u64, count: u16) -> u32
     past.min(u64::from(count)) as u32
 }
 
+// Returns whether the room is at least `MIN_STORE` bytes, or has no limit.
+fn is_room(room: Option<u64>) -> bool
+    ensures { IsTrue result ↔ IsRoom room }
+{
+    match room {
+        Some(room) => room >= MIN_STORE,
+        None => true,
+    }
+}
+
+// Returns whether there is no room for `more` bytes beside `used` bytes.
+#[inline(always)]
+fn exceeds(room: Option<u64>, used: usize, more: usize) -> bool
+    requires { IsWithinRoom room used }
+    ensures { result ≡ exceeds room (used + more) }
+{
+    match room {
+        Some(room) => more as u64 > room - used as u64,
+        None => false,
+    }
+}
+
 // Returns the session's end as known after the packet was accepted.
 fn known_end(packet: &Packet<'_>, ended: Option<u64>) -> Option<u64>
     ensures { result ≡ ended_after packet.now.body packet.now.sequence ended }
@@ -65,7 +90,7 @@ fn known_end(packet: &Packet<'_>, ended: Option<u64>) -> Option<u64>
 
 /// A receiver of one session's downstream packets. It delivers each message once, in the order of the sequence
 /// numbers, starting at the number given to `new`. It stores messages that arrive above a gap, if they are in its
-/// window. Packets may arrive late, repeatedly and in any order.
+/// window and its store has room for them. Packets may arrive late, repeatedly and in any order.
 #[derive(Drop)]
 pub struct Receiver {
     session: Session,
@@ -73,6 +98,8 @@ pub struct Receiver {
     known: u64,
     ended: Option<u64>,
     slots: Slots,
+    // The room of the store in bytes. `None` is no limit.
+    room: Option<u64>,
     alloc: Global,
 }
 
@@ -89,9 +116,9 @@ impl Model for Receiver {
 
     ghost coded = { view_code };
 
-    ghost view = { λ r. view_over r.session r.next r.known r.ended r.slots };
+    ghost view = { λ r. view_over r.room r.session r.next r.known r.ended r.slots };
 
-    ghost invariant = { λ r. IsWellFormed (view_over r.session r.next r.known r.ended r.slots) };
+    ghost invariant = { λ r. IsWellFormed (view_over r.room r.session r.next r.known r.ended r.slots) };
 }
 
 impl Receiver {
@@ -129,11 +156,35 @@ impl Receiver {
         ensures window { 0 < next → (IsWideWindow window → ⊥) → result ≡ Err Window }
         ensures memory { 0 < next → IsWideWindow window → IfErr result (λ error. error ≡ Memory) }
     {
+        Receiver::bounded(alloc, session, next, window, None)
+    }
+
+    /// Returns a receiver as `wide` does, whose store has room for `store` bytes. `None` is no limit. The bytes are those
+    /// of the stored messages and of their length fields, 2 for each message. If the store has no room for the messages of
+    /// a datagram that begins above `next`, all of them are dropped, as those past the window are. A datagram that has the
+    /// message `next` needs no room.
+    pub fn bounded(
+        alloc: Global,
+        session: Session,
+        next: u64,
+        window: u32,
+        store: Option<u64>,
+    ) -> Result<Receiver, ReceiverError>
+        ensures made { IfOk result (λ receiver. receiver ≡ fresh_within store session next window) }
+        ensures ok { OnOk result ((0 < next) × IsWideWindow window × IsRoom store) }
+        ensures zero { next ≡ 0 → result ≡ Err NextZero }
+        ensures window { 0 < next → (IsWideWindow window → ⊥) → result ≡ Err Window }
+        ensures store { 0 < next → IsWideWindow window → (IsRoom store → ⊥) → result ≡ Err Store }
+        ensures memory { 0 < next → IsWideWindow window → IsRoom store → IfErr result (λ error. error ≡ Memory) }
+    {
         if next == 0 {
             return Err(ReceiverError::NextZero);
         }
         if window == 0 || window > MAX_WIDE_WINDOW {
             return Err(ReceiverError::Window);
+        }
+        if !is_room(store) {
+            return Err(ReceiverError::Store);
         }
         match Slots::new(alloc, window) {
             Ok(slots) => Ok(Receiver {
@@ -142,19 +193,21 @@ impl Receiver {
                 known: next,
                 ended: None,
                 slots,
+                room: store,
                 alloc,
             }),
             Err(_) => Err(ReceiverError::Memory),
         }
     }
 
-    // Stores the messages of a packet that begins above `next`.
+    // Stores the messages of a packet that begins above `next`. The store has room for them.
     #[inline(always)]
     fn keep(&mut self, first: u64, top: u64, blocks: &Blocks<'_>) -> Result<Taken, AllocError>
         requires above { self.old.next < first }
         requires top { first + length blocks.now ≡ top }
         requires end { past_end self.old.ended (Data blocks.now) top ≡ None }
         requires same { first_conflict self.old.store (from_next self.old.next first blocks.now) ≡ None }
+        requires room { exceeds self.old.room (stored_bytes self.old.store + length (packed blocks.now)) ≡ false }
         ensures taken { IfOk result
             (λ taken. HasTakenPacket self.old (data_packet self.old.session first blocks.now) self.new taken) }
         ensures handed { handed_on self.old first blocks.now ≡ [] }
@@ -170,6 +223,61 @@ impl Receiver {
             kept,
             beyond,
         })
+    }
+
+    // Drops the messages of a packet that begins above `next`. The store has no room for them.
+    #[cold]
+    #[inline(never)]
+    fn drop_messages(&mut self, first: u64, top: u64, blocks: &Blocks<'_>) -> Taken
+        requires above { self.old.next < first }
+        requires top { first + length blocks.now ≡ top }
+        requires few { length blocks.now < END_OF_SESSION }
+        requires end { past_end self.old.ended (Data blocks.now) top ≡ None }
+        requires room { exceeds self.old.room (stored_bytes self.old.store + length (packed blocks.now)) ≡ true }
+        ensures taken { HasTakenPacket self.old (data_packet self.old.session first blocks.now) self.new result }
+        ensures handed { handed_on self.old first blocks.now ≡ [] }
+    {
+        let beyond = self.slots.count_absent(first - self.next, blocks);
+        self.known = self.known.max(top);
+        Taken {
+            handed: 0,
+            kept: 0,
+            beyond,
+        }
+    }
+
+    // Stores the messages of a packet that begins above `next`, or drops them if the store has no room for them.
+    #[inline(always)]
+    fn keep_or_drop(
+        &mut self,
+        first: u64,
+        top: u64,
+        blocks: &Blocks<'_>,
+    ) -> Result<Taken, AllocError>
+        requires above { self.old.next < first }
+        requires top { first + length blocks.now ≡ top }
+        requires few { length blocks.now < END_OF_SESSION }
+        requires end { past_end self.old.ended (Data blocks.now) top ≡ None }
+        requires same { first_conflict self.old.store (from_next self.old.next first blocks.now) ≡ None }
+        ensures taken { IfOk result
+            (λ taken. HasTakenPacket self.old (data_packet self.old.session first blocks.now) self.new taken) }
+        ensures handed { handed_on self.old first blocks.now ≡ [] }
+        ensures needed { OnErr result
+            (TakesMemory self.old (data_packet self.old.session first blocks.now)) }
+        ensures unchanged { OnErr result (self.new ≡ self.old) }
+    {
+        if self.lacks_room(blocks) {
+            return Ok(self.drop_messages(first, top, blocks));
+        }
+        self.keep(first, top, blocks)
+    }
+
+    // Returns whether the store has no room for the messages of a packet.
+    #[inline(always)]
+    fn lacks_room(&self, blocks: &Blocks<'_>) -> bool
+        ensures { result ≡ exceeds self.now.room (stored_bytes self.now.store + length (packed blocks.now)) }
+    {
+        exceeds(self.room, self.slots.bytes(), blocks.bytes().len())
     }
 
     // Delivers from a packet that has the message `next`.
@@ -271,7 +379,7 @@ impl Receiver {
             return Ok(self.note(packet, top));
         }
         if self.next < packet.sequence {
-            return self.keep(packet.sequence, top, blocks);
+            return self.keep_or_drop(packet.sequence, top, blocks);
         }
         self.hand(packet.sequence, top, blocks, batch)
     }
@@ -370,7 +478,7 @@ impl Receiver {
     }
 
     /// Takes a datagram. New messages are appended to `batch`, or stored if they are above a gap. Above a gap,
-    /// messages past the window are dropped. Every refusal except `Memory` is found before anything is allocated.
+    /// messages past the window are dropped, and all messages of a datagram for which the store has no room. Every refusal except `Memory` is found before anything is allocated.
     /// After a refusal, the receiver and the batch are unchanged. The batch must be empty or end just before `next`.
     pub fn take(&mut self, bytes: &[u8], batch: &mut Batch) -> Result<Taken, Refusal>
         requires { Follows batch.old self.old.next }
@@ -450,7 +558,7 @@ impl Receiver {
         }
         if packet.sequence > self.next {
             return Ok(Heard {
-                taken: self.keep(packet.sequence, top, blocks)?,
+                taken: self.keep_or_drop(packet.sequence, top, blocks)?,
                 own: Messages::none(),
             });
         }
@@ -635,6 +743,15 @@ impl Receiver {
         ensures least { min (stored_bytes self.now.store) (2 ^ 64 - 1) ≤ result }
     {
         self.slots.memory()
+    }
+
+    /// Returns the bytes of the stored messages and of their length fields, 2 for each message. They are within the room
+    /// of the store.
+    pub fn stored_bytes(&self) -> usize
+        ensures bytes { result ≡ stored_bytes self.now.store }
+        ensures within { IsWithinRoom self.now.room (stored_bytes self.now.store) }
+    {
+        self.slots.bytes()
     }
 
     /// Returns the window, 1 to `MAX_WIDE_WINDOW`: the receiver stores messages with numbers below `next` plus the

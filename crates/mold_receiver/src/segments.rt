@@ -6,7 +6,7 @@ ghost use Rattle.mold_receiver.specs.Batch.{followed_by};
 ghost use Rattle.mold_receiver.specs.Places.{end_from, ends_from, messages_from};
 ghost use Rattle.slab.specs.Slab.{entries, slab_len, SameValues, Updates};
 ghost use Rattle.mold_receiver.specs.Segments.{AreLeft, AreSegments, HasAppended, HasGained, HasLost, IsMemory};
-ghost use Rattle.mold_receiver.specs.Segments.{IsMemoryFor, bytes_at, live_at, memory_of, room_at, size_at};
+ghost use Rattle.mold_receiver.specs.Segments.{IsMemoryFor, bytes_at, live_at, memory_of, room_at, size_at, used_of};
 ghost use Rattle.mold_receiver.specs.declared.place.TheConstants.{NO_START};
 ghost use Rattle.mold_receiver.specs.declared.segment.TheConstants.{SEGMENT_BYTES};
 ghost use Rattle.mold_receiver.specs.declared.segments.TheConstants.{MAX_SPARE};
@@ -81,7 +81,10 @@ impl Segments {
     }
 
     /// Returns the number of bytes in use of all segments.
-    pub(crate) fn used(&self) -> usize {
+    pub(crate) fn used(&self) -> usize
+        requires { AreSegments self.now }
+        ensures { result ≡ used_of self.now.table.slots }
+    {
         self.used
     }
 
@@ -205,9 +208,9 @@ impl Segments {
         let start = self.bytes(key).len();
         if let Some(segment) = self.table.get_mut(key as usize) {
             let old = segment.move_to(memory, bytes);
+            self.used = self.used.saturating_add(bytes.len());
             self.save(old);
         }
-        self.used = self.used.saturating_add(bytes.len());
         Place {
             segment: key,
             start: start as u32,

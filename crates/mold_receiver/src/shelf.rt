@@ -99,6 +99,16 @@ impl Shelf {
         self.segments.memory()
     }
 
+    /// Returns the bytes of all stored messages and of the length fields of their blocks.
+    #[inline(always)]
+    pub(crate) fn bytes(&self) -> usize
+        requires kept { IsKept self.now }
+        requires tight { IsTight self.now }
+        ensures { result ≡ slots_bytes (slots_on self.now) }
+    {
+        self.segments.used()
+    }
+
     /// Returns the message in a slot, or `None` if the slot is empty or doesn't exist.
     pub(crate) fn get(&self, slot: usize) -> Option<&[u8]>
         requires { IsKept self.now }
@@ -151,7 +161,9 @@ impl Shelf {
     }
 
     /// Returns the room that all stored messages need in a batch.
-    pub(crate) fn room(&self) -> Room {
+    pub(crate) fn room(&self) -> Room
+        requires { IsKept self.now }
+    {
         Room {
             messages: self.held as usize,
             bytes: self.segments.used(),

@@ -4,7 +4,7 @@ ghost use Rattle.std.specs.Prelude.{◌≡◌, ◌↔◌, IsTrue, ◌+◌, ◌*�
 ghost use Rattle.std.specs.Prelude.{◌-◌, min, IfNone, IfSome, OnOk, OnErr, None};
 ghost use Rattle.std.specs.Option.{option_copied};
 ghost use Rattle.mold_receiver.specs.Handing.{AreNumbered, HasDelivered, run_in};
-ghost use Rattle.mold_receiver.specs.Keeping.{filled, fresh};
+ghost use Rattle.mold_receiver.specs.Keeping.{count_absent, filled, fresh};
 ghost use Rattle.mold_receiver.specs.Run.{IsRunAt};
 ghost use Rattle.mold_receiver.specs.Slots.{slot_at, slots_bytes, count_held, AreEmpty, IsFirstEmpty, IsNextHeld};
 ghost use Rattle.mold_receiver.specs.declared.segment.TheConstants.{SEGMENT_BYTES};
@@ -13,7 +13,7 @@ ghost use Rattle.mold_wire.specs.declared.limits.TheConstants.{MAX_WIDE_WINDOW};
 ghost use Rattle.mold_wire.specs.declared.header.TheConstants.{END_OF_SESSION};
 
 use crate::batch::Batch;
-use crate::keep::keep_fresh;
+use crate::keep::{count_absent, keep_fresh};
 use crate::room::Room;
 use crate::run::Run;
 use crate::shelf::Shelf;
@@ -85,6 +85,23 @@ impl Slots {
         ensures least { min (slots_bytes self.now) (2 ^ 64 - 1) ≤ result }
     {
         self.shelf.memory()
+    }
+
+    /// Returns the bytes of all stored messages and of the length fields of their blocks.
+    #[inline(always)]
+    pub(crate) fn bytes(&self) -> usize
+        ensures { result ≡ slots_bytes self.now }
+    {
+        self.shelf.bytes()
+    }
+
+    /// Returns how many of the packet's messages have an empty slot, or none. `first` is the slot of the first message.
+    pub(crate) fn count_absent(&self, first: u64, blocks: &Blocks<'_>) -> u32
+        requires numbered { first + length blocks.now < 2 ^ 64 }
+        requires few { length blocks.now < END_OF_SESSION }
+        ensures { result ≡ count_absent self.now first blocks.now }
+    {
+        count_absent(&self.shelf, first, blocks)
     }
 
     /// Returns the message in a slot, or `None` if the slot is empty or doesn't exist.

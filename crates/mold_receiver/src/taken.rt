@@ -8,8 +8,8 @@ pub struct Taken {
     pub handed: u32,
     /// The number of messages of this datagram that were added to the store.
     pub kept: u32,
-    /// The number of messages of this datagram that are past the window. The receiver drops them, so they have to be
-    /// received again.
+    /// The number of messages of this datagram that the receiver dropped, so that they have to be received again: those
+    /// past the window, or all those that it does not have if the store has no room for the datagram.
     pub beyond: u32,
 }
 

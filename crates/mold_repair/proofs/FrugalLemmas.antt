@@ -17,11 +17,11 @@ use Rattle.mold_receiver.specs.Arbiter.{Arbitration, HasArbitrated, arbitrated}
 use Rattle.mold_receiver.specs.Batch.{Handed}
 use Rattle.mold_receiver.specs.Having.{HasMessage}
 use Rattle.mold_receiver.specs.Origin.{line_of}
-use Rattle.mold_receiver.specs.Receive.{Reception, view_after}
+use Rattle.mold_receiver.specs.Receive.{HasRoomFor, Reception, view_after}
 use Rattle.mold_receiver.specs.View.{View, IsWellFormed}
 use Rattle.mold_receiver.specs.declared.taken.Taken.{Taken}
 use Rattle.mold_repair.specs.Came.{came_below, came_steps, filled_steps, held_from, noted, range, response_steps}
-use Rattle.mold_repair.specs.Frugal.{IsFrugalRun}
+use Rattle.mold_repair.specs.Frugal.{HasRoom, HasRoomForStep, IsFrugalRun}
 use Rattle.mold_repair.specs.GivingUp.{IsKept, IsLost}
 use Rattle.mold_repair.specs.Laws.{ArePacerSteps, ArePollSteps}
 use Rattle.mold_repair.specs.Missing.{IsMissing}
@@ -51,7 +51,7 @@ use Rattle.mold_wire.specs.declared.packet.Packet.{Packet}
 pub record OnceLaws : Type 0 where
   pub receiver : ReceiverLaws
   pub came : (v : View) (p : Packet) (number : ℕ) → IsWellFormed v → p.sequence ≤ number → number < top_of p →
-      number < (view_after v p).next + v.window → HasMessage (view_after v p) number
+      number < (view_after v p).next + v.window → HasRoomFor v p → HasMessage (view_after v p) number
 
 -- The number comes in one of the steps.
 abbrev ComesIn : ℕ → List Step → Type 0
@@ -172,6 +172,21 @@ pub quiet_filled : (w : View) (request : Option Flight) → IsQuiet w (filled_st
 quiet_filled w None = quiet_nil w
 quiet_filled w (Some request) = quiet_held w request.first
 
+pub none_if : (b : Bool) (xs : List Step) → NonePolls xs → NonePolls (cond b xs [])
+none_if true xs none = none
+none_if false xs none = tt
+
+pub none_response : (origin : RepairOrigin) (g : Gap) → NonePolls (response_steps origin g)
+none_response (Line line) g = tt
+none_response (Server server) g = tt
+
+pub none_came : (w : View) (origin : RepairOrigin) (g : Gap) (request : Option Flight) →
+    NonePolls (came_steps origin g w request)
+none_came w origin g request =
+    none_if (nat_lt g.first g.end) (response_steps origin g ++ (Arrive (held_from w g.first) ∷ filled_steps w request))
+    (none_join (response_steps origin g) (Arrive (held_from w g.first) ∷ filled_steps w request) (none_response origin g)
+    (quiet_filled w request).none)
+
 pub quiet_response : (w : View) (origin : RepairOrigin) (g : Gap) → ((q : ℕ) → g.first ≤ q → q < g.end → HasMessage w q) →
     IsQuiet w (response_steps origin g)
 quiet_response w (Line line) g each = quiet_nil w
@@ -200,15 +215,15 @@ quiet_adapted w options origin g delays = quiet_if w _ _ (quiet_adapt w _)
 module _ (laws : OnceLaws) (options : RepairOptions) (time : ℕ) (origin : RepairOrigin) (bytes : List ℕ)
     (v : View) (well : IsWellFormed v) where
   quiet_taken : (r : Reception) (p : Packet) (delays : Delays) (old : Pacer) → reading bytes ≡ Ok p →
-      r.view ≡ view_after v p → IsQuiet r.view (taken_steps options time origin bytes v r.view delays old)
-  quiet_taken r p delays old read is =
+      r.view ≡ view_after v p → HasRoomFor v p → IsQuiet r.view (taken_steps options time origin bytes v r.view delays old)
+  quiet_taken r p delays old read is room =
       let w = view_after v p in
       let now = max old.state.now time in
       let fs = old.flights.items in
       let g = came_below (w.next + w.window) (reading bytes) in
       let each = subst (λ (x : Result Packet _). (q : ℕ) → (came_below (w.next + w.window) x).first ≤ q →
       q < (came_below (w.next + w.window) x).end → HasMessage w q) (sym read)
-      (λ q low high. laws.came v p q well low (omega (arith, high)) (omega (arith, high))) in
+      (λ q low high. laws.came v p q well low (omega (arith, high)) (omega (arith, high)) room) in
       subst (λ (x : View). IsQuiet x (taken_steps options time origin bytes v x delays old)) (sym is)
       (quiet_advance w time v.known _
       (quiet_join w _ (adapted_from options origin (head (reading bytes)) delays)
@@ -226,11 +241,12 @@ module _ (laws : OnceLaws) (old new : Repairer) (well : IsWellFormed old.arbiter
       (taken_steps old.options time origin bytes old.arbiter.view new.arbiter.view new.delays old.pacer)))
       → (passed : OnErr r (HasPassed time old.arbiter.view old.pacer new.pacer))
       → IfOk r (λ t. HasArbitrated (line_of (receiver_origin origin)) old.arbiter bytes nothing new.arbiter handed t)
+      → ((p : Packet) → reading bytes ≡ Ok p → HasRoomFor old.arbiter.view p)
       → IsOnce old.arbiter.view new.arbiter.view (paced_taken old new step o time
       (taken_steps old.options time origin bytes old.arbiter.view new.arbiter.view new.delays old.pacer) r none are idle
       learned passed).steps
   unfolding paced_taken paced_none
-  once_taken step o time origin bytes handed (Ok t) none are idle learned passed has =
+  once_taken step o time origin bytes handed (Ok t) none are idle learned passed has room =
       let v = old.arbiter.view in
       let line = line_of (receiver_origin origin) in
       let view = ap (λ (a : Arbitration). a.view) (has.arbitration ∙ ap (arbitrated line bytes old.arbiter) has.received)
@@ -239,8 +255,8 @@ module _ (laws : OnceLaws) (old new : Repairer) (well : IsWellFormed old.arbiter
       quiet_once v new.arbiter.view _
       (subst (λ (w : View). IsQuiet w (taken_steps old.options time origin bytes v w new.delays old.pacer)) (sym view)
       (quiet_taken laws old.options time origin bytes v well has.reception packet.packet new.delays old.pacer packet.read
-      (ap (λ (x : Reception). x.view) packet.taken)))
-  once_taken step o time origin bytes handed (Err e) none are idle learned passed has =
+      (ap (λ (x : Reception). x.view) packet.taken) (room packet.packet packet.read)))
+  once_taken step o time origin bytes handed (Err e) none are idle learned passed has room =
       quiet_once old.arbiter.view new.arbiter.view _
       (quiet_advance new.arbiter.view time old.arbiter.view.known [] (quiet_nil new.arbiter.view))
 
@@ -258,7 +274,7 @@ module _ (laws : OnceLaws) (old new : Repairer) (well : IsWellFormed old.arbiter
       (quiet_advance new.arbiter.view time old.arbiter.view.known (Arrive (range 0 new.arbiter.view.next) ∷ [])
       (quiet_arrive new.arbiter.view (range 0 new.arbiter.view.next) (λ q low high. inl high)))
 
-missing_lacks : (v : View) (q : ℕ) → HasMessage v q → IsMissing v q → ⊥
+pub missing_lacks : (v : View) (q : ℕ) → HasMessage v q → IsMissing v q → ⊥
 missing_lacks v q has missing =
     elim has [
       | inl below ↦ omega (arith, below, missing.after)
@@ -297,24 +313,24 @@ once_polled v w time known old new sent polls = record {
 }
 
 once_step : (laws : OnceLaws) (old new : Repairer) (step : RepairStep) (o : Outcome) (handed : Handed)
-    (did : HasStepped old new step handed o) → IsWellFormed old.arbiter.view
+    (did : HasStepped old new step handed o) → IsWellFormed old.arbiter.view → HasRoomForStep old.arbiter.view step
     → IsOnce old.arbiter.view new.arbiter.view (has_paced old new step o handed did).steps
 unfolding has_paced paced_none paced_poll paced_lost paced_taken
-once_step laws old new (Take time origin datagram) o handed did well =
+once_step laws old new (Take time origin datagram) o handed did well room =
     let t = did.0 in
     once_taken laws old new well (Take time origin datagram) o time origin datagram.now handed t.result _ _ _ t.learned
-    t.passed t.taken
-once_step laws old new (Poll time) o handed did well =
+    t.passed t.taken room
+once_step laws old new (Poll time) o handed did well room =
     let v = old.arbiter.view in
     let polled = did.polled in
     let of = polls_of old.options v old.pacer new.pacer time o.ask polled in
     once_polled v new.arbiter.view time v.known polled.between new.pacer of.sent of.polls
-once_step laws old new (Lost time) o handed (inl did) well =
+once_step laws old new (Lost time) o handed (inl did) well room =
     once_lost laws old new well time o handed did.gave.between o.lost _ did.gave.time did.gave.gave
-once_step laws old new (Lost time) o handed (inr did) well =
+once_step laws old new (Lost time) o handed (inr did) well room =
     quiet_once old.arbiter.view new.arbiter.view _
     (quiet_advance new.arbiter.view time old.arbiter.view.known [] (quiet_nil new.arbiter.view))
-once_step laws old new (Pass time) o handed did well =
+once_step laws old new (Pass time) o handed did well room =
     quiet_once old.arbiter.view new.arbiter.view _
     (quiet_advance new.arbiter.view time old.arbiter.view.known [] (quiet_nil new.arbiter.view))
 
@@ -340,20 +356,20 @@ record IsOnceRun (v : View) (xs : List Step) : Type 0 where
   once : AreMissingOnce xs
 
 once_run : (laws : OnceLaws) (old new : Repairer) (steps : List RepairStep) (os : List Outcome)
-    (ran : IsRepaired old new steps os) → IsWellFormed old.arbiter.view
+    (ran : IsRepaired old new steps os) → IsWellFormed old.arbiter.view → HasRoom old new steps os ran
     → IsOnceRun old.arbiter.view (paced laws.receiver.taken old new steps os ran).pacer_steps
 unfolding paced
-once_run laws old new [] [] ran well = record { fresh = λ q had. tt; once = tt }
-once_run laws old new [] (o ∷ os) ran well = absurd ran
-once_run laws old new (step ∷ steps) [] ran well = absurd ran
-once_run laws old new (step ∷ steps) (o ∷ os) ran well =
+once_run laws old new [] [] ran well room = record { fresh = λ q had. tt; once = tt }
+once_run laws old new [] (o ∷ os) ran well room = absurd ran
+once_run laws old new (step ∷ steps) [] ran well room = absurd ran
+once_run laws old new (step ∷ steps) (o ∷ os) ran well room =
     let next = ran.0 in
     let is = ran.1 in
     let xs = (has_paced old next step o is.handed is.stepped).steps in
     let ys = (paced laws.receiver.taken next new steps os ran.2).pacer_steps in
     let on = goes_on laws.receiver old next step o is.handed is.stepped well in
-    let one = once_step laws old next step o is.handed is.stepped well in
-    let rest = once_run laws next new steps os ran.2 on.well_formed in
+    let one = once_step laws old next step o is.handed is.stepped well room.0 in
+    let rest = once_run laws next new steps os ran.2 on.well_formed room.1 in
     record {
       fresh = λ q had. never_join q xs ys (one.fresh q had) (rest.fresh q (on.has q had));
       once = once_join xs ys one.once (λ q comes. rest.fresh q (one.came q comes)) rest.once;
@@ -364,11 +380,11 @@ FrugalLaw = (old new : Pacer) (steps : List Step) (asks : List (Option Sent)) (r
     old.flights.items ≡ [] → AreMissingOnce steps → IsFrugal old new steps asks ran
 
 pub is_frugal : OnceLaws → FrugalLaw → (old new : Repairer) (steps : List RepairStep) (os : List Outcome) →
-    IsRepaired old new steps os → IsWellFormed old.arbiter.view → old.pacer.flights.items ≡ []
-    → IsFrugalRun old new steps os
-is_frugal laws law old new steps os ran well empty =
+    (ran : IsRepaired old new steps os) → IsWellFormed old.arbiter.view → old.pacer.flights.items ≡ []
+    → HasRoom old new steps os ran → IsFrugalRun old new steps os
+is_frugal laws law old new steps os ran well empty room =
     let by = paced laws.receiver.taken old new steps os ran in
-    let once = (once_run laws old new steps os ran well).once in
+    let once = (once_run laws old new steps os ran well room).once in
     record {
       pacer_steps = by.pacer_steps;
       sent = by.sent;
@@ -378,3 +394,22 @@ is_frugal laws law old new steps os ran well empty =
       once = once;
       frugal = law old.pacer new.pacer by.pacer_steps by.sent by.ran empty once;
     }
+
+step_room : (v : View) (step : RepairStep) → ((v : View) (p : Packet) → v.room ≡ None → HasRoomFor v p) → v.room ≡ None →
+    HasRoomForStep v step
+step_room v (Take time origin datagram) law none packet read = law v packet none
+step_room v (Poll time) law none = tt
+step_room v (Lost time) law none = tt
+step_room v (Pass time) law none = tt
+
+-- A store without a limit has room in each run.
+pub run_room : ReceiverLaws → ((v : View) (p : Packet) → v.room ≡ None → HasRoomFor v p) → (old new : Repairer)
+    (steps : List RepairStep) (os : List Outcome) (ran : IsRepaired old new steps os) → IsWellFormed old.arbiter.view →
+    old.arbiter.view.room ≡ None → HasRoom old new steps os ran
+run_room laws law old new [] [] ran well none = tt
+run_room laws law old new [] (o ∷ os) ran well none = ran
+run_room laws law old new (step ∷ steps) [] ran well none = ran
+run_room laws law old new (step ∷ steps) (o ∷ os) ran well none =
+    let is = ran.1 in
+    let on = goes_on laws old ran.0 step o is.handed is.stepped well in
+    (step_room old.arbiter.view step law none, run_room laws law ran.0 new steps os ran.2 on.well_formed (on.room ∙ none))

@@ -4,7 +4,7 @@ use Rattle.std.proofs.Common.{List, [], ◌∷◌, ◌++◌, get_or, leb, IfErr,
 use Rattle.std.proofs.Common.{Option, None, Some, Result, Ok, Err, refl, ap, ◌∙◌, sym, subst, arith, inl, inr}
 use Rattle.std.specs.Prelude.{find, is_some, slice_get}
 use Rattle.std.specs.FinMap as finite
-use Rattle.std.proofs.lemmas.Bool.{true≢false, cases_lt, cond-false, cond-true, le-leb, lt-leb}
+use Rattle.std.proofs.lemmas.Bool.{true≢false, cases_Bool, cases_lt, cond-false, cond-true, le-leb, lt-leb}
 use Rattle.std.proofs.lemmas.Bool.Decides.{nat_tests}
 use Rattle.std.proofs.lemmas.Option.{slice_get-get_or, slice_get_within}
 use Rattle.mold_pacing.specs.Flight.{covers}
@@ -26,7 +26,7 @@ use Rattle.mold_receiver.specs.Arbiter.{Arbitration, HasArbitrated, HasRefused, 
 use Rattle.mold_receiver.specs.Batch.{Handed}
 use Rattle.mold_receiver.specs.Having.{HasMessage}
 use Rattle.mold_receiver.specs.Origin.{line_of}
-use Rattle.mold_receiver.specs.Receive.{Reception, handed_on, view_after}
+use Rattle.mold_receiver.specs.Receive.{HasRoomFor, Reception, ended_after, handed_on, is_dropped, view_after}
 use Rattle.mold_receiver.specs.Skip.{skipped}
 use Rattle.mold_receiver.specs.Store.{Message}
 use Rattle.mold_receiver.specs.View.{View, IsWellFormed}
@@ -48,8 +48,8 @@ use Rattle.mold_repair.specs.declared.outcome.Outcome.{Outcome}
 use Rattle.mold_repair.specs.declared.repairer.Repairer.{Repairer}
 use Rattle.mold_repair.specs.declared.step.RepairStep.{RepairStep}
 use Rattle.mold_repair.specs.declared.step.RepairStep.TheVariants.{Lost, Pass, Poll, Take}
-use Rattle.mold_repair.proofs.FrugalLemmas.{OnceLaws, none_join, quiet_adapted, quiet_came}
-use Rattle.mold_repair.proofs.FrugalLemmas.{quiet_filled, quiet_if, quiet_response}
+use Rattle.mold_repair.proofs.FrugalLemmas.{OnceLaws, missing_lacks, none_came, none_if, none_join, none_response, quiet_adapted}
+use Rattle.mold_repair.proofs.FrugalLemmas.{quiet_filled}
 use Rattle.mold_repair.proofs.HeldLemmas.{held_to, next_stored}
 use Rattle.mold_repair.proofs.LawLemmas.{refused_view, taken_view}
 use Rattle.mold_repair.proofs.ProgressLemmas.{goes_on}
@@ -66,6 +66,8 @@ use Rattle.mold_wire.specs.declared.packet.Packet.{Packet}
 -- The laws of the receiver that are used.
 pub record NeededLaws : Type 0 where
   pub once : OnceLaws
+  pub dropped : (v : View) (p : Packet) → IsWellFormed v → is_dropped v p ≡ true →
+      view_after v p ≡ record v { known = max v.known (top_of p); ended = ended_after p.body p.sequence v.ended }
   pub handed : (v : View) (p : Packet) (i : ℕ) (m : Message) →
       slice_get (handed_on v p.sequence (messages_of p.body)) i ≡ Some m →
       (finite.get v.store (v.next + i) ≡ Some m) ⊎ Carries p (v.next + i) m
@@ -264,14 +266,23 @@ module _ (laws : NeededLaws) (options : RepairOptions) (time : ℕ) (origin : Re
       × (q < (came_below (w.next + w.window) r).end)) (sym read)
       (lies.0, omega (arith, lies.1, window, missing.below, well.last))
 
-  has_came : (n : ℕ) → came.first ≤ n → n < came.end → HasMessage w n
-  has_came n low high =
+  -- If a missing message came, the store has room for the packet.
+  has_room : (q : ℕ) → IsMissing v q → HasMessage w q → HasRoomFor v packet
+  has_room q missing has =
+      elim (cases_Bool (is_dropped v packet)) [
+        | inr kept ↦ kept
+        | inl dropped ↦ absurd
+            (missing_lacks v q (subst (λ (x : View). HasMessage x q) (is ∙ laws.dropped v packet well dropped) has) missing)
+      ]
+
+  has_came : HasRoomFor v packet → (n : ℕ) → came.first ≤ n → n < came.end → HasMessage w n
+  has_came room n low high =
       let lies = subst (λ (r : Result Packet DecodeError). ((came_below (w.next + w.window) r).first ≤ n)
       × (n < (came_below (w.next + w.window) r).end)) read (low, high) in
       let next = ap (λ (x : View). x.next) is in
       let window = ap (λ (x : View). x.window) is in
       subst (λ (x : View). HasMessage x n) (sym is)
-      (laws.once.came v packet n well lies.0 (omega (arith, lies.1)) (omega (arith, lies.1, next, window)))
+      (laws.once.came v packet n well lies.0 (omega (arith, lies.1)) (omega (arith, lies.1, next, window)) room)
 
   -- The run in its parts.
   record IsInParts : Type 0 where
@@ -320,7 +331,7 @@ module _ (laws : NeededLaws) (options : RepairOptions) (time : ℕ) (origin : Re
       let arrives = run_shrinks (Arrive (held_from w came.first) ∷ []) parts.respond parts.arrive tt
       (parts.arrive, parts.arrives, refl) in
       let responds = run_shrinks (response_steps origin came) parts.at parts.respond
-      (quiet_response w origin came has_came).none parts.responds in
+      (none_response origin came) parts.responds in
       let since = shrinks_twice parts.at parts.respond new responds
       (shrinks_twice parts.respond parts.arrive new arrives after) in
       let third = after.old f there in
@@ -328,7 +339,8 @@ module _ (laws : NeededLaws) (options : RepairOptions) (time : ℕ) (origin : Re
         | inr from ↦
             let ends = held_to w came.first f.end whole (omega (arith, lies.0, need.high)) high (λ n low above.
             elim (cases_lt n f.first) [
-              | inl before ↦ has_came n low (omega (arith, before, need.low, lies.1))
+              | inl before ↦ has_came (has_room q need.missing (filled q need.low need.high)) n low
+                  (omega (arith, before, need.low, lies.1))
               | inr within ↦ filled n within above
             ]) in
             arrive_frees (held_from w came.first) parts.respond parts.arrive parts.arrives third.before third.there
@@ -371,8 +383,7 @@ module _ (laws : NeededLaws) (options : RepairOptions) (time : ℕ) (origin : Re
   tidy_taken : IsTidy w new
   tidy_taken =
       let none = none_join (cond (nat_lt v.next v.known) (noted origin bytes w now old.flights.items) []) adapted
-      (quiet_if w (nat_lt v.next v.known) (noted origin bytes w now old.flights.items)
-      (quiet_came w origin came request has_came)).none
+      (none_if (nat_lt v.next v.known) (noted origin bytes w now old.flights.items) (none_came w origin came request))
       (quiet_adapted w options origin (head (reading bytes)) delays).none in
       tidy_after v w old new known_grows
       (run_shrinks (taken_steps options time origin bytes v w delays old) old new none ran) tidy never_filled

@@ -1,7 +1,7 @@
 -- What a receiver has, it has after each step.
 use Rattle.std.proofs.Common.{◌≡◌, ℕ, ◌≤◌, List}
 use Rattle.std.proofs.Common.{IfErr, IfOk, MatchOption, Option, None, Some, Result, Ok, Err}
-use Rattle.std.proofs.Common.{ap, ◌∙◌, sym, subst, arith, inl, inr}
+use Rattle.std.proofs.Common.{ap, ◌∙◌, refl, sym, subst, arith, inl, inr}
 use Rattle.mold_pacing.specs.declared.gap.Gap.{Gap}
 use Rattle.mold_pacing.specs.declared.pacer.Pacer.{Pacer}
 use Rattle.mold_receiver.specs.Arbiter.{Arbitration, HasArbitrated, HasRefused, arbitrated}
@@ -37,10 +37,11 @@ pub record Continues (v w : View) : Type 0 where
   pub well_formed : IsWellFormed w
   pub ahead : v.next ≤ w.next
   pub has : HasAllOf v w
+  pub room : w.room ≡ v.room
 
 same_view : (v w : View) → IsWellFormed v → w ≡ v → Continues v w
 same_view v w well same =
-    subst (Continues v) (sym same) (record { well_formed = well; ahead = omega arith; has = λ number has. has })
+    subst (Continues v) (sym same) (record { well_formed = well; ahead = omega arith; has = λ number has. has; room = refl })
 
 taken_on : ReceiverLaws → (v : View) (bytes : List ℕ) (r : Reception) → IsWellFormed v → receive v bytes ≡ Ok r →
     Continues v r.view
@@ -52,6 +53,7 @@ taken_on laws v bytes r well is =
       well_formed = laws.received v bytes r well is;
       ahead = omega (arith, next);
       has = subst (HasAllOf v) (sym same) (laws.keeps v packet.packet well);
+      room = ap (λ (w : View). w.room) same;
     }
 
 result_on : ReceiverLaws → (old new : Arbitration) (line : Option TheLine) (bytes : List ℕ) (handed : Handed)
@@ -82,6 +84,7 @@ lost_on laws old new handed give_up p q (Some gap) gave well =
       well_formed = laws.gave_up v gap.end well low high;
       ahead = omega (arith, low);
       has = laws.keeps_skipped v gap.end well low high;
+      room = refl;
     })
 
 pub goes_on : ReceiverLaws → (old new : Repairer) (step : RepairStep) (o : Outcome) (handed : Handed) →

@@ -1,7 +1,7 @@
 //! Theorems about all runs of a repairer. Each law is a function with an empty body whose contract is the theorem.
 //! `run::run` returns such a run.
 
-ghost use Rattle.std.specs.Prelude.{◌≡◌, ◌+◌, ◌-◌, ◌*◌, ◌<◌, ◌≤◌, ◌^◌, ℕ, [], List, Option, IfSome, Some, false, length};
+ghost use Rattle.std.specs.Prelude.{◌≡◌, ◌+◌, ◌-◌, ◌*◌, ◌<◌, ◌≤◌, ◌^◌, ℕ, [], List, Option, IfSome, None, Some, false, length};
 ghost use Rattle.std.specs.Prelude.{◌∷◌, ◌⊎◌, Bool, max};
 ghost use Rattle.std.specs.Io.Iter.{u64_saturate};
 ghost use Rattle.mold_pacing.specs.Attempts.{count_asks_for};
@@ -14,7 +14,7 @@ ghost use Rattle.mold_receiver.specs.Store.{Message};
 ghost use Rattle.mold_receiver.specs.View.{IsWellFormed, View};
 ghost use Rattle.mold_receiver.specs.Wanted.{missing};
 ghost use Rattle.mold_repair.specs.CatchUp.{RanOutOfMemory, TakesFirst, count_deliveries, missing_below};
-ghost use Rattle.mold_repair.specs.Frugal.{IsFrugalRun};
+ghost use Rattle.mold_repair.specs.Frugal.{HasRoom, IsFrugalRun};
 ghost use Rattle.mold_repair.specs.GivingUp.{is_due};
 ghost use Rattle.mold_repair.specs.Laws.{AreInOrder, HasNumbers, IsPaced, RequestsFirst, all_lost, count_numbers};
 ghost use Rattle.mold_repair.specs.Laws.{requests_of};
@@ -32,8 +32,8 @@ ghost use Rattle.mold_repair.specs.declared.step.RepairStep.{RepairStep};
 
 use mold_pacing::laws::{apart_law, attempts_law, frugal_law as pacer_frugal_law, limit_law};
 use mold_receiver::laws::{
-    having_law, honest_skip_law, honest_take_law, missing_law, nothing_new_law, taken_law,
-    through_law, well_formed_law,
+    having_law, honest_skip_law, honest_take_law, missing_law, nothing_new_law, room_law,
+    taken_law, through_law, well_formed_law,
 };
 use mold_wire::laws::reading_law;
 
@@ -126,16 +126,21 @@ pub fn pacing_law()
     taken_law();
 }
 
-/// In a run that begins without requests, few requests are wasted. Those that neither ran out nor are in flight at the
+/// In a run that begins without requests, few requests are wasted, if the store has room for each packet: a store without
+/// a limit has. Those that neither ran out nor are in flight at the
 /// end are at most as many as the distinct numbers that arrived while a request for them was in flight. A request runs
 /// out when its timeout passes, or the settle time after a response.
 pub fn frugal_law()
-    ensures { (old new : Repairer) (steps : List RepairStep) (outcomes : List Outcome) →
-        IsRepaired old new steps outcomes → IsWellFormed old.arbiter.view → old.pacer.flights.items ≡ [] →
-        IsFrugalRun old new steps outcomes }
+    ensures frugal { (old new : Repairer) (steps : List RepairStep) (outcomes : List Outcome)
+        (ran : IsRepaired old new steps outcomes) → IsWellFormed old.arbiter.view → old.pacer.flights.items ≡ [] →
+        HasRoom old new steps outcomes ran → IsFrugalRun old new steps outcomes }
+    ensures room { (old new : Repairer) (steps : List RepairStep) (outcomes : List Outcome)
+        (ran : IsRepaired old new steps outcomes) → IsWellFormed old.arbiter.view → old.arbiter.view.room ≡ None →
+        HasRoom old new steps outcomes ran }
 {
     pacer_frugal_law();
     having_law();
+    room_law();
     taken_law();
     well_formed_law();
 }
@@ -149,6 +154,7 @@ pub fn needed_law()
 {
     having_law();
     nothing_new_law();
+    room_law();
     taken_law();
     well_formed_law();
 }

@@ -68,6 +68,7 @@ took_none v end well gap = record {
   known = refl;
   ended = refl;
   window = refl;
+  room = refl;
   had = λ number from below. absurd (omega (arith, from, below));
   none = λ number below. gap.lacked number (omega (arith, gap.after, below));
   same = λ number from. refl;

@@ -115,6 +115,7 @@ stands_whole old before journal server count now at served is well done =
       ended = is.ahead.ended i;
       store = empty i;
       window = is.ahead.window i;
+      room = is.ahead.room i;
     }
 
 -- The rounds that were done are those that were needed.

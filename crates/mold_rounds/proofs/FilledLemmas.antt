@@ -101,6 +101,7 @@ ahead_none v = record {
   known = refl;
   ended = refl;
   window = refl;
+  room = refl;
   same = λ number from. refl;
 }
 
@@ -111,6 +112,7 @@ ahead_more u v w one other = record {
   known = other.known ∙ one.known;
   ended = other.ended ∙ one.ended;
   window = other.window ∙ one.window;
+  room = other.room ∙ one.room;
   same = λ number from. other.same number from ∙ one.same number (omega (arith, other.next, from));
 }
 
@@ -121,6 +123,7 @@ ahead_of v count w took = record {
   known = took.known;
   ended = took.ended;
   window = took.window;
+  room = took.room;
   same = took.same;
 }
 
@@ -134,6 +137,7 @@ took_twice v one w other x first second at = record {
   known = second.known ∙ first.known;
   ended = second.ended ∙ first.ended;
   window = second.window ∙ first.window;
+  room = second.room ∙ first.room;
   had = λ number from below.
       ap is_some (sym (first.same number (omega (arith, at, from))))
       ∙ second.had number (omega (arith, at, from)) below;

@@ -22,4 +22,5 @@ received window stored = record {
   ended = None;
   store = finite.from_sorted stored;
   window = window;
+  room = None;
 }

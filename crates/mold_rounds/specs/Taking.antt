@@ -68,6 +68,7 @@ pub record IsAhead (old new : View) : Type 0 where
   pub known : new.known ≡ old.known
   pub ended : new.ended ≡ old.ended
   pub window : new.window ≡ old.window
+  pub room : new.room ≡ old.room
   pub same : (number : ℕ) → new.next ≤ number → finite.get new.store number ≡ finite.get old.store number
 
 -- A whole round was done. It is one of the rounds that the receiver needs, and at least one missing message was

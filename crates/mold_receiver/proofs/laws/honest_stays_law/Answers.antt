@@ -1,3 +1,4 @@
+use Rattle.std.proofs.Common.{None}
 use Rattle.mold_receiver.proofs.HonestLemmas.{honest_published, honest_closed, honest_fresh}
 use Rattle.mold_receiver.proofs.laws.honest_stays_law.Goals as goal
 
@@ -9,4 +10,7 @@ returns-clause-closed c v published honest = honest_closed v published honest
 
 pub returns-clause-fresh : goal.returns-clause-fresh
 returns-clause-fresh c session next window published closed first ahead few =
-    honest_fresh session next window published closed first ahead few
+    honest_fresh None session next window published closed tt first ahead few
+
+pub returns-clause-within : goal.returns-clause-within
+returns-clause-within c = honest_fresh

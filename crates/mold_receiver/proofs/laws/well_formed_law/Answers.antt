@@ -1,5 +1,5 @@
 use Rattle.mold_receiver.proofs.HonestSkipLemmas.{skips_well}
-use Rattle.mold_receiver.proofs.LawLemmas.{receives_well}
+use Rattle.mold_receiver.proofs.WellLemmas.{receives_well}
 use Rattle.mold_receiver.proofs.laws.well_formed_law.Goals as goal
 
 pub returns-clause-received : goal.returns-clause-received

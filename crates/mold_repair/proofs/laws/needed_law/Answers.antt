@@ -14,6 +14,7 @@ returns c old new steps os ran well none =
         };
         came = c.having_law.ensures.came;
       };
+      dropped = c.room_law.ensures.dropped;
       handed = c.nothing_new_law.ensures.handed;
       stored = c.nothing_new_law.ensures.stored;
       skips = c.nothing_new_law.ensures.skipped;

@@ -10,7 +10,7 @@ use Rattle.mold_receiver.proofs.receiver.Receiver.check.Goals as goal
 pub returns-then-self-packet-clause-taken : goal.returns-then-self-packet-clause-taken
 returns-then-self-packet-clause-taken c =
     let f = c.self.inside in
-    let v = view_over f.session f.next f.known f.ended f.slots in
+    let v = view_over f.room f.session f.next f.known f.ended f.slots in
     let p = c.args.packet.now in
     subst (λ (w : View). refusal w p ≡ None) c.self.view_is
     (ap (λ (o : Option ℕ). refusal_of (Some f.session.0) f.known f.ended o p)

@@ -10,7 +10,7 @@ overflow_add-result c =
     let low = subst (λ (w : View). w.next ≤ c.args.from) (sym c.self.view_is) c.requires in
     omega (
       arith,
-      absent_low a.session a.next a.known a.ended a.slots c.args.from c.first_empty-first.result c.self.invariant low
+      absent_low a.room a.session a.next a.known a.ended a.slots c.args.from c.first_empty-first.result c.self.invariant low
           c.first_empty-first.ensures,
       c.self.invariant.last,
     )
@@ -20,5 +20,5 @@ returns c =
     let a = c.self.inside in
     let low = subst (λ (w : View). w.next ≤ c.args.from) (sym c.self.view_is) c.requires in
     subst (λ (w : View). IsFirstAbsent w c.args.from (a.next + c.first_empty-first.result)) c.self.view_is
-    (first_absent_is a.session a.next a.known a.ended a.slots c.args.from c.first_empty-first.result low
+    (first_absent_is a.room a.session a.next a.known a.ended a.slots c.args.from c.first_empty-first.result low
     c.first_empty-first.ensures)

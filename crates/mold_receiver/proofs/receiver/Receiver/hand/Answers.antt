@@ -9,14 +9,15 @@ use Rattle.mold_receiver.proofs.RunLemmas.{ends_within, run_ends}
 use Rattle.mold_receiver.specs.Receive.{TakesMemory, data_packet, handed_on, view_after, taken_of}
 use Rattle.mold_rule.specs.Refusals.{past_end}
 use Rattle.mold_receiver.specs.View.{View, IsWellFormed, view_over}
-use Rattle.mold_receiver.proofs.ViewLemmas.{stays_well, slot_numbers}
+use Rattle.mold_receiver.proofs.ViewLemmas.{slot_numbers}
+use Rattle.mold_receiver.proofs.WellLemmas.{stays_well}
 use Rattle.mold_receiver.proofs.NextLemmas.{handed_view, at_run, at_taken, run_few, some_handed}
 use Rattle.mold_receiver.proofs.receiver.Receiver.hand.Goals as goal
 
 pub hand_on-requires-clause-numbered : goal.hand_on-requires-clause-numbered
 hand_on-requires-clause-numbered c =
     let a = c.self.inside in
-    slot_numbers a.session a.next a.known a.ended a.slots c.self.invariant
+    slot_numbers a.room a.session a.next a.known a.ended a.slots c.self.invariant
 
 pub hand_on-requires-clause-packet : goal.hand_on-requires-clause-packet
 hand_on-requires-clause-packet c =
@@ -52,10 +53,10 @@ invariant_of-self c =
     let end = subst (λ (v : View). past_end v.ended (Data blocks) (c.args.first + length blocks) ≡ None)
     (sym c.self.view_is) (ap (past_end c.args.self.now.ended (Data blocks)) c.requires.packet.ends ∙ c.requires.end) in
     subst IsWellFormed
-    (sym (handed_view a.session a.next a.known a.ended a.slots c.args.first c.args.top blocks c.in_ok-next.next
+    (sym (handed_view a.room a.session a.next a.known a.ended a.slots c.args.first c.args.top blocks c.in_ok-next.next
     c.min-count.result c.max-self-inside.result c.skip.new.self
     c.self.invariant begun ahead c.requires.packet.ends new counted c.max-self-inside.ensures c.skip.ensures))
-    (stays_well (view_over a.session a.next a.known a.ended a.slots)
+    (stays_well (view_over a.room a.session a.next a.known a.ended a.slots)
     (data_packet a.session c.args.first blocks) c.self.invariant
     (omega (arith, c.requires.packet.ends, c.ranges.top.fits)) refl end)
 
@@ -67,7 +68,7 @@ returns-clause-handed c =
     let ahead = subst (λ (v : View). v.next < c.args.top) (sym c.self.view_is) c.requires.packet.ahead in
     let new : c.in_ok-next.next ≡ a.next + length (run_of a.slots a.next c.args.first c.args.top blocks) =
     (rw c.in_ok-next.was at c.hand_on.ensures.handed).after in
-    let run = at_run a.session a.next a.known a.ended a.slots c.args.first c.args.top blocks c.self.invariant begun
+    let run = at_run a.room a.session a.next a.known a.ended a.slots c.args.first c.args.top blocks c.self.invariant begun
     ahead c.requires.packet.ends in
     let pushed : c.hand_on.new.batch ≡ followed_by c.args.batch.now a.next
     (run_of a.slots a.next c.args.first c.args.top blocks) = (rw c.in_ok-next.was at c.hand_on.ensures.handed).batch in
@@ -86,15 +87,15 @@ returns-clause-taken c =
     let counted : c.min-count.result ≡ min (c.in_ok-next.next - a.next) (length a.slots) = c.min-count.ensures
     ∙ ap (min (c.in_ok-next.next - a.next)) c.len.ensures.length in (
       subst (λ (v : View).
-          view_over a.session c.in_ok-next.next c.max-self-inside.result a.ended c.skip.new.self ≡ view_after v
+          view_over a.room a.session c.in_ok-next.next c.max-self-inside.result a.ended c.skip.new.self ≡ view_after v
           (data_packet v.session c.args.first blocks)) c.self.view_is
-          (handed_view a.session a.next a.known a.ended a.slots c.args.first c.args.top blocks c.in_ok-next.next
+          (handed_view a.room a.session a.next a.known a.ended a.slots c.args.first c.args.top blocks c.in_ok-next.next
           c.min-count.result c.max-self-inside.result c.skip.new.self
           c.self.invariant begun ahead c.requires.packet.ends new counted c.max-self-inside.ensures c.skip.ensures),
       subst (λ (v : View). ◌≡◌ {A = Taken} (record { handed = c.in_ok-next.next - a.next; kept = 0; beyond = 0 })
           (taken_of v (data_packet v.session c.args.first blocks)
           (view_after v (data_packet v.session c.args.first blocks)))) c.self.view_is
-          (sym (at_taken a.session a.next a.known a.ended a.slots c.args.first c.args.top blocks c.in_ok-next.next
+          (sym (at_taken a.room a.session a.next a.known a.ended a.slots c.args.first c.args.top blocks c.in_ok-next.next
           c.min-count.result c.self.invariant begun ahead c.requires.packet.ends new counted)),
     )
 
@@ -112,7 +113,7 @@ returns-in_err-next-clause-needed c =
     (subst (λ (v : View). TakesMemory v (data_packet v.session c.args.first blocks)) c.self.view_is
     (omega (
       arith,
-      some_handed a.session a.next a.known a.ended a.slots c.args.first c.args.top blocks c.self.invariant begun ahead
+      some_handed a.room a.session a.next a.known a.ended a.slots c.args.first c.args.top blocks c.self.invariant begun ahead
           c.requires.packet.ends,
     )))
 

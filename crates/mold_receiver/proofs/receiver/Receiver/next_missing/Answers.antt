@@ -12,7 +12,7 @@ returns-then-first-end-clause-none c =
     let start : c.saturating_sub-start.result ≡ from - a.next = omega (arith, c.saturating_sub-start.ensures) in
     let first = subst (λ (n : ℕ). IsFirstEmpty a.slots n c.first_empty-first.result) start c.first_empty-first.ensures in
     subst (λ (w : View). HasNoGap w (max c.args.from w.next)) c.self.view_is
-    (no_gap a.session a.next a.known a.ended a.slots from c.first_empty-first.result (omega arith) first
+    (no_gap a.room a.session a.next a.known a.ended a.slots from c.first_empty-first.result (omega arith) first
     (omega (arith, c.if-first-end.true)))
 
 pub returns-clause-some : goal.returns-clause-some
@@ -25,5 +25,5 @@ returns-clause-some c =
       first = a.next + c.first_empty-first.result;
       end = a.next + c.next_held-after.result;
     })) c.self.view_is
-    (next_gap a.session a.next a.known a.ended a.slots from c.first_empty-first.result c.next_held-after.result
+    (next_gap a.room a.session a.next a.known a.ended a.slots from c.first_empty-first.result c.next_held-after.result
     c.self.invariant.ahead (omega arith) first (omega (arith, c.if-first-end.false)) c.next_held-after.ensures)

@@ -17,7 +17,7 @@ pub returns-clause-handed : goal.returns-clause-handed
 returns-clause-handed c =
     let a = c.self.inside in
     let p = c.args.packet.now in
-    let v = view_over a.session a.next a.known a.ended a.slots in
+    let v = view_over a.room a.session a.next a.known a.ended a.slots in
     let nothing = at_fields p.sequence c.args.top a.next (messages_of p.body) c.requires.top
     (subst (λ (v : View). (c.args.top ≤ v.next) ⊎ (messages_of p.body ≡ [])) (sym c.self.view_is) c.requires.nothing) in
     subst (λ (w : View). handed_on w p.sequence (messages_of p.body) ≡ []) c.self.view_is
@@ -27,18 +27,18 @@ pub returns-clause-taken : goal.returns-clause-taken
 returns-clause-taken c =
     let a = c.self.inside in
     let p = c.args.packet.now in
-    let v = view_over a.session a.next a.known a.ended a.slots in
+    let v = view_over a.room a.session a.next a.known a.ended a.slots in
     let nothing = at_fields p.sequence c.args.top a.next (messages_of p.body) c.requires.top
     (subst (λ (v : View). (c.args.top ≤ v.next) ⊎ (messages_of p.body ≡ [])) (sym c.self.view_is) c.requires.nothing) in (
       subst (λ (w : View).
-          view_over a.session a.next c.max-self-inside.result c.known_end-self-inside.result a.slots ≡ view_after w p)
+          view_over a.room a.session a.next c.max-self-inside.result c.known_end-self-inside.result a.slots ≡ view_after w p)
           c.self.view_is
-          ((λ i. view_over a.session a.next (c.max-self-inside.ensures i) (c.known_end-self-inside.ensures i) a.slots)
+          ((λ i. view_over a.room a.session a.next (c.max-self-inside.ensures i) (c.known_end-self-inside.ensures i) a.slots)
           ∙ sym (nothing_view v p c.args.top c.self.invariant c.requires.top
           (nothing_there a.next p.sequence (messages_of p.body) nothing))),
       subst (λ (w : View). ◌≡◌ {A = Taken} (record { handed = 0; kept = 0; beyond = 0 })
           (taken_of w p (view_after w p))) c.self.view_is
           (sym (nothing_taken v p c.args.top c.self.invariant c.requires.top
           (nothing_there a.next p.sequence (messages_of p.body) nothing)
-          (nothing_beyond a.next p.sequence v.window (messages_of p.body) nothing))),
+          (nothing_beyond a.next p.sequence v.store (messages_of p.body) nothing))),
     )

@@ -15,12 +15,12 @@ use Rattle.mold_receiver.proofs.receiver.Receiver.skip.Goals as goal
 pub hand_stored-requires-clause-numbered : goal.hand_stored-requires-clause-numbered
 hand_stored-requires-clause-numbered c =
     let a = c.self.inside in
-    slot_numbers a.session a.next a.known a.ended a.slots c.self.invariant
+    slot_numbers a.room a.session a.next a.known a.ended a.slots c.self.invariant
 
 pub overflow_cast-result : goal.overflow_cast-result
 overflow_cast-result c =
     let a = c.self.inside in
-    let v = view_over a.session a.next a.known a.ended a.slots in
+    let v = view_over a.room a.session a.next a.known a.ended a.slots in
     let ahead = subst (λ (w : View). w.next < c.args.to) (sym c.self.view_is) c.requires.ahead in
     let within = subst (λ (w : View). c.args.to ≤ w.known) (sym c.self.view_is) c.requires.missing.0 in
     let end : c.in_ok-end.end ≡ c.args.to - a.next + length (run_in a.slots (c.args.to - a.next)) =
@@ -28,14 +28,14 @@ overflow_cast-result c =
     omega (
       arith,
       end,
-      skipped_few a.session a.next a.known a.ended a.slots c.args.to c.self.invariant (omega (arith, ahead)) within,
+      skipped_few a.room a.session a.next a.known a.ended a.slots c.args.to c.self.invariant (omega (arith, ahead)) within,
       c.len.ensures.range.1,
     )
 
 pub invariant_of-self : goal.invariant_of-self
 invariant_of-self c =
     let a = c.self.inside in
-    let v = view_over a.session a.next a.known a.ended a.slots in
+    let v = view_over a.room a.session a.next a.known a.ended a.slots in
     let ahead = subst (λ (w : View). w.next < c.args.to) (sym c.self.view_is) c.requires.ahead in
     let within = subst (λ (w : View). c.args.to ≤ w.known) (sym c.self.view_is) c.requires.missing.0 in
     let end : c.in_ok-end.end ≡ c.args.to - a.next + length (run_in a.slots (c.args.to - a.next)) =
@@ -44,22 +44,22 @@ invariant_of-self c =
     let new : a.next + c.in_ok-end.end ≡ c.args.to + length (run_in a.slots (c.args.to - a.next)) = omega (arith, end, low) in
     let counted : c.min.result ≡ min (a.next + c.in_ok-end.end - a.next) (length a.slots) =
     omega (arith, c.min.ensures, c.len.ensures.length) in
-    let is = skipped_view a.session a.next a.known a.ended a.slots c.args.to c.self.invariant low within
+    let is = skipped_view a.room a.session a.next a.known a.ended a.slots c.args.to c.self.invariant low within
     (a.next + c.in_ok-end.end) c.min.result new counted in
     subst IsWellFormed
-    (sym ((λ i. view_over a.session (a.next + c.in_ok-end.end) a.known a.ended (c.skip.ensures i)) ∙ is))
+    (sym ((λ i. view_over a.room a.session (a.next + c.in_ok-end.end) a.known a.ended (c.skip.ensures i)) ∙ is))
     (moved_well v (c.args.to + length (skipped_run v c.args.to)) c.self.invariant (omega (arith, low))
     (omega (
       arith,
       ap (λ (t : List Message). length t)
-          (skipped_run_is a.session a.next a.known a.ended a.slots c.args.to c.self.invariant low within),
-      skipped_low a.session a.next a.known a.ended a.slots c.args.to c.self.invariant low within,
+          (skipped_run_is a.room a.session a.next a.known a.ended a.slots c.args.to c.self.invariant low within),
+      skipped_low a.room a.session a.next a.known a.ended a.slots c.args.to c.self.invariant low within,
     )))
 
 pub returns-clause-skipped : goal.returns-clause-skipped
 returns-clause-skipped c =
     let a = c.self.inside in
-    let v = view_over a.session a.next a.known a.ended a.slots in
+    let v = view_over a.room a.session a.next a.known a.ended a.slots in
     let ahead = subst (λ (w : View). w.next < c.args.to) (sym c.self.view_is) c.requires.ahead in
     let within = subst (λ (w : View). c.args.to ≤ w.known) (sym c.self.view_is) c.requires.missing.0 in
     let end : c.in_ok-end.end ≡ c.args.to - a.next + length (run_in a.slots (c.args.to - a.next)) =
@@ -68,16 +68,16 @@ returns-clause-skipped c =
     let new : a.next + c.in_ok-end.end ≡ c.args.to + length (run_in a.slots (c.args.to - a.next)) = omega (arith, end, low) in
     let counted : c.min.result ≡ min (a.next + c.in_ok-end.end - a.next) (length a.slots) =
     omega (arith, c.min.ensures, c.len.ensures.length) in
-    let is = skipped_view a.session a.next a.known a.ended a.slots c.args.to c.self.invariant low within
+    let is = skipped_view a.room a.session a.next a.known a.ended a.slots c.args.to c.self.invariant low within
     (a.next + c.in_ok-end.end) c.min.result new counted in
-    (λ i. view_over a.session (a.next + c.in_ok-end.end) a.known a.ended (c.skip.ensures i))
+    (λ i. view_over a.room a.session (a.next + c.in_ok-end.end) a.known a.ended (c.skip.ensures i))
     ∙ is
     ∙ ap (λ (w : View). skipped w c.args.to) c.self.view_is
 
 pub returns-clause-handed : goal.returns-clause-handed
 returns-clause-handed c =
     let a = c.self.inside in
-    let v = view_over a.session a.next a.known a.ended a.slots in
+    let v = view_over a.room a.session a.next a.known a.ended a.slots in
     let ahead = subst (λ (w : View). w.next < c.args.to) (sym c.self.view_is) c.requires.ahead in
     let within = subst (λ (w : View). c.args.to ≤ w.known) (sym c.self.view_is) c.requires.missing.0 in
     let low : a.next ≤ c.args.to = omega (arith, ahead) in
@@ -85,13 +85,13 @@ returns-clause-handed c =
     (rw c.in_ok-end.was at c.hand_stored.ensures.handed)
     ∙ ap (λ (n : ℕ). followed_by c.args.batch.now n (run_in a.slots (c.args.to - a.next))) at
     ∙ ap (followed_by c.args.batch.now c.args.to)
-    (sym (skipped_run_is a.session a.next a.known a.ended a.slots c.args.to c.self.invariant low within)
+    (sym (skipped_run_is a.room a.session a.next a.known a.ended a.slots c.args.to c.self.invariant low within)
     ∙ ap (λ (w : View). skipped_run w c.args.to) c.self.view_is)
 
 pub returns-clause-count : goal.returns-clause-count
 returns-clause-count c =
     let a = c.self.inside in
-    let v = view_over a.session a.next a.known a.ended a.slots in
+    let v = view_over a.room a.session a.next a.known a.ended a.slots in
     let ahead = subst (λ (w : View). w.next < c.args.to) (sym c.self.view_is) c.requires.ahead in
     let within = subst (λ (w : View). c.args.to ≤ w.known) (sym c.self.view_is) c.requires.missing.0 in
     let end : c.in_ok-end.end ≡ c.args.to - a.next + length (run_in a.slots (c.args.to - a.next)) =
@@ -101,7 +101,7 @@ returns-clause-count c =
       arith,
       end,
       ap (λ (t : List Message). length t)
-          (sym (skipped_run_is a.session a.next a.known a.ended a.slots c.args.to c.self.invariant low within)
+          (sym (skipped_run_is a.room a.session a.next a.known a.ended a.slots c.args.to c.self.invariant low within)
           ∙ ap (λ (w : View). skipped_run w c.args.to) c.self.view_is),
     )
 
@@ -112,10 +112,10 @@ on_err (Err e) p = p
 pub returns-in_err-end-clause-needed : goal.returns-in_err-end-clause-needed
 returns-in_err-end-clause-needed c =
     let a = c.self.inside in
-    let v = view_over a.session a.next a.known a.ended a.slots in
+    let v = view_over a.room a.session a.next a.known a.ended a.slots in
     let ahead = subst (λ (w : View). w.next < c.args.to) (sym c.self.view_is) c.requires.ahead in
     let within = subst (λ (w : View). c.args.to ≤ w.known) (sym c.self.view_is) c.requires.missing.0 in
-    let run = skipped_run_is a.session a.next a.known a.ended a.slots c.args.to c.self.invariant (omega (arith, ahead))
+    let run = skipped_run_is a.room a.session a.next a.known a.ended a.slots c.args.to c.self.invariant (omega (arith, ahead))
     within in
     on_err c.from_residual.result
     (subst (λ (t : List Message). 0 < length t) (sym run ∙ ap (λ (w : View). skipped_run w c.args.to) c.self.view_is)

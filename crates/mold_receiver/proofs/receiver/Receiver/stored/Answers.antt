@@ -14,6 +14,6 @@ returns c =
           ∙ ap (λ (v : View). finite.len v.store) c.self.view_is;
       bound = subst (λ (v : View). c.held.result < v.window) c.self.view_is
           (let below : count_held a.slots < length a.slots = count_below a.slots c.held.ensures.some
-          (first_empty a.session a.next a.known a.ended a.slots c.self.invariant) in
+          (first_empty a.room a.session a.next a.known a.ended a.slots c.self.invariant) in
           omega (arith, c.held.ensures.count, below));
     }

@@ -10,7 +10,7 @@ use Rattle.mold_receiver.proofs.receiver.Receiver.wanted.Goals as goal
 pub returns-clause-wanted : goal.returns-clause-wanted
 returns-clause-wanted c =
     let a = c.self.inside in
-    let v = view_over a.session a.next a.known a.ended a.slots in
+    let v = view_over a.room a.session a.next a.known a.ended a.slots in
     let ask : ℕ → Request = λ n. record { session = a.session; sequence = a.next; count = n } in
     let first : IsNextHeld a.slots 0 (min (a.known - a.next) 65534) c.next_held-count.result =
     subst (λ (n : ℕ). IsNextHeld a.slots 0 n c.next_held-count.result) c.min-most.ensures c.next_held-count.ensures

@@ -2,7 +2,7 @@ use Rattle.std.proofs.Common.{◌≡◌, Some, ap, length-take, refl, sym, arith
 use Rattle.std.specs.Prelude.{is_some}
 use Rattle.slab.proofs.SlabLemmas.{Updates-with_value}
 use Rattle.slab.specs.Slab.{get}
-use Rattle.mold_receiver.proofs.SegmentLemmas.{appended_with, are_with, filled_segment}
+use Rattle.mold_receiver.proofs.SegmentLemmas.{appended_with, are_with, counted_more, filled_segment}
 use Rattle.mold_receiver.proofs.segments.Segments.fill.Goals as goal
 
 pub returns-clause-whole : goal.returns-clause-whole
@@ -18,6 +18,9 @@ returns-clause-whole c =
     (c.requires.keys key before had)
     (omega (arith, c.requires.size key before had, c.fill.ensures.filled.size, c.fill.ensures.filled.used)) refl
     c.requires.spare
+    (counted_more old _ key _ _ before c.fill.new.self c.requires had
+    (Updates-with_value old.table key c.fill.new.self (ap is_some had)) c.fill.ensures.filled.used
+    (omega (arith, c.saturating_add-self.ensures, c.len.ensures)))
 
 pub returns-clause-appended : goal.returns-clause-appended
 returns-clause-appended c =

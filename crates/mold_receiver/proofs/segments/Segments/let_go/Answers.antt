@@ -3,7 +3,7 @@ use Rattle.std.specs.Prelude.{is_some}
 use Rattle.slab.proofs.SlabLemmas.{Updates-with_value}
 use Rattle.slab.specs.Slab.{get}
 use Rattle.mold_receiver.specs.Segments.{HasLost}
-use Rattle.mold_receiver.proofs.SegmentLemmas.{are_with, lost_none, lost_with}
+use Rattle.mold_receiver.proofs.SegmentLemmas.{are_with, counted_still, lost_none, lost_with}
 use Rattle.mold_receiver.proofs.segments.Segments.let_go.Goals as goal
 
 pub returns-then-count-eq0-clause-lost : goal.returns-then-count-eq0-clause-lost
@@ -21,6 +21,7 @@ returns-then-segment-count-clause-whole c =
     are_with old _ key _ c.requires.whole (Updates-with_value old.table key _ (ap is_some had))
     (record { some = is.some; used = is.used; exact = is.exact; few = is.few })
     (c.requires.whole.keys key before had) (c.requires.whole.size key before had) refl c.requires.whole.spare
+    (counted_still old _ key before _ c.requires.whole had (Updates-with_value old.table key _ (ap is_some had)) refl)
 
 pub returns-then-segment-count-clause-lost : goal.returns-then-segment-count-clause-lost
 returns-then-segment-count-clause-lost c =

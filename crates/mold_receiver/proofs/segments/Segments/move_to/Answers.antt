@@ -4,7 +4,7 @@ use Rattle.slab.proofs.SlabLemmas.{Updates-with_value}
 use Rattle.slab.specs.Slab.{Slab, Updates, get}
 use Rattle.mold_receiver.specs.Segments.{bytes_of, size_of}
 use Rattle.mold_receiver.specs.declared.segment.Segment.{Segment}
-use Rattle.mold_receiver.proofs.SegmentLemmas.{appended_with, are_moved, bytes_few, is_there, used_there}
+use Rattle.mold_receiver.proofs.SegmentLemmas.{appended_with, are_moved, bytes_few, counted_more, is_there, used_there}
 use Rattle.mold_receiver.proofs.segments.Segments.move_to.Goals.{in-Some, in_default}
 use Rattle.mold_receiver.proofs.segments.Segments.move_to.Goals as goal
 
@@ -27,7 +27,10 @@ save-requires c =
       whole = are_moved old _ key before after c.args.memory (length c.args.bytes.now) c.requires.whole
           c.requires.there had (Updates-with_value old.table key after (ap is_some had)) c.requires.fits
           c.move_to-old.ensures.filled c.move_to-old.ensures.size c.move_to-old.ensures.room refl
-          c.requires.whole.spare;
+          c.requires.whole.spare
+          (counted_more old _ key _ _ before after c.requires.whole had
+          (Updates-with_value old.table key after (ap is_some had)) c.move_to-old.ensures.filled
+          (omega (arith, c.saturating_add-self.ensures)));
     }
 
 pub overflow_cast-result : goal.overflow_cast-result
@@ -43,8 +46,7 @@ returns-clause-whole c =
     elim c.match-get_mut.branch [
       | in-Some w ↦
           let whole = w.save.ensures.whole in
-          rw w.self-is
-          (record { each = whole.each; keys = whole.keys; size = whole.size; spare = whole.spare })
+          rw w.self-is whole
       | in_default w ↦ absurd (is_there c.args.self.now c.args.key c.requires.there w.in_default.ensures.value)
     ]
 

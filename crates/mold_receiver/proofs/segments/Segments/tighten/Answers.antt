@@ -21,9 +21,9 @@ returns-after-size-used-clause-whole c =
             w.in_ok-memory.ensures.0,
             ap (λ (t : List ℕ). length t) (moved.appended.bytes key),
             length-append (bytes_at old key) (more_at w.move_to.result.segment [] key),
-          )) refl refl refl)
+          )) refl refl refl refl)
       | else-size-used w ↦
           rw w.self-is
           (are_tight old _ key c.requires.whole c.in-Some.is
-          (omega (arith, used, c.size.ensures, w.if-size-used.false)) refl refl refl)
+          (omega (arith, used, c.size.ensures, w.if-size-used.false)) refl refl refl refl)
     ]

@@ -3,14 +3,14 @@ use Rattle.std.proofs.lemmas.List.{length-replicate}
 use Rattle.mold_receiver.specs.Slots.{Slot}
 use Rattle.mold_receiver.specs.View.{IsWellFormed, view_over}
 use Rattle.mold_receiver.proofs.ViewLemmas.{empty_store, fresh_well}
-use Rattle.mold_receiver.proofs.receiver.Receiver.wide.Goals as goal
+use Rattle.mold_receiver.proofs.receiver.Receiver.bounded.Goals as goal
 
 pub invariant_of-result : goal.invariant_of-result
 invariant_of-result c =
-    subst (λ (slots : List Slot). IsWellFormed (view_over c.args.session c.args.next c.args.next None slots))
+    subst (λ (slots : List Slot). IsWellFormed (view_over c.args.store c.args.session c.args.next c.args.next None slots))
     (sym c.in-Ok.ensures)
-    (fresh_well c.args.session c.args.next c.args.window (omega (arith, c.if-next-eq0.false))
-    (omega (arith, c.ranges.next.fits)))
+    (fresh_well c.args.store c.args.session c.args.next c.args.window (omega (arith, c.if-next-eq0.false))
+    (omega (arith, c.ranges.next.fits)) c.if-is_room.ensures)
 
 pub returns-in-Ok-clause-made : goal.returns-in-Ok-clause-made
 returns-in-Ok-clause-made c =
@@ -24,4 +24,5 @@ returns-in-Ok-clause-made c =
       store =
           empty_store c.args.next c.args.window i;
       window = size i;
+      room = c.args.store;
     })
