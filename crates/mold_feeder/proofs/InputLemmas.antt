@@ -1,12 +1,11 @@
 -- The remaining entries of an input that comes in pieces.
-use Rattle.std.proofs.Common.{arith, ◌≡◌, ◌∙◌, ◌&&◌, Bool, false, not, true, ℕ, List, [], ◌++◌, length, length-append, take, drop, Option, None, Some}
-use Rattle.std.proofs.Common.{ap, refl, sym, subst, append_assoc, append-nil, take-append-drop}
+use Rattle.std.proofs.Common.{arith, ◌≡◌, ◌∙◌, ◌&&◌, Bool, false, not, true, ℕ, List, [], ◌++◌, length, length-append, Option, None, Some}
+use Rattle.std.proofs.Common.{ap, refl, sym, subst, append_assoc, append-nil}
 use Rattle.std.proofs.lemmas.List.{nil_from_length}
 use Rattle.std.specs.Prelude.{unwrap_or}
 use Rattle.std.specs.Io.KnownBytes.{Consumes, IsAtEnd}
 use Rattle.mold_input.specs.Entries.{Entry}
 use Rattle.mold_feeder.specs.Input.{KeepsRest, entries_after}
-use Rattle.mold_feeder.specs.Pieces.{AreWhole}
 
 module _ (entries : List ℕ → List Entry) where
   -- A piece was added to a part: the whole entries, and then the other bytes.

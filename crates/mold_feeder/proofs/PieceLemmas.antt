@@ -1,10 +1,10 @@
 -- Which bytes of the pieces of an input are whole entries.
 use Rattle.std.proofs.Common.{arith, ◌≡◌, ◌∙◌, ℕ, ◌+◌, ◌-◌, ◌<◌, ◌≤◌, Bool, cond, true, false, eqb, List, [], ◌∷◌}
 use Rattle.std.proofs.Common.{◌++◌, length, length-append, length-drop, take, drop, get_or, Ok, ap, refl, sym, subst, map}
-use Rattle.std.proofs.Common.{append_assoc, append-nil, zero, suc, inl, inr, min, take_all, take-append-drop, take-suc, take-add, length-take-le, get_or-drop, add-one}
+use Rattle.std.proofs.Common.{append_assoc, append-nil, replicate, zero, suc, inl, inr, min, take-append-drop, take-suc, take-add, length-take-le, get_or-drop, add-one}
 use Rattle.std.proofs.Math.Dec.{eqb-suc-zero}
 use Rattle.std.proofs.lemmas.Bool.{cases_Bool, cases_eq, cases_lt, cond-false, eqb-true}
-use Rattle.std.proofs.lemmas.List.{drop_all, drop_at, drop-drop, map-append, nil_from_length, take_at, take-append-le}
+use Rattle.std.proofs.lemmas.List.{drop_all, drop_at, drop-drop, length-replicate, map-append, replicate-append-replicate, nil_from_length, take_at}
 use Rattle.byteorder.specs.Endian.{big_number}
 use Rattle.memchr.specs.Find.{NoneAfter, Passes, is_byte}
 use Rattle.mold_devices.specs.Lines.{HasNoEnd, lines_of, onto_first}
@@ -211,26 +211,110 @@ blocks_empty (byte ∷ bytes) is = elim (cases_lt (length (byte ∷ bytes)) (2 +
 
 -- ---- the source of what has come
 
--- A read gives the first of the remaining bytes.
-pub read_parts : (bytes buffer copied : List ℕ) (read count span : ℕ) → copied ≡ take span (drop read bytes) →
-    span ≡ count → count ≡ min (length bytes - read) (length buffer) →
-    (drop read bytes ≡ take count (copied ++ drop count buffer) ++ drop (read + count) bytes)
-    × (count ≡ 0 → 0 < length (copied ++ drop count buffer) → drop (read + count) bytes ≡ [])
-read_parts bytes buffer copied read count span same exact few =
-    let long : length copied ≡ count = omega (
-      arith,
-      ap (λ (t : List ℕ). length t) same,
-      length-take-le span (drop read bytes) (omega (arith, exact, few, length-drop read bytes)),
-      exact,
-    ) in
-    let first : take count (copied ++ drop count buffer) ≡ copied =
-    take-append-le count copied (drop count buffer) (omega (arith, long)) ∙ take_all count copied (omega (arith, long)) in (
-      sym (
-          ap (λ (t : List ℕ). t ++ drop (read + count) bytes) (first ∙ same ∙ ap (λ (n : ℕ). take n (drop read bytes)) exact)
-          ∙ ap (λ (t : List ℕ). take count (drop read bytes) ++ t) (sym (drop-drop count read bytes))
-          ∙ take-append-drop count (drop read bytes)
-          ),
-      λ none some.
-          drop_all (read + count) bytes
-          (omega (arith, none, some, few, long, length-append copied (drop count buffer), length-drop count buffer)),
-    )
+zeros_length : (n : ℕ) → length {A = ℕ} (replicate n 48) ≡ n
+zeros_length n = length-replicate {A = ℕ} n 48
+
+-- The first digits, and the others.
+zeros_split : (n first : ℕ) → first ≤ n → replicate {A = ℕ} n 48 ≡ replicate first 48 ++ replicate (n - first) 48
+zeros_split n first le =
+    sym (replicate-append-replicate {A = ℕ} first (n - first) 48 ∙ ap (λ (k : ℕ). replicate {A = ℕ} k 48) (omega (arith, le)))
+
+-- What a read gives: digits first, and then bytes.
+pub record Given (digits read first count : ℕ) (bytes buffer : List ℕ) : Type 0 where
+  pub digit : first ≡ min digits (length buffer)
+  pub byte : count ≡ min (length bytes - read) (length buffer - first)
+
+module _ (digits read first count : ℕ) (bytes buffer : List ℕ) (given : Given digits read first count bytes buffer) where
+  abbrev pub taken : List ℕ
+  taken = take count (drop read bytes)
+
+  taken_length : length taken ≡ count
+  taken_length = length-take-le count (drop read bytes) (omega (arith, given.byte, length-drop read bytes))
+
+  -- If bytes are read, all digits are.
+  others : first < digits → count ≡ 0
+  others more = omega (arith, more, given.digit, given.byte)
+
+  -- The remaining bytes before the read.
+  pub read_split : replicate digits 48 ++ drop read bytes
+      ≡ (replicate first 48 ++ taken) ++ (replicate (digits - first) 48 ++ drop (read + count) bytes)
+  read_split = elim (cases_lt first digits) [
+    | inl more ↦
+        let none = others more in
+        ap (λ (t : List ℕ). t ++ drop read bytes) (zeros_split digits first (omega (arith, more)))
+        ∙ append_assoc (replicate first 48) (replicate (digits - first) 48) (drop read bytes)
+        ∙ sym (
+        ap (λ (t : List ℕ). t ++ (replicate (digits - first) 48 ++ drop (read + count) bytes))
+        (ap (λ (n : ℕ). replicate first 48 ++ take n (drop read bytes)) none ∙ append-nil (replicate first 48))
+        ∙ ap (λ (n : ℕ). replicate first 48 ++ (replicate (digits - first) 48 ++ drop n bytes))
+        (omega (arith, none))
+        )
+    | inr all ↦
+        let same : first ≡ digits = omega (arith, all, given.digit) in
+        let nothing : digits - first ≡ 0 = omega (arith, same) in
+        let empty : replicate {A = ℕ} (digits - first) 48 ≡ [] = ap (λ (n : ℕ). replicate {A = ℕ} n 48) nothing in
+        ap (λ (n : ℕ). replicate n 48 ++ drop read bytes) (sym same)
+        ∙ ap (λ (t : List ℕ). replicate first 48 ++ t)
+        (sym (take-append-drop count (drop read bytes)) ∙ ap (λ (t : List ℕ). taken ++ t) (drop-drop count read bytes))
+        ∙ sym (append_assoc (replicate first 48) taken (drop (read + count) bytes))
+        ∙ ap (λ (t : List ℕ). (replicate first 48 ++ taken) ++ (t ++ drop (read + count) bytes)) (sym empty)
+  ]
+
+  -- The filled part of the buffer.
+  pub buffer_filled : (mid new rest : List ℕ) → mid ≡ replicate first 48 ++ drop first buffer →
+      new ≡ take first mid ++ (taken ++ rest) → take (first + count) new ≡ replicate first 48 ++ taken
+  buffer_filled mid new rest one two =
+      let front : take first mid ≡ replicate first 48 =
+      ap (take first) one ∙ take_at (replicate first 48) (drop first buffer) first (zeros_length first) in
+      ap (take (first + count)) (
+      two
+      ∙ ap (λ (t : List ℕ). t ++ (taken ++ rest)) front
+      ∙ sym (append_assoc (replicate first 48) taken rest)
+      )
+      ∙ take_at (replicate first 48 ++ taken) rest (first + count)
+      (omega (arith, length-append {A = ℕ} (replicate first 48) taken, zeros_length first, taken_length))
+
+  -- Nothing is read only if nothing remains.
+  pub nothing_left : first + count ≡ 0 → 0 < length buffer → replicate (digits - first) 48 ++ drop (read + count) bytes ≡ []
+  nothing_left none room =
+      let zero_digits : digits - first ≡ 0 = omega (arith, none, room, given.digit) in
+      ap (λ (n : ℕ). replicate n 48 ++ drop (read + count) bytes) zero_digits
+      ∙ drop_all (read + count) bytes (omega (arith, none, room, given.digit, given.byte))
+
+  -- As many bytes are read as remain or fit.
+  pub read_count : first + count ≡ min (length (replicate digits 48 ++ drop read bytes)) (length buffer)
+  read_count =
+      omega (
+        arith,
+        given.digit,
+        given.byte,
+        length-append {A = ℕ} (replicate digits 48) (drop read bytes),
+        zeros_length digits,
+        length-drop read bytes,
+      )
+
+  -- The remaining bytes after the read.
+  pub read_left : replicate (digits - first) 48 ++ drop (read + count) bytes
+      ≡ drop (length buffer) (replicate digits 48 ++ drop read bytes)
+  read_left = elim (cases_lt (first + count) (length buffer)) [
+    | inl less ↦
+        -- all bytes were read
+        let zero_digits : digits - first ≡ 0 = omega (arith, less, given.digit, given.byte) in
+        ap (λ (n : ℕ). replicate n 48 ++ drop (read + count) bytes) zero_digits
+        ∙ drop_all (read + count) bytes (omega (arith, less, given.digit, given.byte))
+        ∙ sym (drop_all (length buffer) (replicate digits 48 ++ drop read bytes)
+        (omega (arith, less, read_count, given.digit, given.byte)))
+    | inr full ↦
+        let sized : length buffer ≡ first + count = omega (arith, full, given.digit, given.byte) in
+        sym (
+        ap (λ (t : List ℕ). drop (length buffer) t) read_split
+        ∙ drop_at (replicate first 48 ++ taken) (replicate (digits - first) 48 ++ drop (read + count) bytes) (length buffer)
+        (omega (
+          arith,
+          sized,
+          length-append {A = ℕ} (replicate first 48) taken,
+          zeros_length first,
+          taken_length,
+        ))
+        )
+  ]

@@ -1,6 +1,6 @@
 //! The bytes of an input that have come, as a source.
 
-ghost use Rattle.std.specs.Prelude.{◌≡◌, ◌≤◌, ◌<◌, min, drop, length, Some, Ok, [], IfOk};
+ghost use Rattle.std.specs.Prelude.{◌≡◌, ◌+◌, ◌++◌, ◌≤◌, ◌<◌, min, drop, length, replicate, take, Some, Ok, [], IfOk};
 ghost use Rattle.std.specs.Io.{ReadsAtMost};
 ghost use Rattle.std.specs.Io.KnownBytes.{ReadConsumes};
 ghost use Rattle.mold_devices.specs.Devices.{Counts};
@@ -76,10 +76,10 @@ impl Source for Arrived {
         ensures left { self.new ≡ drop (length buffer.old) self.old }
     {
         let digits = self.digits.min(buffer.len());
-        buffer[..digits].fill(b'0');
+        put_digits(buffer, digits);
         let count = (self.bytes.len() - self.read).min(buffer.len() - digits);
         let end = self.read + count;
-        buffer[digits..digits + count].copy_from_slice(&self.bytes[self.read..end]);
+        put_bytes(buffer, digits, &self.bytes[self.read..end]);
         self.digits -= digits;
         self.read = end;
         Ok(digits + count)
@@ -88,4 +88,21 @@ impl Source for Arrived {
     fn failures(&self) -> u64 {
         0
     }
+}
+
+// Replaces the first `count` bytes by digits 0.
+fn put_digits(buffer: &mut [u8], count: usize)
+    requires { count ≤ length buffer.old }
+    ensures { buffer.new ≡ replicate count 48 ++ drop count buffer.old }
+{
+    buffer[..count].fill(b'0');
+}
+
+// Replaces the bytes from index `at` on by others.
+fn put_bytes(buffer: &mut [u8], at: usize, bytes: &[u8])
+    requires { at + length bytes.now ≤ length buffer.old }
+    ensures { buffer.new ≡ take at buffer.old ++ (bytes.now ++ drop (at + length bytes.now) buffer.old) }
+{
+    let end = at + bytes.len();
+    buffer[at..end].copy_from_slice(bytes);
 }

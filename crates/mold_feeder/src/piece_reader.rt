@@ -43,7 +43,8 @@ impl PieceReader for HexLines {
         };
         let before = part.kept().len();
         part.extend(bytes)?;
-        part.split(before + at + 1, alloc)
+        let whole = part.split(before + at + 1, alloc)?;
+        Ok(whole)
     }
 
     fn empty_law() {}
@@ -58,7 +59,8 @@ impl PieceReader for MessageBlocks {
         if count == 0 {
             return Ok(LinePart::new(alloc));
         }
-        part.split(count, alloc)
+        let whole = part.split(count, alloc)?;
+        Ok(whole)
     }
 
     fn empty_law() {}

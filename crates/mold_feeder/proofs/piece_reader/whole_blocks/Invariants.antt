@@ -4,11 +4,11 @@ use Rattle.mold_feeder.specs.Pieces.{AreWhole}
 use Rattle.mold_feeder.proofs.piece_reader.whole_blocks.Given as goal
 
 -- the blocks so far are whole
-abbrev pub invariant-blocks : goal.invariant-blocks
-invariant-blocks l = record {
+abbrev pub invariant-blocks-2 : goal.invariant-blocks-2
+invariant-blocks-2 l = record {
   within : l.count ≤ length l.fn.bytes;
   whole : AreWhole block_entries (take l.count l.fn.bytes);
 }
 
-abbrev pub decreases-blocks : goal.decreases-blocks
-decreases-blocks l = length l.bytes - l.count
+abbrev pub decreases-blocks-2 : goal.decreases-blocks-2
+decreases-blocks-2 l = length l.bytes - l.count

@@ -17,8 +17,8 @@ returns-then-count-eq0-clause-rest g c =
     c.empty_law.ensures.none c.in_ok-count.ensures.bytes (c.in_ok-count.ensures.len ∙ c.if-count-eq0.true)
     (c.in_ok-count.ensures.end c.if-count-eq0.true) (of ∙ ap bytes_of last) (ap bytes_of after ∙ none)
 
-pub add_piece-requires-none : goal.add_piece-requires-none
-add_piece-requires-none g c =
+pub add_piece-requires-clause-none : goal.add_piece-requires-clause-none
+add_piece-requires-clause-none g c =
     let self = c.args.self.now in
     nil_second g.M.MessageReader.entries (g.M.InputReader.unread self.come.messages) self.come.source
     (c.requires.input.taken (lacks_ready self.ready self.ended c.requires.lacks))
