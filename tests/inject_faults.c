@@ -1,6 +1,7 @@
 /* A library for LD_PRELOAD that makes allocations and system calls fail. FAULT names the kind of call: allocation,
- * read (also `pread`), write, receive, send or wait. The call number FAULT_AT of that kind fails, counted from 1. With FAULT_ALL all
- * later calls of that kind fail too. With FAULT_SINGLE_BYTES each read or write transfers one byte. The counts are
+ * read (also `pread`), interrupt, write, receive, send or wait. An interrupt is a `read` of standard input that fails as interrupted. The
+ * call number FAULT_AT of that kind fails, counted from 1. With FAULT_TIMES so do the following ones, FAULT_TIMES calls in
+ * all. With FAULT_ALL all later calls of that kind fail too. With FAULT_SINGLE_BYTES each read or write transfers one byte. The counts are
  * mapped to the file FAULT_COUNTS, of sizeof(struct counts) bytes, so they are kept however the program ends.
  * tests/out-of-memory and tests/io-errors use this library. */
 #define _GNU_SOURCE
@@ -20,7 +21,7 @@
 /* `own` counts the failed calls that the program made itself, not through a library. */
 static struct counts { uint64_t calls, failed, own; } no_counts, *counts;
 static const char *kind;
-static uint64_t at;
+static uint64_t at, times;
 static int all, single_bytes;
 static uintptr_t code_begin, code_end;
 
@@ -35,10 +36,11 @@ static int note_program(struct dl_phdr_info *info, size_t size, void *unused) {
 }
 
 static void begin(void) {
-    const char *number = getenv("FAULT_AT"), *path = getenv("FAULT_COUNTS");
+    const char *number = getenv("FAULT_AT"), *path = getenv("FAULT_COUNTS"), *several = getenv("FAULT_TIMES");
     kind = getenv("FAULT");
     counts = &no_counts;
     at = number ? strtoull(number, NULL, 10) : 0;
+    times = several ? strtoull(several, NULL, 10) : 1;
     all = getenv("FAULT_ALL") != NULL;
     single_bytes = getenv("FAULT_SINGLE_BYTES") != NULL;
     dl_iterate_phdr(note_program, NULL);
@@ -53,7 +55,7 @@ static int fails(const char *called, int error, void *caller) {
     if (!counts) begin();
     if (!kind || strcmp(kind, called)) return 0;
     uint64_t number = ++counts->calls;
-    if (!at || number < at || (number > at && !all)) return 0;
+    if (!at || number < at || (number >= at + times && !all)) return 0;
     counts->failed++;
     counts->own += (uintptr_t)caller >= code_begin && (uintptr_t)caller < code_end;
     errno = error;
@@ -78,7 +80,7 @@ static size_t moved(size_t size) { return single_bytes && size ? 1 : size; }
 
 ssize_t read(int file, void *buffer, size_t size) {
     NEXT(read);
-    return FAILS("read") ? -1 : next(file, buffer, moved(size));
+    return FAILS("read") || (file == STDIN_FILENO && FAILS_WITH("interrupt", EINTR)) ? -1 : next(file, buffer, moved(size));
 }
 ssize_t pread(int file, void *buffer, size_t size, off_t at) {
     NEXT(pread);

@@ -7,6 +7,12 @@ ghost use Rattle.mold_wire.specs.Block.{IsBytes, IsMessage, block, blocks};
 ghost use Rattle.mold_input.specs.Blocks.{IsCut, block_entries};
 ghost use Rattle.mold_input.specs.BlocksToEmpty.{IsNotEmpty, to_empty_entries};
 ghost use Rattle.mold_input.specs.declared.input_fault.InputFault.TheVariants.{Cut};
+ghost use Rattle.mold_input.specs.declared.limits.TheConstants.{MAX_LINE};
+
+/// Computes the constant of this crate.
+pub fn constants_law()
+    ensures line { MAX_LINE ≡ 131094 }
+{}
 
 /// What an input of blocks holds. The blocks of some messages hold these messages. If the input ends within a further
 /// block, an entry for the cut block follows. Conversely, an input that holds messages alone consists of their blocks.
