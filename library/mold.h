@@ -275,7 +275,8 @@ typedef struct mold_taken {
     uint64_t detail;    /* the number that goes with a refusal; otherwise 0. After a refusal the counts are 0 */
     uint32_t delivered; /* the number of messages that it added to the end of the batch: its own and stored ones */
     uint32_t kept;      /* the number of its messages that were stored above a gap */
-    uint32_t dropped;   /* the number of its messages above the window, which must be received again */
+    uint32_t dropped;   /* the number of its messages that were dropped and must be received again: those above the
+                           window, or all new ones if the store had no room for the datagram */
     uint32_t unused;    /* padding, which is never written */
 } mold_taken;
 
@@ -287,7 +288,7 @@ typedef struct mold_delivery {
     uint32_t own;     /* the number of these messages */
     uint32_t stored;  /* the number of stored messages that are delivered after them: all messages of the batch */
     uint32_t kept;    /* the number of its messages that were stored above a gap */
-    uint32_t dropped; /* the number of its messages above the window, which must be received again */
+    uint32_t dropped; /* the number of its messages that were dropped and must be received again, as in mold_taken */
 } mold_delivery;
 
 /* What was received on a line. Both counts stop at 18446744073709551615. */
@@ -313,6 +314,19 @@ enum mold_line {
  *   MOLD_E_WINDOW     window is not 1 to 1,048,576.
  *   MOLD_E_MEMORY     an allocation failed; the handle is empty. */
 uint32_t mold_listener_new(mold_listener *listener, const uint8_t session[10], uint64_t next, uint32_t window);
+
+/* Makes a listener as mold_listener_new does, whose store has room for `store` bytes: those of the stored messages and of
+ * their length fields, 2 for each message. If the messages of a datagram that begins above a gap have no room, none of
+ * them is stored. A datagram that has the message N needs no room. So the memory of the listener has a bound, and the
+ * first gap can always be filled. If `store` is 0, there is no limit, as with mold_listener_new.
+ *
+ *   MOLD_E_BROKEN     the handle is not empty.
+ *   MOLD_E_NEXT_ZERO  next is 0.
+ *   MOLD_E_WINDOW     window is not 1 to 1,048,576.
+ *   MOLD_E_OPTIONS    store is 1 to 65,506: there would be no room for a datagram.
+ *   MOLD_E_MEMORY     an allocation failed; the handle is empty. */
+uint32_t mold_listener_bounded(mold_listener *listener, const uint8_t session[10], uint64_t next, uint32_t window,
+                               uint64_t store);
 
 /* Takes a datagram of a line, or a server's response. Messages that are next in order join the batch: those of the
  * datagram, and then stored ones. Messages above a gap are stored. Messages that were delivered or stored before are
@@ -450,6 +464,7 @@ typedef struct mold_repair_options {
                           Without a server, each timeout counts as a request. If it is 0, never; default 0 */
     uint32_t audit;    /* the number of delivered messages of which digests are kept, at most 1,048,576; default 0. A
                           datagram that has one of them with other bytes is counted as a contradiction */
+    uint64_t store;    /* as that of mold_listener_bounded, 0 or at least 65,507; default 0 */
 } mold_repair_options;
 
 /* Writes the default of each option, and the size. */
@@ -991,7 +1006,7 @@ MOLD_FIELD_(mold_report, datagrams, 0);
 MOLD_FIELD_(mold_report, refused, 8);
 MOLD_FIELD_(mold_report, front, 16);
 
-MOLD_SIZE_(mold_repair_options, 80);
+MOLD_SIZE_(mold_repair_options, 88);
 MOLD_FIELD_(mold_repair_options, size, 0);
 MOLD_FIELD_(mold_repair_options, next, 8);
 MOLD_FIELD_(mold_repair_options, patience, 16);
@@ -1005,6 +1020,7 @@ MOLD_FIELD_(mold_repair_options, places, 64);
 MOLD_FIELD_(mold_repair_options, servers, 68);
 MOLD_FIELD_(mold_repair_options, give_up, 72);
 MOLD_FIELD_(mold_repair_options, audit, 76);
+MOLD_FIELD_(mold_repair_options, store, 80);
 
 MOLD_SIZE_(mold_line_stats, 40);
 MOLD_FIELD_(mold_line_stats, datagrams, 0);

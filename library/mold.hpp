@@ -355,6 +355,12 @@ public:
         return static_cast<Code>(mold_listener_new(&handle_, session.data(), next, window));
     }
 
+    /// Opens the listener with a store that has room for `store` bytes. 0 is no limit.
+    [[nodiscard]] Code open(const Session &session, std::uint64_t next, std::uint32_t window,
+                            std::uint64_t store) noexcept {
+        return static_cast<Code>(mold_listener_bounded(&handle_, session.data(), next, window, store));
+    }
+
     [[nodiscard]] Code take(Line line, Bytes datagram, mold_taken &taken) noexcept {
         const auto from = static_cast<std::uint32_t>(line);
         return static_cast<Code>(mold_listener_take(&handle_, from, datagram.data(), datagram.size(), &taken));

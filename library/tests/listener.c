@@ -343,8 +343,37 @@ static void gaps_are_given_up(void) {
     mold_free(&listener);
 }
 
+/* A store of 65,507 bytes has room for 46 messages of 1,400 bytes. The next datagram is dropped, with both messages. */
+static void a_full_store_drops_datagrams(void) {
+    mold_listener listener = MOLD_EMPTY;
+    mold_taken taken = {0, 0, 0, 0, 0};
+    CODE(mold_listener_bounded(&listener, session, 0, 0, 1), MOLD_E_NEXT_ZERO);
+    CODE(mold_listener_bounded(&listener, session, 1, 0, 1), MOLD_E_WINDOW);
+    CODE(mold_listener_bounded(&listener, session, 1, 1024, 1), MOLD_E_OPTIONS);
+    CODE(mold_listener_bounded(&listener, session, 1, 1024, 65506), MOLD_E_OPTIONS);
+    CHECK(listener.at == NULL && !listener.live);
+    CODE(mold_listener_bounded(&listener, session, 1, 1024, 65507), MOLD_DONE);
+    CODE(mold_listener_bounded(&listener, session, 1, 1024, 0), MOLD_E_BROKEN);
+    CODE(take(&listener, MOLD_LINE_A, packet_of(2, 46, 1400), &taken), MOLD_DONE);
+    CHECK(is_taken(&taken, 0, 46, 0));
+    CODE(take(&listener, MOLD_LINE_A, packet_of(48, 2, 1400), &taken), MOLD_DONE);
+    CHECK(is_taken(&taken, 0, 0, 2) && mold_listener_known(&listener) == 50);
+    CODE(take(&listener, MOLD_LINE_B, packet_of(46, 3, 1400), &taken), MOLD_DONE);
+    CHECK(is_taken(&taken, 0, 0, 1));
+    CODE(take(&listener, MOLD_ANSWER, packet_of(1, 1, 1400), &taken), MOLD_DONE);
+    CHECK(is_taken(&taken, 47, 0, 0) && wants(&listener, SESSION_HEX "00000000000000300002"));
+    CODE(take(&listener, MOLD_ANSWER, packet_of(48, 2, 1400), &taken), MOLD_DONE);
+    CHECK(is_taken(&taken, 2, 0, 0) && mold_listener_next(&listener) == 50);
+    mold_free(&listener);
+    CODE(mold_listener_bounded(&listener, session, 1, 4, 0), MOLD_DONE);
+    CODE(take(&listener, MOLD_LINE_A, packet_of(2, 3, 65000), &taken), MOLD_DONE);
+    CHECK(is_taken(&taken, 0, 3, 0));
+    mold_free(&listener);
+}
+
 void test_listener(void) {
     listeners_that_cannot_be();
+    a_full_store_drops_datagrams();
     messages_come_backwards();
     the_batch_is_lent();
     two_lines_are_reported();

@@ -289,6 +289,20 @@ static void count_advancing(uint32_t window, size_t length) {
     CHECK(held == 0);
 }
 
+/* A store with room for a megabyte, which many more messages above a gap would fill: it takes at most twice as much, and
+ * 262,144 bytes. */
+static void count_bounded(void) {
+    mold_listener listener = MOLD_EMPTY;
+    CODE(mold_listener_bounded(&listener, session, 1, 1024, 1000000), MOLD_DONE);
+    size_t before = held;
+    most = held;
+    for (uint64_t number = 2; number < 1000; number++)
+        store_one(&listener, number, 60000);
+    CHECK(held - before > 900000 && most - before <= 2000000 + 262144 + small);
+    mold_free(&listener);
+    CHECK(held == 0);
+}
+
 int main(int count, char **words) {
     static const size_t lengths[] = {8, 40, 1400};
     size_t *const figures[] = {&batch_message, &publisher_message, &server_message, &checker_message,
@@ -315,5 +329,6 @@ int main(int count, char **words) {
     count_advancing(1024, 1400);
     count_filled(65536, 100);
     count_advancing(65536, 100);
+    count_bounded();
     return report_checks();
 }

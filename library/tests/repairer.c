@@ -35,7 +35,7 @@ static void repairers_that_cannot_be(void) {
     CHECK(options.size == sizeof options && options.next == 1 && options.patience == 0 && options.timeout == 50 * MS);
     CHECK(options.ceiling == 1000 * MS && options.settle == 2 * MS && options.interval == MS && options.window == 65536);
     CHECK(options.bucket == 32 && options.places == 256 && options.servers == 1 && options.give_up == 0);
-    CHECK(options.audit == 0);
+    CHECK(options.audit == 0 && options.store == 0);
     options.next = 0;
     options.window = 0;
     options.servers = 9;
@@ -49,11 +49,22 @@ static void repairers_that_cannot_be(void) {
     CODE(mold_repairer_new(&repairer, session, &options), MOLD_E_WINDOW);
     options.window = 1048577;
     CODE(mold_repairer_new(&repairer, session, &options), MOLD_E_WINDOW);
-    CHECK(repairer.at == NULL && !repairer.live);
     options.window = 1048576;
+    options.store = 65506;
+    CODE(mold_repairer_new(&repairer, session, &options), MOLD_E_OPTIONS);
+    CHECK(repairer.at == NULL && !repairer.live);
+    options.store = 65507;
     CODE(mold_repairer_new(&repairer, session, &options), MOLD_DONE);
     CODE(mold_repairer_new(&repairer, session, &options), MOLD_E_BROKEN);
     CHECK(mold_listener_next(mold_listener_of(&repairer)) == 1);
+    mold_taken taken = {0, 0, 0, 0, 0};
+    datagram first = packet_of(2, 1, 65000), second = packet_of(3, 1, 65000);
+    CODE(mold_repairer_take(&repairer, 0, 0, first.at, first.length, &taken), MOLD_DONE);
+    CHECK(is_taken(&taken, 0, 1, 0));
+    CODE(mold_repairer_take(&repairer, 0, 0, second.at, second.length, &taken), MOLD_DONE);
+    CHECK(is_taken(&taken, 0, 0, 1));
+    free(first.at);
+    free(second.at);
     mold_free(&repairer);
 }
 

@@ -112,6 +112,12 @@ void a_listener_gives_up() {
     CHECK(listener.count() == taken.kept && listener.first() == first && listener.skip(first) == Code::Batch);
 }
 
+void a_listener_has_a_bounded_store() {
+    mold::Listener listener;
+    CHECK(listener.open(name, 1, 64, 65506) == Code::Options && !listener);
+    CHECK(listener.open(name, 1, 64, 65507) == Code::Done && listener);
+}
+
 void a_listener_copies_nothing() {
     mold::Publisher publisher;
     const std::vector<Datagram> sent = session_of(publisher, {"first", "", "third and longest of them all", "fourth"});
@@ -301,6 +307,7 @@ void texts_are_printed() {
 int main() {
     a_listener_listens();
     a_listener_gives_up();
+    a_listener_has_a_bounded_store();
     a_listener_copies_nothing();
     a_repairer_repairs();
     servers_serve();

@@ -22,7 +22,7 @@ use Rattle.mold_port_set.specs.PortSet.{Given}
 use Rattle.mold_receive.specs.Receiving.{Call, Follow, all_taken, is_finished, port_of, taken_by}
 use Rattle.mold_receiver.specs.Honest.{IsHonest}
 use Rattle.mold_receiver.specs.Store.{Message}
-use Rattle.mold_receiver.specs.View.{View, fresh}
+use Rattle.mold_receiver.specs.View.{IsRoom, View, fresh_within}
 use Rattle.mold_recorder.specs.Recording.{AreWhole, HasDelivered, IsFileLeft, RecorderState, all_delivered}
 use Rattle.mold_repair.proofs.LawLemmas.{HasMoved, TakenLaw, has_moved}
 use Rattle.mold_repair.specs.Came.{range}
@@ -55,9 +55,10 @@ pub record DayLaws : Type 0 where
       IsLater before was after is → IsTrueOf session before was datagram → IsTrueOf session after is datagram
   pub moved : (history : History) (moment : Moment) →
       life_of (after_event history (Writes moment)) ≡ after_moment (life_of history) moment
-  pub anew : (session : Session) (next window : ℕ) (published : List Message) (closed : Bool) → 1 ≤ next →
+  pub anew : (room : Option ℕ) (session : Session) (next window : ℕ) (published : List Message) (closed : Bool) →
+      IsRoom room → 1 ≤ next →
       next ≤ length published + 1 → length published < MAX_NUMBER →
-      IsHonest (fresh session next window) published closed
+      IsHonest (fresh_within room session next window) published closed
   pub taken : TakenLaw
   pub honest : (old new : Repairer) (steps : List RepairStep) (outcomes : List Outcome)
       (ran : IsRepaired old new steps outcomes) (published : List Message) (closed : Bool) →
@@ -357,14 +358,15 @@ module _ (laws : DayLaws) (machine : Machine) (kept : IsKept machine) (few : len
         let new : Repairer = end.repairer in
         let fits : length found ≤ length machine.published = prefix_length found machine.published prefix in
         let honest : IsHonest old.arbiter.view machine.published machine.closed =
-        subst (λ (v : View). IsHonest v machine.published machine.closed) (sym begun.anew)
-        (laws.anew machine.session (length found + 1) begun.window machine.published machine.closed (omega arith)
+        subst (λ (v : View). IsHonest v machine.published machine.closed) (sym begun.anew.is)
+        (laws.anew begun.anew.room machine.session (length found + 1) begun.window machine.published machine.closed
+        begun.anew.valid (omega arith)
         (omega (arith, fits)) few) in
         let all : HasDeliveredAll machine old.arbiter.view.next (all_delivered is.calls) new =
         calls_deliver laws machine kept lines old new is.calls is.follow is.whole honest
-        (ap (λ (v : View). v.session) begun.anew)
+        (ap (λ (v : View). v.session) begun.anew.is)
         (subst (λ (g : List Given). MayAllArrive machine g) (sym (is.taken refl)) arrive) in
-        let next : old.arbiter.view.next ≡ length found + 1 = ap (λ (v : View). v.next) begun.anew in
+        let next : old.arbiter.view.next ≡ length found + 1 = ap (λ (v : View). v.next) begun.anew.is in
         let each : Each machine.published (length found + 1) messages =
         subst (λ (l : List Message). Each machine.published (length found + 1) l) (sym is.delivered)
         (subst (λ (n : ℕ). Each machine.published n (all_delivered is.calls)) next all.each) in

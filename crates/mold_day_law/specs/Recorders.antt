@@ -4,7 +4,7 @@ use Rattle.std.specs.List.{AllByRecursion}
 use Rattle.mold_durable.specs.DurableJournal.{DurableState}
 use Rattle.mold_durable.specs.Life.{Life, Lives}
 use Rattle.mold_port_set.specs.PortSet.{Given}
-use Rattle.mold_receiver.specs.View.{fresh}
+use Rattle.mold_receiver.specs.Fresh.{IsNew}
 use Rattle.mold_recorder.specs.Recording.{HasBroken, RecorderState}
 use Rattle.mold_repair.specs.declared.repairer.Repairer.{Repairer}
 use Rattle.mold_session.specs.Records.{SpellsJournal3}
@@ -34,7 +34,7 @@ pub record IsRecordOf (publisher : Life) (messages : List (List ℕ)) (closed : 
 pub record HasBegun {S : Type 0} (shows may_leave : S → List ℕ → Type 0) (session : Session)
     (messages : List (List ℕ)) (repairer : Repairer) (journal : DurableState S) : Type 0 where
   pub window : ℕ
-  pub anew : repairer.arbiter.view ≡ fresh session (length messages + 1) window
+  pub anew : IsNew repairer.arbiter.view session (length messages + 1) window
   pub lives : Lives shows may_leave journal
       (record { session = session; committed = messages; closed = false; waiting = [] })
 

@@ -6,4 +6,5 @@ pub mod MoldDelivery
 pub mod MoldReport
 pub mod MoldTaken
 pub mod Origin
+pub mod Room
 pub mod Taking

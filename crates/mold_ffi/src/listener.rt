@@ -8,5 +8,6 @@ pub(crate) mod mold_delivery;
 pub(crate) mod mold_report;
 pub(crate) mod mold_taken;
 mod origin;
+pub(crate) mod room;
 pub(crate) mod status;
 pub(crate) mod taking;

@@ -7,7 +7,7 @@ use Rattle.std.specs.List.{AllByRecursion}
 use Rattle.mold_devices.specs.declared.fault.CommandFault.{CommandFault}
 use Rattle.mold_feed.proofs.BlocksPrintedLemmas.{blocks_text}
 use Rattle.mold_feed.proofs.LinesTextLemmas.{AreSpelled, spelled_length, text_between}
-use Rattle.mold_feed.proofs.OpeningLemmas.{OpeningLaws, begins_at, begins_honest, begins_in, left_by}
+use Rattle.mold_feed.proofs.OpeningLemmas.{OpeningLaws, left_by, left_session}
 use Rattle.mold_feed.proofs.ReceivedTurnLemmas.{ends_so}
 use Rattle.mold_feed.proofs.SentLemmas.{each_append, each_begun, each_front, each_rest}
 use Rattle.mold_feed.specs.Received.{IsFed, IsHarmless, PrintsBlocks, lines_text}
@@ -21,7 +21,10 @@ use Rattle.mold_port_set.specs.PortSet.{Given, PortSetState}
 use Rattle.mold_receive.specs.Receiving.{Call, Follow, HasBroken, HasEnded, HasRun, ReceiverState, all_taken}
 use Rattle.mold_receive.specs.Receiving.{all_text, is_finished, last_line, last_status, started}
 use Rattle.mold_receiver.specs.Store.{Message}
-use Rattle.mold_receiver.specs.View.{fresh}
+use Rattle.mold_receiver.specs.Fresh.{IsNew}
+use Rattle.mold_receiver.specs.View.{IsRoom, View, fresh_within}
+use Rattle.mold_receiver.specs.Honest.{IsHonest}
+use Rattle.mold_wire.specs.declared.session.Session.{Session}
 use Rattle.mold_repair.specs.Laws.{count_numbers}
 use Rattle.mold_repair.specs.Stats.{no_counts}
 use Rattle.mold_repair.specs.declared.repairer.Repairer.{Repairer}
@@ -74,6 +77,9 @@ finished_if finished (gap ∷ gaps) zero = let no : ⊥ = cc in absurd no
 pub record ReceiveLaws (P : Type 0) : Type 0 where
   pub repair : RepairLaws
   pub opening : OpeningLaws
+  pub within : (room : Option ℕ) (session : Session) (next window : ℕ) (published : List Message) (closed : Bool) →
+      IsRoom room → 1 ≤ next → next ≤ length published + 1 → length published < 18446744073709551615 →
+      IsHonest (fresh_within room session next window) published closed
   pub fed : (limit : ℕ) (journal : JournalState) (input : InputEntries) (bytes : List ℕ) → IsOpening journal limit →
       IsFed P journal limit input bytes → IsHarmless (left_by journal input) bytes
 
@@ -164,10 +170,17 @@ all_lines_written lines journal first old new spelled printed =
 module _ {P : Type 0} (laws : ReceiveLaws P) (limit : ℕ) (journal : JournalState) (input : InputEntries)
     (opening : IsOpening journal limit) (first window : ℕ) (least : 1 ≤ first)
     (most : first ≤ length (left_by journal input).messages + 1) (old : Repairer)
-    (anew : old.arbiter.view ≡ fresh journal.session first window) (uncounted : old.counts ≡ no_counts)
+    (anew : IsNew old.arbiter.view journal.session first window) (uncounted : old.counts ≡ no_counts)
     (format : MessageFormat) where
   abbrev left : JournalState
   left = left_by journal input
+
+  honest_start : IsHonest old.arbiter.view left.messages left.closed
+  honest_start =
+      let may = laws.opening.answers limit limit journal input opening opening.limited opening.longest in
+      subst (λ (v : View). IsHonest v left.messages left.closed) (sym anew.is)
+      (laws.within anew.room journal.session first window left.messages left.closed anew.valid least most
+      may.journaled.few)
 
   count_is : (new : Repairer) (calls : List Call) → Follow old calls new →
       new.counts.lost ≡ u64_saturate (count_numbers (gaps_of calls))
@@ -184,11 +197,11 @@ module _ {P : Type 0} (laws : ReceiveLaws P) (limit : ℕ) (journal : JournalSta
   calls_print lines failures new calls text follow fed is =
       let are : ArePrinted format left calls old new =
       calls_printed laws.repair format left lines old new calls follow
-      (begins_honest laws.opening limit journal input opening first window least most old.arbiter anew)
-      (begins_in laws.opening limit journal input opening first window least most old.arbiter anew)
+      honest_start
+      (ap (λ (v : View). v.session) anew.is ∙ sym (left_session journal input))
       (all_good laws limit journal input opening (all_taken lines calls) fed) in
       let at : old.arbiter.view.next ≡ first =
-      begins_at laws.opening limit journal input opening first window least most old.arbiter anew in
+      ap (λ (v : View). v.next) anew.is in
       let count : new.counts.lost ≡ u64_saturate (count_numbers (gaps_of calls)) = count_is new calls follow in
       let next : ℕ = new.arbiter.view.next in
       let order : AreRanges first (gaps_of calls) next =

@@ -12,7 +12,7 @@ ghost use Rattle.mold_publish.specs.Publishing.{input_published};
 ghost use Rattle.mold_receive.specs.Receiving.{HasBroken, HasEnded, started};
 ghost use Rattle.mold_receive_law.specs.Printed.{AreFed, HasPrinted, HasPrintedAll, HasPrintedLines};
 ghost use Rattle.mold_receive_law.specs.Printed.{HasPrintedPart};
-ghost use Rattle.mold_receiver.specs.View.{fresh};
+ghost use Rattle.mold_receiver.specs.Fresh.{IsNew};
 ghost use Rattle.mold_repair.specs.Stats.{no_counts};
 ghost use Rattle.mold_repair.specs.declared.repairer.Repairer.{Repairer};
 ghost use Rattle.mold_send.specs.PublishLoop.{left_journal};
@@ -49,7 +49,7 @@ pub fn receive_law<D: Datagrams>()
         (journal : JournalState) (input : InputEntries) (old new : Repairer) (before after : PortSetState D.Peer)
         (held_old held_new : Option (List ℕ)) (status : ℕ) → IsOpening journal limit → 1 ≤ first →
         first ≤ length (left_journal (input_published journal input)).messages + 1 →
-        old.arbiter.view ≡ fresh journal.session first window → old.counts ≡ no_counts →
+        IsNew old.arbiter.view journal.session first window → old.counts ≡ no_counts →
         AreFed D.Peer journal limit input (given ++ after.given) →
         HasEnded lines servers format true given (started old before) new after held_old held_new status →
         HasPrinted format (left_journal (input_published journal input)) first status held_old held_new }
@@ -58,7 +58,7 @@ pub fn receive_law<D: Datagrams>()
         (journal : JournalState) (input : InputEntries) (old new : Repairer) (before after : PortSetState D.Peer)
         (held_old held_new : Option (List ℕ)) → IsOpening journal limit → 1 ≤ first →
         first ≤ length (left_journal (input_published journal input)).messages + 1 →
-        old.arbiter.view ≡ fresh journal.session first window → old.counts ≡ no_counts →
+        IsNew old.arbiter.view journal.session first window → old.counts ≡ no_counts →
         AreFed D.Peer journal limit input (given ++ after.given) →
         HasEnded lines servers format true given (started old before) new after held_old held_new 0 →
         HasPrintedAll format (left_journal (input_published journal input)) first held_old held_new }
@@ -67,7 +67,7 @@ pub fn receive_law<D: Datagrams>()
         (published : List (List ℕ)) (old new : Repairer) (before after : PortSetState D.Peer)
         (held_old held_new : Option (List ℕ)) → IsOpening journal limit → 1 ≤ first →
         first ≤ length (left_journal (input_published journal (lines_input published))).messages + 1 →
-        old.arbiter.view ≡ fresh journal.session first window → old.counts ≡ no_counts →
+        IsNew old.arbiter.view journal.session first window → old.counts ≡ no_counts →
         AreFed D.Peer journal limit (lines_input published) (given ++ after.given) →
         HasEnded lines servers Lines true given (started old before) new after held_old held_new 0 →
         HasPrintedLines published first held_old held_new }
@@ -75,7 +75,7 @@ pub fn receive_law<D: Datagrams>()
         (journal : JournalState)
         (input : List ℕ) (old new : Repairer) (before after : PortSetState D.Peer)
         (held_old held_new : Option (List ℕ)) → IsOpening journal limit → IsBytes input →
-        old.arbiter.view ≡ fresh journal.session 1 window → old.counts ≡ no_counts →
+        IsNew old.arbiter.view journal.session 1 window → old.counts ≡ no_counts →
         AreFed D.Peer journal limit (blocks_input input) (given ++ after.given) →
         HasEnded lines servers Blocks true given (started old before) new after held_old held_new 0 →
         Appends held_old held_new input }
@@ -84,7 +84,7 @@ pub fn receive_law<D: Datagrams>()
         (journal : JournalState) (input : InputEntries) (old : Repairer) (before : PortSetState D.Peer)
         (held_old held_new : Option (List ℕ)) → IsOpening journal limit → 1 ≤ first →
         first ≤ length (left_journal (input_published journal input)).messages + 1 →
-        old.arbiter.view ≡ fresh journal.session first window → old.counts ≡ no_counts →
+        IsNew old.arbiter.view journal.session first window → old.counts ≡ no_counts →
         (is : HasBroken lines servers format true given (started old before) held_old held_new) →
         AreFed D.Peer journal limit input (given ++ is.end.ports.given) →
         HasPrintedPart format (left_journal (input_published journal input)) first held_old held_new }

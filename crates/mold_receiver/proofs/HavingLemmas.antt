@@ -88,6 +88,7 @@ undropped_lacks v p well =
     first_none : (a b : Option Message) → option_or a b ≡ None → a ≡ None
     first_none None b none = refl
     first_none (Some m) b none = none
+
     second_none : (a b : Option Message) → option_or a b ≡ None → b ≡ None
     second_none None b none = none
     second_none (Some m) b none = absurd (none_some (sym none))

@@ -1,15 +1,16 @@
 -- Messages that are put into empty slots.
-use Rattle.std.proofs.Common.{◌≡◌, ℕ, suc, ◌+◌, ◌<◌, Bool, true, false, cond, ltb, leb, ◌&&◌, List, [], ◌∷◌}
+use Rattle.std.proofs.Common.{◌≡◌, ℕ, suc, ◌+◌, ◌<◌, ◌≤◌, Bool, true, false, cond, ltb, leb, ◌&&◌, List, [], ◌∷◌}
 use Rattle.std.proofs.Common.{length, slice_set, refl, sym, ap, subst, ◌∙◌, inl, inr, arith, zero, ◌-◌}
 use Rattle.std.specs.Prelude.{Option, None, Some, is_some, is_none, map, slice_get}
+use Rattle.std.specs.List.{filter}
 use Rattle.std.specs.Option.{option_or}
 use Rattle.std.proofs.lemmas.Bool.{cases_Bool, cases_eq, cases_order, cond-true, cond-false, ltb-true, eq-eqb}
 use Rattle.std.proofs.lemmas.Bool.{ne_eqb, le-leb, lt-leb, lt-ltb, le-ltb, and_parts, cases_lt}
 use Rattle.std.proofs.lemmas.List.{length-map, length-set}
 use Rattle.mold_wire.specs.Truth.{message_at}
-use Rattle.mold_receiver.specs.Keeping.{is_fresh, fresh, fresh_messages, put_fresh, filled}
+use Rattle.mold_receiver.specs.Keeping.{count_absent, is_fresh, fresh, fresh_messages, put_fresh, filled}
 use Rattle.mold_receiver.specs.Slots.{Slot, slot_at}
-use Rattle.mold_receiver.specs.Store.{Message}
+use Rattle.mold_receiver.specs.Store.{Message, numbered}
 use Rattle.mold_receiver.proofs.SlotLemmas.{slot_put}
 
 length-put_fresh : (slots : List Slot) (i : ℕ) (m : Message) → length (put_fresh slots i m) ≡ length slots

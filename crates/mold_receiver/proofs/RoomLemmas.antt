@@ -4,8 +4,8 @@ use Rattle.std.proofs.Common.{◌∷◌, length, length-append, refl, sym, ap, s
 use Rattle.std.specs.Prelude.{Option, None, Some, slice_get}
 use Rattle.std.specs.FinMap as finite
 use Rattle.std.specs.Option.{option_or}
-use Rattle.std.proofs.lemmas.Bool.{and_left, and_parts, and_right, cases_Bool, cases_lt, cases_order, cond-false, cond-true}
-use Rattle.std.proofs.lemmas.Bool.{eq-eqb, le-leb, le-ltb, lt-leb, lt-ltb}
+use Rattle.std.proofs.lemmas.Bool.{and_left, and_right, cases_Bool, cases_lt, cases_order, cond-false, cond-true}
+use Rattle.std.proofs.lemmas.Bool.{eq-eqb, le-leb, le-ltb, lt-ltb}
 use Rattle.mold_wire.specs.Block.{blocks}
 use Rattle.mold_wire.specs.Header.{header_bytes}
 use Rattle.mold_wire.specs.Packet.{Spells, count_of, messages_of}

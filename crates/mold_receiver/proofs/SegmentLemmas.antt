@@ -83,6 +83,7 @@ are_with old new key segment are up is few size roomy spare count = record {
     each : (at : ℕ) (s : Segment) → get new.table at ≡ Some s → IsSegment s
     each = each_of old new key (Some segment) up (λ _ s. IsSegment s)
         (λ s e. subst IsSegment (some_same segment s e) is) (λ at s _ had. are.each at s had)
+
     keys : (at : ℕ) (s : Segment) → get new.table at ≡ Some s → at < 2 ^ 32
     keys = each_of old new key (Some segment) up (λ at _. at < 2 ^ 32)
         (λ s e. few) (λ at s _ had. are.keys at s had)
@@ -103,6 +104,7 @@ are_without old new key are up roomy spare count = record {
     each : (at : ℕ) (s : Segment) → get new.table at ≡ Some s → IsSegment s
     each = each_of old new key None up (λ _ s. IsSegment s) (λ s e. absurd (none_some e))
         (λ at s _ had. are.each at s had)
+
     keys : (at : ℕ) (s : Segment) → get new.table at ≡ Some s → at < 2 ^ 32
     keys = each_of old new key None up (λ at _. at < 2 ^ 32) (λ s e. absurd (none_some e))
         (λ at s _ had. are.keys at s had)

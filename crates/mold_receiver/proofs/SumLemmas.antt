@@ -137,6 +137,7 @@ used_few table few keys =
     at_most : (k : ℕ) (o : Option Segment) → get table k ≡ o → count_used o ≤ 4294967295
     at_most k None is = omega arith
     at_most k (Some s) is = few k s is
+
     at_none : (k : ℕ) → 4294967296 ≤ k → (o : Option Segment) → get table k ≡ o → count_used o ≡ 0
     at_none k past None is = refl
     at_none k past (Some s) is = absurd (omega (arith, past, keys k s is))

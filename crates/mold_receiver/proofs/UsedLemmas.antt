@@ -1,5 +1,5 @@
 -- The bytes in use of all segments are those of the stored messages.
-use Rattle.std.proofs.Common.{◌≡◌, ℕ, ◌+◌, ◌<◌, List, length, length-take, refl, sym, ap, ◌∙◌, arith}
+use Rattle.std.proofs.Common.{◌≡◌, ℕ, ◌+◌, ◌<◌, length, length-take, refl, sym, ap, ◌∙◌, arith}
 use Rattle.std.specs.Prelude.{Option, None, Some, slice_index_or}
 use Rattle.slab.specs.Slab.{get}
 use Rattle.mold_receiver.specs.declared.place.Place.{Place}

@@ -1,24 +1,22 @@
 -- Views over slots.
-use Rattle.std.proofs.Common.{◌≡◌, ℕ, zero, suc, ◌+◌, ◌-◌, ◌<◌, ◌≤◌, ◌^◌, max, leb, ltb, ◌&&◌, List, length}
+use Rattle.std.proofs.Common.{◌≡◌, ℕ, zero, suc, ◌+◌, ◌-◌, ◌<◌, ◌≤◌, ◌^◌, max, leb, ltb, List, length}
 use Rattle.std.proofs.Common.{replicate, refl, sym, ap, subst, ◌∙◌, inl, inr, arith, nat_cmp}
 use Rattle.std.specs.Prelude.{Option, None, Some}
 use Rattle.std.specs.FinMap as finite
-use Rattle.std.proofs.lemmas.Bool.{cases_lt, cases_Bool, cond-true, cond-false, le-leb, lt-leb, lt-ltb, ltb-true}
-use Rattle.std.proofs.lemmas.Bool.{and_parts}
-use Rattle.mold_wire.specs.Packet.{messages_of, top_of}
-use Rattle.mold_wire.specs.declared.packet.Packet.{Packet}
+use Rattle.std.proofs.lemmas.Bool.{cases_lt, cond-true, cond-false, le-leb, lt-leb, lt-ltb}
+use Rattle.mold_wire.specs.Packet.{messages_of}
 use Rattle.mold_wire.specs.declared.packet.Body.{Body}
 use Rattle.mold_wire.specs.declared.packet.Body.TheVariants.{Data, Heartbeat, End}
 use Rattle.mold_wire.specs.declared.session.Session.{Session}
 use Rattle.mold_rule.specs.Refusals.{end_below, past_end}
-use Rattle.mold_receiver.specs.Receive.{handed_on, ended_after, view_after}
+use Rattle.mold_receiver.specs.Receive.{ended_after}
 use Rattle.mold_receiver.specs.Slots.{Slot, slot_at, slots_bytes, store_of, count_held}
-use Rattle.mold_receiver.specs.Store.{Message, Store, available}
+use Rattle.mold_receiver.specs.Store.{Message, Store}
 use Rattle.mold_receiver.specs.View.{View, IsRoom, IsWellFormed, IsWithinRoom, view_over}
 use Rattle.mold_receiver.proofs.SizeLemmas.{bytes_slots}
-use Rattle.mold_receiver.proofs.RuleLemmas.{IsBetween, message_bounds, available_cases, none_unless}
+use Rattle.mold_receiver.proofs.RuleLemmas.{IsBetween, none_unless}
 use Rattle.mold_receiver.proofs.SlotLemmas.{get-slots, len-slots}
-use Rattle.mold_receiver.proofs.StoreLemmas.{get-cut, none_some, run_short}
+use Rattle.mold_receiver.proofs.StoreLemmas.{none_some}
 
 pub between_of : (v : View) → IsWellFormed v → IsBetween v.store v.next v.window
 between_of v well q m is = let lies = well.stored q m is in (lies.0, lies.1)

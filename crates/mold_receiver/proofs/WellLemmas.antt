@@ -1,14 +1,14 @@
 -- A view stays well formed when it accepts a packet.
-use Rattle.std.proofs.Common.{◌≡◌, ℕ, ◌+◌, ◌-◌, ◌<◌, ◌≤◌, ◌^◌, max, ltb, ◌&&◌, length, refl, sym, ap, subst, ◌∙◌, inl, inr}
-use Rattle.std.proofs.Common.{List, [], true, false, arith}
+use Rattle.std.proofs.Common.{◌≡◌, ℕ, ◌+◌, ◌-◌, ◌<◌, ◌≤◌, ◌^◌, max, ltb, length, refl, sym, ap, subst, inl, inr}
+use Rattle.std.proofs.Common.{List, [], arith}
 use Rattle.std.specs.Prelude.{None, Some, Ok}
 use Rattle.std.specs.FinMap as finite
-use Rattle.std.proofs.lemmas.Bool.{and_parts, cases_Bool, cases_lt, cond-false, cond-true, lt-ltb, ltb-true}
+use Rattle.std.proofs.lemmas.Bool.{cases_Bool, cases_lt, cond-true, lt-ltb}
 use Rattle.mold_wire.specs.Block.{blocks}
 use Rattle.mold_wire.specs.Packet.{messages_of, top_of}
 use Rattle.mold_wire.specs.declared.packet.Packet.{Packet}
 use Rattle.mold_rule.specs.Refusals.{end_below, past_end}
-use Rattle.mold_receiver.specs.Receive.{Reception, exceeds, handed_on, is_dropped, receive, refusal, undropped, view_after}
+use Rattle.mold_receiver.specs.Receive.{Reception, exceeds, is_dropped, receive, refusal, undropped, view_after}
 use Rattle.mold_receiver.specs.Store.{Message, available, stored_bytes}
 use Rattle.mold_receiver.specs.View.{IsWellFormed, IsWithinRoom, View}
 use Rattle.mold_receiver.proofs.LawLemmas.{cut_had, goes_through, is_taken, not_past}

@@ -1,9 +1,15 @@
 -- A new arbiter.
-use Rattle.std.specs.Prelude.{ℕ, Option, None}
+use Rattle.std.specs.Prelude.{◌≡◌, ℕ, Option, None}
 use Rattle.mold_wire.specs.declared.session.Session.{Session}
 use Rattle.mold_receiver.specs.Arbiter.{Arbitration}
-use Rattle.mold_receiver.specs.View.{fresh_within}
+use Rattle.mold_receiver.specs.View.{IsRoom, View, fresh_within}
 use Rattle.mold_receiver.specs.declared.line.LineReport.{LineReport}
+
+-- The view of a new receiver that starts at `next`. Its store has some valid room.
+pub record IsNew (v : View) (session : Session) (next window : ℕ) : Type 0 where
+  pub room : Option ℕ
+  pub valid : IsRoom room
+  pub is : v ≡ fresh_within room session next window
 
 -- The report of a line on which nothing was received, if the receiver started at `next`.
 abbrev pub fresh_report : ℕ → LineReport

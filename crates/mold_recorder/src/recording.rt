@@ -2,7 +2,7 @@
 
 ghost use Rattle.std.specs.Prelude.{◌≡◌, ◌+◌, [], false, length, IfOk, OnErr};
 ghost use Rattle.mold_receive.specs.Receiving.{datagram_of_first, is_finished, last_line, last_status};
-ghost use Rattle.mold_receiver.specs.View.{fresh};
+ghost use Rattle.mold_receiver.specs.View.{fresh_within};
 ghost use Rattle.mold_recorder.specs.Appending.{IsSaved};
 ghost use Rattle.mold_recorder.specs.Recording.{HasBroken, HasEnded, HasSaid};
 
@@ -17,17 +17,18 @@ use mold_receiver::{Receiver, ReceiverError};
 use mold_repair::laws::order_law;
 use std::alloc::Global;
 
-/// Returns a receiver for the messages that follow those of the journal, with this window. `Receiver::wide` has the
-/// errors.
+/// Returns a receiver for the messages that follow those of the journal, with this window, whose store has room for
+/// `store` bytes. `Receiver::bounded` has the errors.
 pub fn receiver_of<S: Storage>(
     alloc: Global,
     journal: &DurableJournal<S>,
     window: u32,
+    store: Option<u64>,
 ) -> Result<Receiver, ReceiverError>
-    ensures { IfOk result (λ receiver. receiver ≡ fresh journal.now.session
+    ensures { IfOk result (λ receiver. receiver ≡ fresh_within store journal.now.session
         (journal.now.committed + length journal.now.waiting + 1) window) }
 {
-    Receiver::wide(alloc, journal.session(), journal.next(), window)
+    Receiver::bounded(alloc, journal.session(), journal.next(), window, store)
 }
 
 /// Receives a session as `mold_receive::receive_loop` does, and keeps the messages in a durable journal. The repairer

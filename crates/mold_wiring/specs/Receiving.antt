@@ -1,10 +1,11 @@
 -- The repairer that an order of `receive` asks for.
-use Rattle.std.specs.Prelude.{◌≡◌, ℕ, ◌+◌, ◌-◌, ◌*◌, ◌/◌, [], length, min}
-use Rattle.mold_receiver.specs.Fresh.{fresh_arbitration}
+use Rattle.std.specs.Prelude.{◌≡◌, ℕ, ◌+◌, ◌-◌, ◌*◌, ◌/◌, [], length, min, Some}
+use Rattle.mold_receiver.specs.Fresh.{fresh_arbitration_within}
 use Rattle.mold_repair.specs.declared.options.RepairOptions.{RepairOptions}
 use Rattle.mold_repair.specs.declared.repairer.Repairer.{Repairer}
 use Rattle.mold_wire.specs.declared.session.Session.{Session}
-use Rattle.mold_wiring.specs.declared.receiving.TheConstants.{MOST_AT_ONCE, NANOS_PER_MICRO, NANOS_PER_MILLI}
+use Rattle.mold_wiring.specs.declared.receiving.TheConstants.{BYTES_PER_MIB, MOST_AT_ONCE, NANOS_PER_MICRO}
+use Rattle.mold_wiring.specs.declared.receiving.TheConstants.{NANOS_PER_MILLI}
 use Rattle.mold_wiring.specs.declared.receiving.TheConstants.{NANOS_PER_SECOND, SETTLE}
 use Rattle.mold_words.specs.declared.receive_order.ReceiveOrder.{ReceiveOrder}
 
@@ -36,8 +37,9 @@ repair_options order = record {
   audit = order.audit;
 }
 
--- The repairer is new. Its receiver is of this session, starts at message `next`, and has the order's window.
+-- The repairer is new. Its receiver is of this session, starts at message `next`, and has the order's window and room.
 pub record HasRepairerOf (order : ReceiveOrder) (session : Session) (next : ℕ) (repairer : Repairer) : Type 0 where
-  pub arbiter : repairer.arbiter ≡ fresh_arbitration session next order.window
+  pub arbiter :
+      repairer.arbiter ≡ fresh_arbitration_within (Some (order.store * BYTES_PER_MIB)) session next order.window
   pub options : repairer.options ≡ repair_options order
   pub flights : repairer.pacer.flights.items ≡ []

@@ -1,7 +1,6 @@
 //! The parts of the command `receive`.
 
 ghost use Rattle.std.specs.Prelude.{◌≡◌, ◌<◌, IfErr, IfOk, true};
-ghost use Rattle.mold_receiver.specs.View.{fresh};
 ghost use Rattle.mold_repair.specs.Options.{are_options};
 ghost use Rattle.mold_wiring.specs.Receiving.{HasRepairerOf, repair_options, request_bucket, request_interval};
 
@@ -16,6 +15,8 @@ const NANOS_PER_SECOND: u64 = 1_000_000_000;
 const NANOS_PER_MILLI: u64 = 1_000_000;
 
 const NANOS_PER_MICRO: u64 = 1000;
+
+const BYTES_PER_MIB: u64 = 1_048_576;
 
 /// The most requests that are sent at once.
 const MOST_AT_ONCE: u32 = 32;
@@ -67,7 +68,8 @@ pub fn make_repairer(
 ) -> Result<Repairer, AllocError>
     ensures { IfOk result (HasRepairerOf order.now session next) }
 {
-    let Ok(receiver) = Receiver::wide(alloc, session, next, order.window) else {
+    let store = u64::from(order.store) * BYTES_PER_MIB;
+    let Ok(receiver) = Receiver::bounded(alloc, session, next, order.window, Some(store)) else {
         return Err(AllocError);
     };
     match Repairer::new(alloc, Arbiter::new(receiver), repair_options(order)) {

@@ -36,8 +36,8 @@ class Range(NamedTuple):
 class Taken(NamedTuple):
     """What a datagram brought, in messages.
 
-    `delivered` joined the batch: its own and stored ones. `kept` were stored above a gap. `dropped` are above the
-    window, and have to be received again.
+    `delivered` joined the batch: its own and stored ones. `kept` were stored above a gap. `dropped` have to be
+    received again: they are above the window, or the store had no room for the datagram.
     """
 
     delivered: int
@@ -148,13 +148,16 @@ class Listener(BatchReader):
     """Delivers the messages of a session in order, from number `next` on.
 
     A message above a gap is stored if its number is less than N + `window`, where N is the number of the next message.
-    Raises MoldError with the code NEXT_ZERO if `next` is 0, and WINDOW if the window is not 1 to 1,048,576.
+    The store has room for `store` bytes, those of the stored messages and of their length fields; 0 is no limit. If the
+    messages of a datagram that begins above a gap have no room, none of them is stored.
+    Raises MoldError with the code NEXT_ZERO if `next` is 0, WINDOW if the window is not 1 to 1,048,576, and OPTIONS if
+    the store is 1 to 65,506.
     """
 
-    def __init__(self, session: Union[str, Buffer], next: int = 1, window: int = 1024) -> None:
+    def __init__(self, session: Union[str, Buffer], next: int = 1, window: int = 1024, store: int = 0) -> None:
         super().__init__()
-        check(library.mold_listener_new(self._open(), session_of(session), unsigned(next, 64, "next"),
-                                        unsigned(window, 32, "window")))
+        check(library.mold_listener_bounded(self._open(), session_of(session), unsigned(next, 64, "next"),
+                                            unsigned(window, 32, "window"), unsigned(store, 64, "store")))
 
     def take(self, line: int, datagram: Buffer) -> Taken:
         """Takes a datagram of Line.A or Line.B, or a response, for which the line is Line.SERVER.

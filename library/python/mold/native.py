@@ -68,7 +68,7 @@ class mold_repair_options(ctypes.Structure):
     _fields_ = [("size", c_uint64), ("next", c_uint64), ("patience", c_uint64), ("timeout", c_uint64),
                 ("ceiling", c_uint64), ("settle", c_uint64), ("interval", c_uint64), ("window", c_uint32),
                 ("bucket", c_uint32), ("places", c_uint32), ("servers", c_uint32), ("give_up", c_uint32),
-                ("audit", c_uint32)]
+                ("audit", c_uint32), ("store", c_uint64)]
 
 
 class mold_line_stats(ctypes.Structure):
@@ -108,7 +108,7 @@ SIGNATURES = {
     "mold_packer_add": (_CODE, (_HANDLE, *_BYTES)),
     "mold_packer_end": (_CODE, (_HANDLE, _SESSION, c_uint64)),
     "mold_free": (None, (_HANDLE,)),
-    "mold_listener_new": (_CODE, (_HANDLE, _SESSION, c_uint64, c_uint32)),
+    "mold_listener_bounded": (_CODE, (_HANDLE, _SESSION, c_uint64, c_uint32, c_uint64)),
     "mold_listener_take": (_CODE, (_HANDLE, c_uint32, *_BYTES, _TO)),
     "mold_listener_count": (c_size_t, (_HANDLE,)),
     "mold_listener_first": (c_uint64, (_HANDLE,)),

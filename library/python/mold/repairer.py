@@ -46,6 +46,8 @@ class RepairOptions:
     """After how many requests without a response missing messages are given up; 0 is never."""
     audit: int = _DEFAULTS.audit
     """The number of delivered messages of which digests are kept."""
+    store: int = _DEFAULTS.store
+    """The room of the store in bytes, 0 or at least 65,507; 0 is no limit."""
 
     def _struct(self) -> mold_repair_options:
         """The options as the library reads them. Raises ValueError if one does not fit its field."""

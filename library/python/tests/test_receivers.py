@@ -72,6 +72,13 @@ class Listening(unittest.TestCase):
             self.assertEqual((listener.report(Line.A), listener.report(Line.B)), (Report(1, 0, 13), Report(0, 1, 10)))
             self.assertEqual(code_of(listener.report, Line.SERVER), (Code.LINE, None))
 
+    def test_a_full_store(self):
+        self.assertEqual(code_of(mold.Listener, wire.SESSION, 1, 1024, 65506), (Code.OPTIONS, None))
+        with mold.Listener(wire.SESSION, store=65507) as listener:
+            self.assertEqual(listener.take(Line.A, wire.packet(2, bytes(65000))), Taken(0, 1, 0))
+            self.assertEqual(listener.take(Line.A, wire.packet(3, bytes(1000))), Taken(0, 0, 1))
+            self.assertEqual(listener.take(Line.A, wire.packet(1, b"")), Taken(2, 0, 0))
+
     def test_skip(self):
         with mold.Listener(wire.SESSION) as listener:
             listener.take(Line.A, wire.packet(3, b"three"))

@@ -25,7 +25,8 @@ impl Delivered<'_> {
         self.kept
     }
 
-    /// Returns the number of messages of the datagram above the window, which must be received again.
+    /// Returns the number of messages of the datagram that were dropped and must be received again: those above the
+    /// window, or all new ones if the store had no room for the datagram.
     pub fn dropped(&self) -> u32 {
         self.dropped
     }

@@ -74,6 +74,19 @@ impl Listener {
         Handle::filled(|empty| (unsafe { sys::mold_listener_new(empty, &session.0, next, window) }, 0)).map(Self)
     }
 
+    /// Makes a listener as [`new`](Self::new) does, whose store has room for `store` bytes: those of the stored messages
+    /// and of their length fields, 2 for each message. If the messages of a datagram that begins above a gap have no
+    /// room, none of them is stored. A datagram that has the message N needs no room. If `store` is 0, there is no limit.
+    ///
+    /// # Errors
+    ///
+    /// Those of [`new`](Self::new), and [`Options`](Error::Options), if `store` is 1 to 65,506.
+    pub fn bounded(session: Session, next: u64, window: u32, store: u64) -> Result<Self, Error> {
+        // SAFETY: The handle is empty.
+        Handle::filled(|empty| (unsafe { sys::mold_listener_bounded(empty, &session.0, next, window, store) }, 0))
+            .map(Self)
+    }
+
     /// Takes a datagram of a line, or a server's response. Messages that are next in order join the batch: those of
     /// the datagram, and then stored ones. Messages above a gap are stored. Messages that were delivered or stored
     /// before are ignored.

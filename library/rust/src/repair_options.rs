@@ -41,6 +41,8 @@ pub struct RepairOptions {
     /// The number of delivered messages of which digests are kept, at most 1,048,576; default 0. A datagram that has
     /// one of them with other bytes is counted as a contradiction.
     pub audit: u32,
+    /// As that of [`Listener::bounded`](crate::Listener::bounded), 0 or at least 65,507; default 0.
+    pub store: u64,
 }
 
 impl RepairOptions {
@@ -59,6 +61,7 @@ impl RepairOptions {
             servers: self.servers,
             give_up: self.give_up,
             audit: self.audit,
+            store: self.store,
         }
     }
 }
@@ -81,6 +84,7 @@ impl Default for RepairOptions {
             servers: options.servers,
             give_up: options.give_up,
             audit: options.audit,
+            store: options.store,
         }
     }
 }

@@ -99,6 +99,7 @@ pub(crate) struct RepairOptions {
     pub servers: u32,
     pub give_up: u32,
     pub audit: u32,
+    pub store: u64,
 }
 
 #[repr(C)]
@@ -164,6 +165,13 @@ extern "C" {
     pub(crate) fn mold_packer_end(packer: *mut Packer, session: *const [u8; 10], sequence: u64) -> u32;
 
     pub(crate) fn mold_listener_new(listener: *mut Handle, session: *const [u8; 10], next: u64, window: u32) -> u32;
+    pub(crate) fn mold_listener_bounded(
+        listener: *mut Handle,
+        session: *const [u8; 10],
+        next: u64,
+        window: u32,
+        store: u64,
+    ) -> u32;
     pub(crate) fn mold_listener_take(
         listener: *mut Handle,
         line: u32,
@@ -308,8 +316,8 @@ assert_layout!(Range, 16, first 0, last 8);
 assert_layout!(Taken, 24, detail 0, delivered 8, kept 12, dropped 16, unused 20);
 assert_layout!(Delivery, 32, detail 0, offset 8, own 16, stored 20, kept 24, dropped 28);
 assert_layout!(Report, 24, datagrams 0, refused 8, front 16);
-assert_layout!(RepairOptions, 80, size 0, next 8, patience 16, timeout 24, ceiling 32, settle 40, interval 48);
-assert_layout!(RepairOptions, 80, window 56, bucket 60, places 64, servers 68, give_up 72, audit 76);
+assert_layout!(RepairOptions, 88, size 0, next 8, patience 16, timeout 24, ceiling 32, settle 40, interval 48);
+assert_layout!(RepairOptions, 88, window 56, bucket 60, places 64, servers 68, give_up 72, audit 76, store 80);
 assert_layout!(LineStats, 40, datagrams 0, first 8, again 16, refused 24, late 32);
 assert_layout!(RepairStats, 184, next 0, known 8, gap_first 16, gap_last 24, missing 32, stored 40, patience 48);
 assert_layout!(RepairStats, 184, requests 56, answers 64, useless 72, lost 80, contradictions 88, contradiction 96);

@@ -7,6 +7,7 @@ pub struct Taken {
     pub delivered: u32,
     /// The number of its messages that were stored above a gap.
     pub kept: u32,
-    /// The number of its messages above the window, which must be received again.
+    /// The number of its messages that were dropped and must be received again: those above the window, or all new ones if
+    /// the store had no room for the datagram.
     pub dropped: u32,
 }

@@ -1,9 +1,9 @@
 -- What a listener is made of: an arbiter, and the batch of the messages that it delivered.
-use Rattle.std.specs.Prelude.{◌≡◌, ◌⊎◌, ℕ, List, [], Result, Ok, Err, refl}
+use Rattle.std.specs.Prelude.{◌≡◌, ◌⊎◌, ℕ, List, [], Option, None, Result, Ok, Err, refl}
 use Rattle.std.specs.Coded.{Coded, code_by, coded×, coded_list, coded_ℕ}
 use Rattle.mold_receiver.specs.Arbiter.{Arbitration, arbitrated, arbitration_code}
 use Rattle.mold_receiver.specs.Batch.{Handed, Follows, followed_by}
-use Rattle.mold_receiver.specs.Fresh.{fresh_arbitration}
+use Rattle.mold_receiver.specs.Fresh.{fresh_arbitration_within}
 use Rattle.mold_receiver.specs.Origin.{line_of}
 use Rattle.mold_receiver.specs.Receive.{IsCopied, Reception, receive}
 use Rattle.mold_receiver.specs.declared.origin.Origin.{Origin}
@@ -29,10 +29,17 @@ batched_code = code_by (Arbitration × (ℕ × List (List ℕ)))
 abbrev pub IsFollowed : BatchedArbitration → Type 0
 IsFollowed batched = Follows batched.batch batched.arbitration.view.next
 
--- A listener that begins at sequence number `next`: nothing was received on either line, and nothing was delivered.
+-- A listener that begins at sequence number `next`, whose store has this room: nothing was received on either line, and
+-- nothing was delivered.
+abbrev pub begun_within : Option ℕ → Session → ℕ → ℕ → BatchedArbitration
+begun_within room session next window = record {
+  arbitration = fresh_arbitration_within room session next window;
+  batch = record { first = 0; messages = [] };
+}
+
+-- The same for a store without a limit.
 abbrev pub begun : Session → ℕ → ℕ → BatchedArbitration
-begun session next window =
-    record { arbitration = fresh_arbitration session next window; batch = record { first = 0; messages = [] } }
+begun session next window = begun_within None session next window
 
 -- The listener after a datagram, by the result of the receiving rule. Delivered messages join the batch. A refusal only
 -- changes the report of the line.

@@ -5,7 +5,7 @@ use Rattle.mold_pacing.specs.Delays.{no_arrivals, no_delays}
 use Rattle.mold_pacing.specs.State.{fresh}
 use Rattle.mold_pacing.specs.declared.gap.Gap.{Gap}
 use Rattle.mold_receiver.specs.Arbiter.{HasArbitrated, HasRefused}
-use Rattle.mold_receiver.specs.Fresh.{fresh_arbitration}
+use Rattle.mold_receiver.specs.Fresh.{fresh_arbitration_within}
 use Rattle.mold_receiver.specs.Origin.{line_of}
 use Rattle.mold_receiver.specs.declared.taken.Taken.{Taken}
 use Rattle.mold_repair.specs.Auditing.{HasAudited, HasAuditedLoss}
@@ -22,6 +22,7 @@ use Rattle.mold_rule.specs.declared.refusal.Refusal.{Refusal}
 use Rattle.mold_wire.specs.Reading.{reading}
 use Rattle.mold_wire.specs.declared.session.Session.{Session}
 use Rattle.mold_ffi.specs.Listener.BatchedArbiter.{BatchedArbitration}
+use Rattle.mold_ffi.specs.Listener.Room.{room_of}
 use Rattle.mold_ffi.specs.Repairer.MoldRepairOptions.{options_of}
 use Rattle.mold_ffi.specs.declared.repairer.batched_repairer.BatchedRepairer.{BatchedRepairer}
 use Rattle.mold_ffi.specs.declared.repairer.mold_repair_options.MoldRepairOptions.{MoldRepairOptions}
@@ -32,7 +33,7 @@ batched_of timed = record { arbitration = timed.repairer.arbiter; batch = timed.
 
 -- A repairer with these options, before it was passed a time. It received nothing, and delivered nothing.
 pub record IsFresh (session : Session) (fields : MoldRepairOptions) (timed : BatchedRepairer) : Type 0 where
-  pub arbiter : timed.repairer.arbiter ≡ fresh_arbitration session fields.next fields.window
+  pub arbiter : timed.repairer.arbiter ≡ fresh_arbitration_within (room_of fields.store) session fields.next fields.window
   pub batch : timed.batch ≡ record { first = 0; messages = [] }
   pub options : timed.repairer.options ≡ options_of fields
   pub state : timed.repairer.pacer.state ≡ fresh timed.repairer.pacer.options fields.next

@@ -6,7 +6,7 @@ use Rattle.mold_ffi.specs.declared.repairer.mold_repair_options.MoldRepairOption
 
 -- The length of the struct in bytes.
 abbrev pub options_size : ℕ
-options_size = 80
+options_size = 88
 
 -- The defaults. Times are in nanoseconds.
 abbrev pub default_options : MoldRepairOptions
@@ -24,6 +24,7 @@ default_options = record {
   servers = 1;
   give_up = 0;
   audit = 0;
+  store = 0;
 }
 
 -- The options of the repairer with these fields.

@@ -1,14 +1,14 @@
 //! What a listener is made of: an arbiter, and the batch of the messages that it delivered.
 
 ghost use Rattle.std.specs.Prelude.{◌≡◌, ◌↔◌, ◌<◌, [], IfErr, IfNone, IfOk, IfSome, IsTrue, Ok, OnErr, OnOk, Some};
-ghost use Rattle.mold_ffi.specs.Listener.BatchedArbiter.{HasReceived, begun, cleared};
+ghost use Rattle.mold_ffi.specs.Listener.BatchedArbiter.{HasReceived, begun_within, cleared};
 ghost use Rattle.mold_ffi.specs.Listener.Gaps.{MaySkip, Skips};
 ghost use Rattle.mold_ffi.specs.declared.handle.held.Held.TheVariants.{Listener as AListener};
 ghost use Rattle.mold_receiver.specs.Origin.{line_of};
 ghost use Rattle.mold_receiver.specs.Own.{HasArbitratedOwn, HasRefusedOwn};
-ghost use Rattle.mold_receiver.specs.View.{IsWellFormed, IsWideWindow};
+ghost use Rattle.mold_receiver.specs.View.{IsRoom, IsWellFormed, IsWideWindow};
 ghost use Rattle.mold_receiver.specs.declared.origin.Origin.TheVariants as AnOrigin;
-ghost use Rattle.mold_receiver.specs.declared.error.ReceiverError.TheVariants.{NextZero, Window, Memory};
+ghost use Rattle.mold_receiver.specs.declared.error.ReceiverError.TheVariants.{NextZero, Window, Store, Memory};
 
 use crate::code::{BATCH, DONE, MEMORY, NOT_MISSING};
 use mold_receiver::laws::{followed_law, taken_law};
@@ -37,21 +37,23 @@ impl Model for BatchedArbiter {
 }
 
 impl BatchedArbiter {
-    /// A listener that begins at sequence number `next` with a window of `window` messages. The window is allocated
-    /// here; later only messages take memory.
+    /// A listener that begins at sequence number `next` with a window of `window` messages, and a store with this room.
+    /// The window is allocated here; later only messages take memory.
     pub(crate) fn new(
         alloc: Global,
         session: Session,
         next: u64,
         window: u32,
+        room: Option<u64>,
     ) -> Result<BatchedArbiter, ReceiverError>
-        ensures made { IfOk result (λ listener. listener ≡ begun session next window) }
-        ensures ok { OnOk result ((0 < next) × IsWideWindow window) }
+        ensures made { IfOk result (λ listener. listener ≡ begun_within room session next window) }
+        ensures ok { OnOk result ((0 < next) × IsWideWindow window × IsRoom room) }
         ensures zero { next ≡ 0 → IfErr result (λ error. error ≡ NextZero) }
         ensures window { 0 < next → (IsWideWindow window → ⊥) → IfErr result (λ error. error ≡ Window) }
-        ensures memory { 0 < next → IsWideWindow window → IfErr result (λ error. error ≡ Memory) }
+        ensures store { 0 < next → IsWideWindow window → (IsRoom room → ⊥) → IfErr result (λ error. error ≡ Store) }
+        ensures memory { 0 < next → IsWideWindow window → IsRoom room → IfErr result (λ error. error ≡ Memory) }
     {
-        let receiver = Receiver::wide(alloc, session, next, window)?;
+        let receiver = Receiver::bounded(alloc, session, next, window, room)?;
         Ok(BatchedArbiter {
             arbiter: Arbiter::new(receiver),
             batch: Batch::new(alloc),

@@ -7,6 +7,7 @@ ghost use Rattle.mold_ffi.specs.Repairer.Followed.{FollowsIn-prop};
 use crate::checker::mold_range::MoldRange;
 use crate::code::{ABSENT, BATCH, DONE, MEMORY, NEXT_ZERO, OPTIONS, WINDOW};
 use crate::listener::mold_taken::MoldTaken;
+use crate::listener::room::room_of;
 use crate::repairer::mold_repair_options::MoldRepairOptions;
 use crate::repairer::mold_repair_stats::MoldRepairStats;
 use mold_receiver::laws::{followed_law, taken_law};
@@ -30,7 +31,8 @@ pub struct BatchedRepairer {
 
 impl BatchedRepairer {
     ghost use Rattle.std.specs.Prelude.{◌<◌, ◌^◌, ◌-◌, [], true, false, Some, IfErr, IfOk, OnOk, OnErr};
-    ghost use Rattle.mold_receiver.specs.View.{IsWideWindow};
+    ghost use Rattle.mold_receiver.specs.View.{IsRoom, IsWideWindow};
+    ghost use Rattle.mold_ffi.specs.Listener.Room.{room_of};
     ghost use Rattle.mold_ffi.specs.Repairer.BatchedRepairer.{IsCleared, IsFresh};
     ghost use Rattle.mold_ffi.specs.Repairer.Calls.{HasDeadlineAt, LosesAt, PollsAt, TakesAt};
     ghost use Rattle.mold_ffi.specs.Repairer.MoldRepairOptions.{are_fields};
@@ -50,19 +52,24 @@ impl BatchedRepairer {
             IfErr result (λ code. code ≡ codes.NEXT_ZERO) }
         ensures window { are_fields fields.now ≡ true → 0 < fields.now.next → (IsWideWindow fields.now.window → ⊥) →
             IfErr result (λ code. code ≡ codes.WINDOW) }
+        ensures store { are_fields fields.now ≡ true → 0 < fields.now.next → IsWideWindow fields.now.window →
+            (IsRoom (room_of fields.now.store) → ⊥) → IfErr result (λ code. code ≡ codes.OPTIONS) }
         ensures memory { are_fields fields.now ≡ true → 0 < fields.now.next → IsWideWindow fields.now.window →
-            IfErr result (λ code. code ≡ codes.MEMORY) }
+            IsRoom (room_of fields.now.store) → IfErr result (λ code. code ≡ codes.MEMORY) }
         ensures ok { OnOk result (are_fields fields.now ≡ true) }
         ensures begins { OnOk result (0 < fields.now.next) }
         ensures wide { OnOk result (IsWideWindow fields.now.window) }
+        ensures room { OnOk result (IsRoom (room_of fields.now.store)) }
     {
         if !fields.are_valid() {
             return Err(OPTIONS);
         }
-        let receiver = match Receiver::wide(alloc, session, fields.next, fields.window) {
+        let room = room_of(fields.store);
+        let receiver = match Receiver::bounded(alloc, session, fields.next, fields.window, room) {
             Ok(receiver) => receiver,
             Err(ReceiverError::NextZero) => return Err(NEXT_ZERO),
             Err(ReceiverError::Window) => return Err(WINDOW),
+            Err(ReceiverError::Store) => return Err(OPTIONS),
             Err(ReceiverError::Memory) => return Err(MEMORY),
         };
         match Repairer::new(alloc, Arbiter::new(receiver), fields.options()) {

@@ -1,7 +1,8 @@
 //! The calls on a repairer.
 
 ghost use Rattle.std.specs.Prelude.{◌≡◌, ◌⊎◌, ◌<◌, ◌≤◌, ◌^◌, None, Some, is_some, true, false};
-ghost use Rattle.mold_receiver.specs.View.{IsWideWindow};
+ghost use Rattle.mold_ffi.specs.Listener.Room.{room_of};
+ghost use Rattle.mold_receiver.specs.View.{IsRoom, IsWideWindow};
 ghost use Rattle.mold_repair.specs.declared.origin.RepairOrigin.{RepairOrigin as AnOrigin};
 ghost use Rattle.mold_ffi.specs.Handle.Borrow.{IsNoRepairer};
 ghost use Rattle.mold_ffi.specs.Repairer.BatchedRepairer.{IsFresh};
@@ -44,8 +45,11 @@ pub extern "C" fn mold_repairer_new(
         (result ≡ codes.NEXT_ZERO) × (repairer.new.handle.value ≡ None) }
     ensures window { repairer.old.handle.value ≡ None → are_fields options.now ≡ true → 0 < options.now.next →
         (IsWideWindow options.now.window → ⊥) → (result ≡ codes.WINDOW) × (repairer.new.handle.value ≡ None) }
+    ensures store { repairer.old.handle.value ≡ None → are_fields options.now ≡ true → 0 < options.now.next →
+        IsWideWindow options.now.window → (IsRoom (room_of options.now.store) → ⊥) →
+        (result ≡ codes.OPTIONS) × (repairer.new.handle.value ≡ None) }
     ensures made { repairer.old.handle.value ≡ None → are_fields options.now ≡ true → 0 < options.now.next →
-        IsWideWindow options.now.window →
+        IsWideWindow options.now.window → IsRoom (room_of options.now.store) →
         ((result ≡ codes.DONE)
         × HoldsRepairer repairer.new.handle.value (IsFresh (record { 0 = session.now }) options.now))
         ⊎ ((result ≡ codes.MEMORY) × (repairer.new.handle.value ≡ None)) }

@@ -6,7 +6,7 @@ ghost use Rattle.mold_ffi.specs.Repairer.MoldRepairOptions.{are_fields, default_
 use mold_repair::RepairOptions;
 
 // The length of the struct in bytes.
-const SIZE: u64 = 80;
+const SIZE: u64 = 88;
 
 /// What a repairer keeps to. Times are in nanoseconds.
 #[repr(C)]
@@ -39,6 +39,8 @@ pub struct MoldRepairOptions {
     pub give_up: u32,
     /// The number of delivered messages of which digests are kept.
     pub audit: u32,
+    /// The room of the store, in bytes. If it is 0, there is no limit.
+    pub store: u64,
 }
 
 impl MoldRepairOptions {
@@ -60,7 +62,7 @@ impl MoldRepairOptions {
         }
     }
 
-    /// Whether the fields are of this version, and each number except `next` and `window` is in its range.
+    /// Whether the fields are of this version, and each number except `next`, `window` and `store` is in its range.
     pub(crate) fn are_valid(&self) -> bool
         ensures { result ≡ are_fields self.now }
     {
@@ -88,5 +90,6 @@ pub extern "C" fn mold_repair_options_default(options: &mut MoldRepairOptions)
         servers: 1,
         give_up: 0,
         audit: 0,
+        store: 0,
     };
 }

@@ -91,6 +91,8 @@ fn a_listener_has_a_first_number_and_a_window() {
     assert_eq!(Listener::new(SESSION, 0, 1).unwrap_err(), Error::NextZero);
     assert_eq!(Listener::new(SESSION, 1, 0).unwrap_err(), Error::Window);
     assert_eq!(Listener::new(SESSION, 1, 1_048_577).unwrap_err(), Error::Window);
+    assert_eq!(Listener::bounded(SESSION, 1, 1, 65_506).unwrap_err(), Error::Options);
+    assert_eq!(Listener::bounded(SESSION, 7, 1, 65_507).unwrap().next(), 7);
     let listener = Listener::new(SESSION, 7, 1).unwrap();
     assert_eq!((listener.next(), listener.known()), (7, 7));
 }

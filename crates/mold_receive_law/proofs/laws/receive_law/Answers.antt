@@ -19,6 +19,7 @@ laws g c = record {
     count = c.lost_count_law.ensures;
   };
   opening = record { answers = c.published_law.ensures.answers; begins = c.honest_stays_law.ensures.fresh };
+  within = c.honest_stays_law.ensures.within;
   fed = c.fed_law.ensures;
 }
 

@@ -2,7 +2,7 @@ use Rattle.std.proofs.Common.{sym, ap, subst, ◌∙◌, Option, None, Some}
 use Rattle.mold_receiver.specs.Arbiter.{Arbitration, HasArbitrated, IsArbitration, arbitrated, reports_taken}
 use Rattle.mold_receiver.specs.Origin.{line_of}
 use Rattle.mold_receiver.specs.declared.line.Line.{Line}
-use Rattle.mold_receiver.proofs.ArbiterLemmas.{taken_kept}
+use Rattle.mold_receiver.proofs.ArbiterLemmas.{answer_kept, taken_kept}
 use Rattle.mold_receiver.proofs.arbiter.Arbiter.take_top.Goals as goal
 
 pub invariant_of-self : goal.invariant_of-self
@@ -14,6 +14,14 @@ invariant_of-self c =
     subst IsArbitration (λ i. record { view = sym told.view i; reports = sym reports i })
     (taken_kept c.in-Line.line
     (record { view = a.receiver; reports = a.reports }) c.args.bytes.now told.reception c.self.invariant told.received)
+
+pub invariant_of-self-in-Ok : goal.invariant_of-self-in-Ok
+invariant_of-self-in-Ok c =
+    let a = c.self.inside in
+    let told = rw c.in-Ok.is at c.accept.ensures.taken in
+    subst IsArbitration (λ i. record { view = sym told.view i; reports = a.reports })
+    (answer_kept (record { view = a.receiver; reports = a.reports }) c.args.bytes.now told.reception c.self.invariant
+    told.received)
 
 pub returns-in-Line-clause-taken : goal.returns-in-Line-clause-taken
 returns-in-Line-clause-taken c =

@@ -1,4 +1,4 @@
-use Rattle.std.proofs.Common.{List, subst, sym, arith, None}
+use Rattle.std.proofs.Common.{List, subst, sym, arith, None, refl}
 use Rattle.std.proofs.lemmas.List.{length-replicate}
 use Rattle.mold_receiver.specs.Slots.{Slot}
 use Rattle.mold_receiver.specs.View.{IsWellFormed, view_over}
@@ -10,7 +10,7 @@ invariant_of-result c =
     subst (λ (slots : List Slot). IsWellFormed (view_over c.args.store c.args.session c.args.next c.args.next None slots))
     (sym c.in-Ok.ensures)
     (fresh_well c.args.store c.args.session c.args.next c.args.window (omega (arith, c.if-next-eq0.false))
-    (omega (arith, c.ranges.next.fits)) c.if-is_room.ensures)
+    (omega (arith, c.ranges.next.fits)) (c.if-not-is_room.ensures.0 refl))
 
 pub returns-in-Ok-clause-made : goal.returns-in-Ok-clause-made
 returns-in-Ok-clause-made c =

@@ -7,8 +7,8 @@ pub returns-then-self-packet-clause-taken : goal.returns-then-self-packet-clause
 returns-then-self-packet-clause-taken c =
     let v = c.args.self.now in
     let p = c.args.packet.now in
-    subst (λ (b : Body). IfOk c.keep.result (λ taken. HasTakenPacket v (record p { body = b }) c.keep.new.self taken))
-    (sym c.in-Data.is) c.keep.ensures.taken
+    subst (λ (b : Body). IfOk c.keep_or_drop.result (λ taken. HasTakenPacket v (record p { body = b }) c.keep_or_drop.new.self taken))
+    (sym c.in-Data.is) c.keep_or_drop.ensures.taken
 
 pub returns-clause-taken : goal.returns-clause-taken
 returns-clause-taken c =

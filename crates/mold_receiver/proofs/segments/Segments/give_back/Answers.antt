@@ -1,4 +1,4 @@
-use Rattle.std.proofs.Common.{◌≡◌, Some, sym, ap, ◌∙◌, refl, arith}
+use Rattle.std.proofs.Common.{◌≡◌, Some, sym, refl, arith}
 use Rattle.slab.specs.Slab.{get}
 use Rattle.mold_receiver.proofs.SegmentLemmas.{are_without, counted_gone}
 use Rattle.mold_receiver.proofs.segments.Segments.give_back.Goals as goal

@@ -1,5 +1,5 @@
-use Rattle.std.proofs.Common.{◌≡◌, ap, sym, ◌∙◌, refl, arith}
-use Rattle.slab.specs.Slab.{Slab, Updates}
+use Rattle.std.proofs.Common.{ap, refl, arith}
+use Rattle.slab.specs.Slab.{Slab}
 use Rattle.mold_receiver.specs.declared.segment.Segment.{Segment}
 use Rattle.mold_receiver.proofs.SegmentLemmas.{are_with, counted_new, new_segment, updates_kept}
 use Rattle.mold_receiver.proofs.segments.Segments.open.Goals as goal
