@@ -2,6 +2,7 @@ pub mod HeldLemmas
 pub mod HeaderLemmas
 pub mod TakingLemmas
 pub mod GapLemmas
+pub mod FrontLemmas
 pub mod RoomLemmas
 pub mod PollLemmas
 pub mod PollStepLemmas

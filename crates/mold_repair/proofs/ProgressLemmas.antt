@@ -43,7 +43,7 @@ same_view : (v w : View) → IsWellFormed v → w ≡ v → Continues v w
 same_view v w well same =
     subst (Continues v) (sym same) (record { well_formed = well; ahead = omega arith; has = λ number has. has; room = refl })
 
-taken_on : ReceiverLaws → (v : View) (bytes : List ℕ) (r : Reception) → IsWellFormed v → receive v bytes ≡ Ok r →
+pub taken_on : ReceiverLaws → (v : View) (bytes : List ℕ) (r : Reception) → IsWellFormed v → receive v bytes ≡ Ok r →
     Continues v r.view
 taken_on laws v bytes r well is =
     let packet = laws.taken v bytes r is in

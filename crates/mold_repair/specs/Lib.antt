@@ -4,6 +4,7 @@ pub mod Came
 pub mod Header
 pub mod Missing
 pub mod Gaps
+pub mod Front
 pub mod Timing
 pub mod Taking
 pub mod GivingUp

@@ -3,7 +3,7 @@
 ghost use Rattle.std.specs.Prelude.{◌≡◌, ◌+◌, ◌∷◌, []};
 ghost use Rattle.mold_wire.specs.Reading.{reading};
 ghost use Rattle.mold_pacing.specs.declared.step.Step.TheVariants.{Arrive};
-ghost use Rattle.mold_repair.specs.Came.{came_below, filled_steps, held_end, held_from, noted_from, numbers};
+ghost use Rattle.mold_repair.specs.Came.{came_below, filled_steps, held_end, held_from, noted, noted_from, numbers};
 ghost use Rattle.mold_repair.specs.Came.{response_steps};
 ghost use Rattle.mold_repair.specs.Taking.{HasLearned};
 ghost use Rattle.mold_repair.specs.Timing.{is_timed};
@@ -28,9 +28,9 @@ pub(crate) fn numbers_of(datagram: &[u8]) -> Gap
     }
 }
 
-/// Returns the numbers of the datagram's messages that are below `next` plus `window`. The range is empty if the
-/// datagram has no message, or all are past the window.
-pub(crate) fn came_below(datagram: &[u8], next: u64, window: u32) -> Gap
+// Returns the numbers of the datagram's messages that are below `next` plus `window`. The range is empty if the
+// datagram has no message, or all are past the window.
+fn came_below(datagram: &[u8], next: u64, window: u32) -> Gap
     ensures { result ≡ came_below (next + window) (reading datagram.now) }
 {
     let came = numbers_of(datagram);
@@ -96,9 +96,9 @@ fn report_response(pacer: &mut Pacer, origin: RepairOrigin, came: Gap)
     pacer.respond(server, came);
 }
 
-/// Reports to the pacer what a datagram with these numbers brought. A request is no longer in flight if they were the
-/// last of its numbers that were missing.
-pub(crate) fn report(arbiter: &Arbiter, pacer: &mut Pacer, origin: RepairOrigin, came: Gap)
+// Reports to the pacer what a datagram with these numbers brought. A request is no longer in flight if they were the
+// last of its numbers that were missing.
+fn report(arbiter: &Arbiter, pacer: &mut Pacer, origin: RepairOrigin, came: Gap)
     ensures learned { HasLearned pacer.old pacer.new (noted_from origin came arbiter.now.view pacer.old.state.now
         pacer.old.flights.items) }
     ensures now { pacer.new.state.now ≡ pacer.old.state.now }
@@ -111,6 +111,18 @@ pub(crate) fn report(arbiter: &Arbiter, pacer: &mut Pacer, origin: RepairOrigin,
     report_response(pacer, origin, came);
     report_from(arbiter, pacer, came.first);
     report_filled(arbiter, pacer, request);
+}
+
+/// Reports to the pacer what a datagram brought that was accepted.
+pub(crate) fn note(arbiter: &Arbiter, pacer: &mut Pacer, origin: RepairOrigin, datagram: &[u8])
+    ensures noted { HasLearned pacer.old pacer.new (noted origin datagram.now arbiter.now.view pacer.old.state.now
+        pacer.old.flights.items) }
+    ensures now { pacer.new.state.now ≡ pacer.old.state.now }
+    ensures options { pacer.new.options ≡ pacer.old.options }
+{
+    let receiver = arbiter.receiver();
+    let came = came_below(datagram, receiver.next(), receiver.window());
+    report(arbiter, pacer, origin, came);
 }
 
 /// Returns whether a datagram with this head counts for the delays between the lines.

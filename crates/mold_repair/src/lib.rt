@@ -6,6 +6,7 @@ mod ask;
 mod auditing;
 mod came;
 mod error;
+mod front;
 mod gaps;
 mod header;
 pub mod laws;

@@ -1,12 +1,15 @@
 //! The repairer: a receiver of two lines that requests what is missing.
 
 ghost use Rattle.std.specs.Prelude.{◌≡◌, ◌≤◌, ◌<◌, ◌^◌, true};
+ghost use Rattle.mold_receiver.specs.View.{IsWellFormed};
+ghost use Rattle.mold_repair.specs.Front.{IsFront};
 ghost use Rattle.mold_repair.specs.Options.{ArePacerOptions, are_options};
 
 use crate::ask::Ask;
 use crate::auditing::audit_taken;
-use crate::came::{came_below, is_timed, report};
+use crate::came::{is_timed, note};
 use crate::error::RepairError;
+use crate::front::Front;
 use crate::gaps::find_free;
 use crate::header::head_in;
 use crate::line_stats::LineStats;
@@ -16,10 +19,16 @@ use crate::stats::{RepairCounts, RepairStats};
 use mold_audit::Audit;
 use mold_audit::laws::next_law;
 use mold_pacing::{Arrival, Delays, Gap, Pacer};
-use mold_receiver::laws::{taken_law, wanted_law};
+use mold_receiver::laws::{having_law, taken_law, wanted_law, well_formed_law};
 use mold_receiver::{Accepted, Arbiter, Batch, Line, Refusal, Taken};
 use mold_wire::Request;
 use std::alloc::{AllocError, Global};
+
+// No number is below it.
+const NO_FRONT: Front = Front {
+    number: 0,
+    until: 0,
+};
 
 /// A receiver of two lines that requests what is missing. It has no socket and no clock: its caller hands in the
 /// datagrams and the time, sends the requests that `poll` returns, and calls `poll` again at the `deadline`.
@@ -35,9 +44,13 @@ pub struct Repairer {
     counts: RepairCounts,
     // The digests of what was delivered.
     audit: Audit,
+    // Where the next search for a number that may be requested begins.
+    front: Front,
     ghost valid: { are_options options ≡ true },
     ghost paced: { ArePacerOptions options pacer.options },
     ghost noted: { audit.next ≤ arbiter.view.next },
+    ghost formed: { IsWellFormed arbiter.view },
+    ghost fronted: { IsFront arbiter.view pacer.flights.items front.number front.until },
 }
 
 impl Repairer {
@@ -92,6 +105,8 @@ impl Repairer {
         if !options.are_valid() {
             return Err(RepairError::Options);
         }
+        // For the proof: it ensures that the view is well-formed.
+        let _wanted = arbiter.receiver().wanted();
         let Ok(pacer) = Pacer::new(alloc, options.pacer(), arbiter.receiver().known()) else {
             return Err(RepairError::Memory);
         };
@@ -108,26 +123,11 @@ impl Repairer {
             delays,
             counts: RepairCounts::new(),
             audit,
+            front: NO_FRONT,
         })
     }
 
-    // Reports to the pacer what a datagram brought that was accepted.
-    fn note(&mut self, origin: RepairOrigin, datagram: &[u8])
-        ensures noted { HasLearned self.old.pacer self.new.pacer (noted origin datagram.now self.old.arbiter.view
-            self.old.pacer.state.now self.old.pacer.flights.items) }
-        ensures now { self.new.pacer.state.now ≡ self.old.pacer.state.now }
-        ensures arbiter { self.new.arbiter ≡ self.old.arbiter }
-        ensures options { self.new.options ≡ self.old.options }
-        ensures counts { self.new.counts ≡ self.old.counts }
-        ensures delays { self.new.delays ≡ self.old.delays }
-        ensures audit { self.new.audit ≡ self.old.audit }
-    {
-        let receiver = self.arbiter.receiver();
-        let came = came_below(datagram, receiver.next(), receiver.window());
-        report(&self.arbiter, &mut self.pacer, origin, came);
-    }
-
-    // Does the same for a datagram of a line.
+    // Reports to the pacer what a datagram brought that was accepted, from a line.
     // For the optimizer: if it is inlined, `take` takes up to a tenth longer, also for datagrams in order. It takes the
     // line, because an origin would be written to memory before each test whether this is called.
     #[inline(never)]
@@ -141,7 +141,12 @@ impl Repairer {
         ensures delays { self.new.delays ≡ self.old.delays }
         ensures audit { self.new.audit ≡ self.old.audit }
     {
-        self.note(RepairOrigin::Line(line), datagram);
+        note(
+            &self.arbiter,
+            &mut self.pacer,
+            RepairOrigin::Line(line),
+            datagram,
+        );
     }
 
     // Does the same for a response.
@@ -157,7 +162,13 @@ impl Repairer {
         ensures delays { self.new.delays ≡ self.old.delays }
         ensures audit { self.new.audit ≡ self.old.audit }
     {
-        self.note(RepairOrigin::Server(server), datagram);
+        note(
+            &self.arbiter,
+            &mut self.pacer,
+            RepairOrigin::Server(server),
+            datagram,
+        );
+        self.front = NO_FRONT;
     }
 
     // Does the same if messages were missing before the datagram. Otherwise no request can be for its numbers.
@@ -247,6 +258,8 @@ impl Repairer {
         ensures audit { OnErr result (self.new.audit ≡ self.old.audit) }
     {
         taken_law();
+        having_law();
+        well_formed_law();
         next_law();
         let receiver = self.arbiter.receiver();
         let known = receiver.known();
@@ -329,10 +342,12 @@ impl Repairer {
         ensures audit { OnErr result (self.new.audit ≡ self.old.audit) }
     {
         next_law();
+        well_formed_law();
         self.pacer.advance(now, self.arbiter.receiver().known());
         let Some(gap) = self.given_up() else {
             return Ok(None);
         };
+        self.front = NO_FRONT;
         self.arbiter.skip(gap.end, batch)?;
         let next = self.arbiter.receiver().next();
         self.audit.note_from(gap.end, batch, 0);
@@ -360,9 +375,12 @@ impl Repairer {
             return None;
         }
         if !self.pacer.can_send() {
+            self.pacer.note_full();
             return None;
         }
-        let gap = find_free(&self.arbiter, &self.pacer)?;
+        let found = find_free(&self.arbiter, &self.pacer, self.front);
+        self.front = found.front;
+        let gap = found.gap?;
         self.pacer.poll(&[gap])
     }
 
@@ -420,7 +438,7 @@ impl Repairer {
             slice_get self.now.pacer.flights.items i ≡ Some f → f.until ≤ time → f.until ≤ self.now.pacer.state.now }
     {
         let over = self.pacer.next_over();
-        let Some(gap) = find_free(&self.arbiter, &self.pacer) else {
+        let Some(gap) = find_free(&self.arbiter, &self.pacer, self.front).gap else {
             return over;
         };
         let time = self.pacer.deadline(gap.first);

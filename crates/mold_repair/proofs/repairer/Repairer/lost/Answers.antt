@@ -1,6 +1,8 @@
-use Rattle.std.proofs.Common.{◌∙◌, Result, Ok, Err, ap, refl, sym}
+use Rattle.std.proofs.Common.{◌∙◌, Result, Ok, Err, ap, arith, refl, subst, sym}
 use Rattle.std.specs.Prelude.{OnErr}
-use Rattle.mold_receiver.specs.View.{View}
+use Rattle.mold_receiver.specs.Arbiter.{Arbitration}
+use Rattle.mold_receiver.specs.View.{IsWellFormed, View}
+use Rattle.mold_repair.proofs.FrontLemmas.{no_front}
 use Rattle.mold_repair.proofs.TakingLemmas.{advanced_by, arrived_by, passed}
 use Rattle.mold_repair.proofs.repairer.Repairer.lost.Goals as goal
 
@@ -40,3 +42,14 @@ returns-clause-lost c =
             c.arrive.ensures.options c.arrive.ensures.state c.arrive.ensures.flights;
       };
     }
+
+pub invariant_of-self-2-clause-formed : goal.invariant_of-self-2-clause-formed
+invariant_of-self-2-clause-formed c =
+    let old = c.args.self.now in
+    let given = c.in-Some.ensures.some in
+    subst IsWellFormed (sym (ap (λ (a : Arbitration). a.view) c.in_ok-skip.ensures.skipped))
+    (c.well_formed_law.ensures.skipped old.arbiter.view c.in-Some.gap.end old.formed
+    (omega (arith, given.first, given.some)) given.missing.0)
+
+pub invariant_of-self-2-clause-fronted : goal.invariant_of-self-2-clause-fronted
+invariant_of-self-2-clause-fronted c = no_front c.skip.new.self.view c.arrive.new.self.flights.items

@@ -11,7 +11,7 @@ returns-then-self-eq0-clause-still c =
     let p = c.args.self.now.pacer in
     λ time from before number wants can. c.deadline-time.ensures.least time from before (record {
       opened = can.opened;
-      free = free_stays p.flights.items p.state.now time c.in-Some.gap.first from c.in-Some.ensures.some.free;
+      free = free_stays p.flights.items p.state.now time c.in-Some.gap.first from (rw c.in-Some.is at c.find_free.ensures.some).free;
       room = can.room;
     })
 
@@ -21,7 +21,7 @@ returns-clause-still c =
     λ time from before number wants can. c.deadline-time.ensures.least time from (omega (arith, c.min.ensures, before))
     (record {
       opened = can.opened;
-      free = free_stays p.flights.items p.state.now time c.in-Some.gap.first from c.in-Some.ensures.some.free;
+      free = free_stays p.flights.items p.state.now time c.in-Some.gap.first from (rw c.in-Some.is at c.find_free.ensures.some).free;
       room = can.room;
     })
 

@@ -17,6 +17,10 @@ use Rattle.mold_repair.specs.Stats.{counted_taken}
 use Rattle.mold_repair.specs.declared.stats.RepairCounts.{RepairCounts}
 use Rattle.mold_repair.proofs.AuditLemmas.{is_delivered, noted_last, noted_within}
 use Rattle.mold_repair.proofs.CountLemmas.{counted_either}
+use Rattle.mold_pacing.specs.declared.flight.Flight.{Flight}
+use Rattle.mold_repair.specs.Front.{IsFront}
+use Rattle.mold_repair.proofs.FrontLemmas.{front_continues, taken_continues}
+use Rattle.mold_repair.proofs.ProgressLemmas.{ReceiverLaws}
 use Rattle.mold_repair.proofs.LossLemmas.{contradicted_lost, taken_lost}
 use Rattle.mold_repair.proofs.TakingLemmas.{advanced_now, learned_all, passed}
 use Rattle.mold_repair.proofs.repairer.Repairer.take.Goals as goal
@@ -123,3 +127,34 @@ returns-in-Ok-clause-given_up c =
     ∙ taken_lost c.args.origin c.in-Ok.field-0.taken c.contradict.new.self
     ∙ ap (λ (k : RepairCounts). k.lost) c.contradict.ensures
     ∙ contradicted_lost c.audit_taken-found.result c.args.self.now.counts
+
+pub invariant_of-self-clause-formed : goal.invariant_of-self-clause-formed
+invariant_of-self-clause-formed c =
+    let old = c.args.self.now in
+    let laws : ReceiverLaws = record {
+      taken = c.taken_law.ensures;
+      received = c.well_formed_law.ensures.received;
+      gave_up = c.well_formed_law.ensures.skipped;
+      keeps = c.having_law.ensures.received;
+      keeps_skipped = c.having_law.ensures.skipped;
+    } in
+    let on = taken_continues laws (line_of c.receiver_origin.result) c.args.datagram.now old.arbiter c.take_top.new.self
+    c.args.batch.now c.take_top.new.batch c.in-Ok.field-0.taken c.in-Ok.ensures.taken old.formed in
+    on.0.well_formed
+
+pub invariant_of-self-clause-fronted : goal.invariant_of-self-clause-fronted
+invariant_of-self-clause-fronted c =
+    let old = c.args.self.now in
+    let laws : ReceiverLaws = record {
+      taken = c.taken_law.ensures;
+      received = c.well_formed_law.ensures.received;
+      gave_up = c.well_formed_law.ensures.skipped;
+      keeps = c.having_law.ensures.received;
+      keeps_skipped = c.having_law.ensures.skipped;
+    } in
+    let on = taken_continues laws (line_of c.receiver_origin.result) c.args.datagram.now old.arbiter c.take_top.new.self
+    c.args.batch.now c.take_top.new.batch c.in-Ok.field-0.taken c.in-Ok.ensures.taken old.formed in
+    let number = old.front.number in
+    let until = old.front.until in
+    front_continues old.arbiter.view c.take_top.new.self.view c.advance.new.self.flights.items number until on.0 on.1
+    (subst (λ (fs : List Flight). IsFront old.arbiter.view fs number until) (sym c.advance.ensures.flights) old.fronted)
