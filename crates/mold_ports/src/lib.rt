@@ -6,6 +6,7 @@ mod memory_port;
 mod outlook;
 mod step;
 mod udp_port;
+mod waiting;
 
 pub use datagrams::Datagrams;
 pub use memory_port::MemoryPort;

@@ -7,8 +7,8 @@ ghost use Rattle.mold_ports.specs.declared.outlook.Outlook.TheVariants.{Quiet};
 
 use crate::datagrams::Datagrams;
 use crate::outlook::Outlook;
-use libc::net::{POLLIN, POLLOUT, SO_RCVBUF, SOL_SOCKET, poll, setsockopt};
-use libc::types::pollfd;
+use crate::waiting::{NO_DESCRIPTOR, time_after, wait_for, wait_until, watched};
+use libc::net::{POLLIN, POLLOUT, SO_RCVBUF, SOL_SOCKET, setsockopt};
 use mold_devices::DeviceFault;
 use std::io;
 use std::io::ErrorKind;
@@ -27,17 +27,14 @@ const ANSWER_WAIT: u16 = 2;
 /// The number of bytes of datagrams not received yet that the system is asked to keep. It may keep fewer.
 const RECEIVE_BUFFER: i32 = 1 << 22;
 
-/// The value that `poll` takes for no descriptor.
-const NO_DESCRIPTOR: RawFd = -1;
-
 /// A UDP socket over IPv4 as a port. A receive waits at most 100 milliseconds for a datagram. It returns `None` only
 /// if the system reports that no datagram is here. If the port is beside others, the wait ends early when one of them
 /// has a datagram. The table at [`Outlook`] states what a receive does first. After a send, the first two milliseconds
 /// of the wait are only for the response.
 ///
-/// A receive fails if the system refuses or interrupts its wait. It also fails if a datagram was here and cannot be
-/// taken, for example because of a wrong checksum. The port allocates no memory. Its socket is closed when the port is
-/// dropped.
+/// A receive fails if the system refuses its wait. It also fails if a datagram was here and cannot be taken, for
+/// example because of a wrong checksum. If a signal interrupts a wait, the wait goes on for the rest of its time. The
+/// port allocates no memory. Its socket is closed when the port is dropped.
 #[derive(Drop)]
 pub struct UdpPort {
     socket: UdpSocket,
@@ -107,8 +104,7 @@ impl UdpPort {
         self.beside[0] == NO_DESCRIPTOR
     }
 
-    // Takes a datagram that is here, or returns `None`. If the port is alone, this waits for a datagram at most the
-    // port's time.
+    // Takes a datagram that is here, or returns `None`. The port is beside others, so this does not wait.
     fn take(&self, buffer: &mut [u8]) -> Result<Option<(usize, SocketAddr)>, DeviceFault>
         ensures { IfOk result (λ answer. IfSome answer (λ found. found.0 ≤ length buffer.new)) }
     {
@@ -159,12 +155,34 @@ impl UdpPort {
         }
     }
 
+    // Takes the next datagram of a port that is alone, or returns `None` if none comes within the port's time. If a
+    // signal interrupts the wait, it goes on for the rest of the time.
+    fn take_alone(&self, buffer: &mut [u8]) -> Result<Option<(usize, SocketAddr)>, DeviceFault>
+        ensures { IfOk result (λ answer. IfSome answer (λ found. found.0 ≤ length buffer.new)) }
+    {
+        let until = time_after(WAIT);
+        for _ in 0..u64::MAX {
+            match self.socket.recv_from(buffer) {
+                Ok(found) => return Ok(Some(found)),
+                Err(error) if error.kind() == ErrorKind::WouldBlock => return Ok(None),
+                Err(error) if error.kind() == ErrorKind::Interrupted => {}
+                Err(_) => return Err(DeviceFault),
+            }
+            let mut asked = [watched(self.socket.as_raw_fd(), POLLIN)];
+            wait_until(&mut asked, until, WAIT)?;
+            if asked[0].revents == 0 {
+                return Ok(None);
+            }
+        }
+        Err(DeviceFault)
+    }
+
     // Takes a datagram that is here or comes within the port's time, or returns `None`.
     fn take_in_time(&self, buffer: &mut [u8]) -> Result<Option<(usize, SocketAddr)>, DeviceFault>
         ensures { IfOk result (λ answer. IfSome answer (λ found. found.0 ≤ length buffer.new)) }
     {
         if self.is_alone() {
-            return self.take(buffer);
+            return self.take_alone(buffer);
         }
         if self.outlook == Outlook::Busy {
             if let Some(found) = self.take(buffer)? {
@@ -174,17 +192,25 @@ impl UdpPort {
         self.take_after_wait(buffer)
     }
 
-    // Sends a datagram. If the port is beside other ports, it waits until the system has room for the datagram.
+    // Sends a datagram. If the system has no room for it and the port is beside other ports, or a signal interrupts the
+    // wait for room, this waits for room and sends it again.
     fn send_in_time(&self, to: SocketAddr, bytes: &[u8]) -> io::Result<usize> {
         let sent = self.socket.send_to(bytes, to);
-        if self.is_alone()
-            || !matches!(&sent, Err(error) if error.kind() == ErrorKind::WouldBlock)
-        {
+        if !self.waits_for_room(&sent) {
             return sent;
         }
         let mut asked = [watched(self.socket.as_raw_fd(), POLLOUT)];
         let _ = wait_for(&mut asked, WAIT);
         self.socket.send_to(bytes, to)
+    }
+
+    // Whether a datagram may be sent once the system has room for it.
+    fn waits_for_room(&self, sent: &io::Result<usize>) -> bool {
+        match sent {
+            Ok(_) => false,
+            Err(error) if error.kind() == ErrorKind::WouldBlock => !self.is_alone(),
+            Err(error) => error.kind() == ErrorKind::Interrupted,
+        }
     }
 
     // Counts a failure.
@@ -257,22 +283,4 @@ fn open<R: Net>(rt: &R, address: SocketAddrV4) -> io::Result<(UdpSocket, SocketA
     let _ = unsafe { setsockopt(socket.as_raw_fd(), SOL_SOCKET, SO_RCVBUF, &size, 4) };
     let address = socket.local_addr()?;
     Ok((socket, address))
-}
-
-// Waits until one of the descriptors is ready, at most `time` milliseconds.
-fn wait_for(asked: &mut [pollfd], time: u16) -> Result<(), DeviceFault> {
-    if poll(asked, i32::from(time)) < 0 {
-        return Err(DeviceFault);
-    }
-    Ok(())
-}
-
-// Returns the entry for `poll` that reports whether the descriptor is ready for these events. `NO_DESCRIPTOR` never
-// is.
-fn watched(descriptor: RawFd, events: i16) -> pollfd {
-    pollfd {
-        fd: descriptor,
-        events,
-        revents: 0,
-    }
 }
