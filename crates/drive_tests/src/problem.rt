@@ -51,7 +51,7 @@ impl From<JournalFileError> for Problem {
     fn from(error: JournalFileError) -> Problem {
         match error {
             JournalFileError::Locked => Problem::Locked,
-            JournalFileError::Write => Problem::File,
+            JournalFileError::Write | JournalFileError::Obstructed(_) => Problem::File,
             JournalFileError::Memory => Problem::Device,
         }
     }

@@ -9,6 +9,7 @@ pub mod Head
 pub mod Life
 pub mod Memory
 pub mod MessageTaker
+pub mod Obstacle
 pub mod Opened
 pub mod Reading
 pub mod ScriptedFile

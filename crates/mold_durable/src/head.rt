@@ -1,8 +1,8 @@
 //! The head of a journal's storage: the magic bytes of version 3 and the session's name.
 
-ghost use Rattle.std.specs.Prelude.{◌≡◌, ◌<◌, ◌≤◌, ◌++◌, ◌∷◌, [], false, length, IfOk, IfErr, OnOk};
+ghost use Rattle.std.specs.Prelude.{◌≡◌, ◌↔◌, ◌<◌, ◌≤◌, ◌++◌, ◌∷◌, [], false, length, IfOk, IfErr, IsTrue, OnOk};
 ghost use Rattle.mold_devices.specs.Devices.{Counts};
-ghost use Rattle.mold_durable.specs.Head.{IsNoneOrEmpty};
+ghost use Rattle.mold_durable.specs.Head.{IsNoneOrEmpty, IsStart, IsUnfinished};
 ghost use Rattle.mold_durable.specs.Reading.{HeadFault};
 ghost use Rattle.mold_session.specs.Records.{SpellsJournal3, head_3, magic_3};
 ghost use Rattle.mold_durable.specs.Storage.{IsKept, LeavesOnly};
@@ -55,6 +55,28 @@ pub fn write_head<S: Storage>(storage: &mut S, session: Session) -> Result<(), D
     write_synced(storage, MAGIC_LENGTH as u64, &name_and_gate(session))?;
     write_synced(storage, 0, &magic())?;
     Ok(())
+}
+
+/// The greatest length of a file whose creator was killed: that of a head and the gate after it.
+pub(crate) const UNFINISHED_LENGTH: usize = HEAD_LENGTH + 1;
+
+// Returns whether the bytes are the first of the magic bytes, or zeros.
+fn is_start(bytes: &[u8]) -> bool
+    requires { length bytes.now ≤ 8 }
+    ensures { IsTrue result ↔ IsStart bytes.now }
+{
+    bytes == &magic()[..bytes.len()] || bytes == &[0; MAGIC_LENGTH][..bytes.len()]
+}
+
+/// Returns whether a creator of a journal's file that is killed may leave a file of these bytes.
+pub(crate) fn is_unfinished(bytes: &[u8]) -> bool
+    ensures { IsTrue result ↔ IsUnfinished bytes.now }
+{
+    let length = bytes.len();
+    if length > UNFINISHED_LENGTH || !is_start(&bytes[..length.min(MAGIC_LENGTH)]) {
+        return false;
+    }
+    length < UNFINISHED_LENGTH || bytes[HEAD_LENGTH] == SHUT_GATE
 }
 
 /// Returns the session of a head. The bytes are the first ones of a storage, at most as many as a head has.

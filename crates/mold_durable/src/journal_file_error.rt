@@ -1,5 +1,6 @@
 //! Why the file of a journal is not opened or created.
 
+use crate::obstacle::Obstacle;
 use thiserror::Error;
 
 /// Why the file of a journal is not opened or created.
@@ -11,6 +12,9 @@ pub enum JournalFileError {
     /// A call of the system failed.
     #[error("the file can't be opened or written")]
     Write,
+    /// The file, or the new file beside it, stays as it is.
+    #[error("another file prevents that the journal is created")]
+    Obstructed(Obstacle),
     /// An allocation failed.
     #[error("out of memory")]
     Memory,

@@ -133,9 +133,10 @@ fn feed(
     ports: Ports,
     resumed: bool,
 ) -> Result<u8, ProgramFault> {
-    match sync_folder(rt, order.journal.as_str()) {
+    let path = order.journal.as_str();
+    match sync_folder(rt, path) {
         Ok(()) => Ok(feed_input(rt, order, publisher, ports, resumed)?),
-        Err(error) => Err(fault_of(error)),
+        Err(error) => Err(fault_of(rt, path, error)),
     }
 }
 
@@ -176,7 +177,10 @@ fn begin(rt: &HostRuntime, order: &FeedOrder) -> Result<u8, ProgramFault> {
     let session = Session(order.session);
     let longest = longest_message(order.limit);
     let path = order.journal.as_str();
-    let created = create_file(rt, path, session, longest).map_err(|error| fault_of(error))?;
+    let created = match create_file(rt, path, session, longest) {
+        Ok(created) => created,
+        Err(error) => return Err(fault_of(rt, path, error)),
+    };
     // Another process has created the file since it was looked for.
     let Some(durable) = created else {
         return Err(ProgramFault::Locked);
@@ -195,8 +199,10 @@ fn begin(rt: &HostRuntime, order: &FeedOrder) -> Result<u8, ProgramFault> {
 /// responds to requests. A file that exists is continued, unless it is not a journal of the session. Refusals are printed
 /// on standard output.
 pub fn run_feed(rt: &HostRuntime, order: &FeedOrder) -> Result<u8, ProgramFault> {
-    match open_file(rt, order.journal.as_str()).map_err(|error| fault_of(error))? {
-        Some(storage) => resume(rt, order, storage),
-        None => begin(rt, order),
+    let path = order.journal.as_str();
+    match open_file(rt, path) {
+        Ok(Some(storage)) => resume(rt, order, storage),
+        Ok(None) => begin(rt, order),
+        Err(error) => Err(fault_of(rt, path, error)),
     }
 }

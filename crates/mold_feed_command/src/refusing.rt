@@ -1,23 +1,30 @@
 //! Why an existing journal file is not continued.
 
-use mold_devices::{CommandFault, Sink, send};
+use mold_devices::{CommandFault, IntoWrite, Sink, send};
 use mold_durable::JournalFileError;
 use mold_durable_publisher::StartError;
 use mold_follow::{device_fault, load_error};
 use mold_session::FileError;
 use mold_text::{Word, push_refused};
-use mold_wiring::{ProgramFault, print_file_refusal};
+use mold_wiring::{ProgramFault, print_explanation, print_file_refusal};
 use std::alloc::Global;
 
 /// The status of a command that refuses its journal file.
 const REFUSED: u8 = 2;
 
-/// Returns the fault of the program for an error of a journal's file.
-pub(crate) fn fault_of(error: JournalFileError) -> ProgramFault {
+/// Returns the fault of the program for an error of the file of the journal at `path`. If another file is the reason, a
+/// line on standard error explains it. If that line can't be printed, only the fault is.
+pub(crate) fn fault_of(rt: &HostRuntime, path: &str, error: JournalFileError) -> ProgramFault {
     match error {
         JournalFileError::Locked => ProgramFault::Locked,
         JournalFileError::Write => ProgramFault::Command(CommandFault::Write),
         JournalFileError::Memory => ProgramFault::Command(CommandFault::Memory),
+        JournalFileError::Obstructed(obstacle) => {
+            let mut errors = IntoWrite::new(rt.stderr());
+            let (suffix, reason) = (obstacle.suffix(), obstacle.reason());
+            let _ = print_explanation(rt.alloc(), path, suffix, reason, &mut errors);
+            ProgramFault::Command(CommandFault::Write)
+        }
     }
 }
 

@@ -129,8 +129,9 @@ fn keep<S: Storage + Drop>(
     requires none { recording.journal.waiting ≡ [] }
 {
     if order.sync {
-        if let Err(error) = sync_folder(rt, order.journal.as_str()) {
-            return Err(fault_of(error));
+        let path = order.journal.as_str();
+        if let Err(error) = sync_folder(rt, path) {
+            return Err(fault_of(rt, path, error));
         }
     }
     let Recording {
@@ -234,7 +235,10 @@ fn begin(
         return Ok(end_unlearned(rt, opened.ports.failures(), &options, errors)?);
     };
     let path = order.journal.as_str();
-    let created = create_file(rt, path, session, MAX_KEPT).map_err(|error| fault_of(error))?;
+    let created = match create_file(rt, path, session, MAX_KEPT) {
+        Ok(created) => created,
+        Err(error) => return Err(fault_of(rt, path, error)),
+    };
     // Another process has created the file since it was looked for.
     let Some(journal) = created else {
         return Err(ProgramFault::Locked);
@@ -253,11 +257,12 @@ fn record(
     order: &RecordOrder,
     errors: &mut IntoWrite<Stderr>,
 ) -> Result<u8, ProgramFault> {
-    let found = open_file(rt, order.journal.as_str()).map_err(|error| fault_of(error))?;
-    match found {
-        Some(storage) if order.sync => resume(rt, order, storage, errors),
-        Some(storage) => resume(rt, order, UnsyncedFile::new(storage), errors),
-        None => begin(rt, order, errors),
+    let path = order.journal.as_str();
+    match open_file(rt, path) {
+        Ok(Some(storage)) if order.sync => resume(rt, order, storage, errors),
+        Ok(Some(storage)) => resume(rt, order, UnsyncedFile::new(storage), errors),
+        Ok(None) => begin(rt, order, errors),
+        Err(error) => Err(fault_of(rt, path, error)),
     }
 }
 

@@ -5,14 +5,21 @@ ghost use Rattle.mold_wiring.specs.declared.program_fault.ProgramFault.TheVarian
 
 use mold_devices::{CommandFault, IntoWrite};
 use mold_durable::{JournalFileError, ReplacedFile};
-use mold_wiring::ProgramFault;
+use mold_wiring::{ProgramFault, print_explanation};
 
-/// Returns the fault of the program for an error of a journal's file.
-pub(crate) fn fault_of(error: JournalFileError) -> ProgramFault {
+/// Returns the fault of the program for an error of the file of the journal at `path`. If another file is the reason, a
+/// line on standard error explains it. If that line can't be printed, only the fault is.
+pub(crate) fn fault_of(rt: &HostRuntime, path: &str, error: JournalFileError) -> ProgramFault {
     match error {
         JournalFileError::Locked => ProgramFault::Locked,
         JournalFileError::Write => ProgramFault::Command(CommandFault::Write),
         JournalFileError::Memory => ProgramFault::Command(CommandFault::Memory),
+        JournalFileError::Obstructed(obstacle) => {
+            let mut errors = IntoWrite::new(rt.stderr());
+            let (suffix, reason) = (obstacle.suffix(), obstacle.reason());
+            let _ = print_explanation(rt.alloc(), path, suffix, reason, &mut errors);
+            ProgramFault::Command(CommandFault::Write)
+        }
     }
 }
 
@@ -24,7 +31,7 @@ pub fn open_replaced<'a>(
 ) -> Result<IntoWrite<ReplacedFile<'a>>, ProgramFault> {
     match ReplacedFile::open(rt, path) {
         Ok(file) => Ok(IntoWrite::new(file)),
-        Err(error) => Err(fault_of(error)),
+        Err(error) => Err(fault_of(rt, path, error)),
     }
 }
 

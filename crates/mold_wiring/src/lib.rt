@@ -4,6 +4,7 @@
 
 mod addresses;
 mod ending;
+mod explaining;
 mod limits;
 mod listening;
 mod opening;
@@ -14,6 +15,7 @@ mod serving;
 
 pub use addresses::{peer_address, socket_address};
 pub use ending::{exit_code, flushed, print_fault};
+pub use explaining::print_explanation;
 pub use limits::longest_message;
 pub use listening::make_arbiter;
 pub use opening::open_port;
