@@ -5,12 +5,14 @@ ghost use Rattle.mold_commands.specs.Command.{IsStreamed};
 
 mod captures;
 mod checks;
+mod closed_streams;
 mod input_check;
 mod progress;
 mod watched_lines;
 
 use captures::{check_captures, list_sessions, show_captures};
 use checks::{check_and_save, check_by_digest, check_each, run_extract};
+use closed_streams::ClosedStreams;
 use mold_check::check_lines;
 use mold_commands::{
     DumpOptions, check_folder, dump_file, run_command, run_pack_journal, run_upgrade,
@@ -201,10 +203,27 @@ fn run(rt: &HostRuntime, order: &Order) -> Result<u8, ProgramFault> {
     }
 }
 
+// Runs the order, unless it would write a file and needs a standard stream that was closed.
+fn run_unless_closed(
+    rt: &HostRuntime,
+    order: &Order,
+    closed: ClosedStreams,
+) -> Result<u8, ProgramFault> {
+    match closed.fault_of(order) {
+        Some(fault) => Err(ProgramFault::Command(fault)),
+        None => run(rt, order),
+    }
+}
+
 fn main(rt: HostRuntime) -> ExitCode {
+    let mut errors = IntoWrite::new(rt.stderr());
+    let closed = match ClosedStreams::open(&rt) {
+        Ok(closed) => closed,
+        Err(fault) => return exit_code(&mut errors, Err(ProgramFault::Command(fault))),
+    };
     let order = match read_order(&rt) {
         Ok(order) => order,
         Err(fault) => return print_usage(&rt, fault),
     };
-    exit_code(&mut IntoWrite::new(rt.stderr()), run(&rt, &order))
+    exit_code(&mut errors, run_unless_closed(&rt, &order, closed))
 }
