@@ -324,6 +324,13 @@ impl Pacer {
         self.state.marked.saturating_add(self.state.patience)
     }
 
+    /// Returns the time at which a request is over that responds in part now.
+    pub fn settles(&self) -> u64
+        ensures { result ≡ self.now.state.now + self.now.options.settle }
+    {
+        self.state.now + self.options.settle
+    }
+
     /// Returns the last request for this number, if it is over.
     pub fn last_request(&self, number: u64) -> Option<Flight>
         ensures { result ≡ last_request self.now number }

@@ -1,5 +1,5 @@
 -- The front of the requests in flight.
-use Rattle.std.proofs.Common.{◌≡◌, ℕ, zero, suc, ◌+◌, ◌<◌, ◌≤◌, ◌||◌, max, min, nat_le, nat_lt, map, Bool, true, false, cond, List, [], ◌∷◌}
+use Rattle.std.proofs.Common.{◌≡◌, ℕ, zero, suc, ◌+◌, ◌<◌, ◌≤◌, ◌||◌, ◌&&◌, max, min, nat_le, nat_lt, map, Bool, true, false, cond, List, [], ◌∷◌}
 use Rattle.std.proofs.Common.{IfNone, IfSome, Option, None, Some, refl, ap, ◌∙◌, sym, subst, arith, inl, inr}
 use Rattle.std.specs.Prelude.{find, is_some, remove, slice_get}
 use Rattle.std.specs.FinMap as finite
@@ -13,9 +13,9 @@ use Rattle.mold_pacing.specs.declared.ask.Ask.{Ask as Sent}
 use Rattle.mold_pacing.specs.declared.flight.Flight.{Flight}
 use Rattle.mold_pacing.specs.declared.gap.Gap.{Gap}
 use Rattle.mold_pacing.specs.declared.pacer.Pacer.{Pacer}
-use Rattle.mold_pacing.specs.Responses.{after_arrival, has_come}
+use Rattle.mold_pacing.specs.Responses.{after_arrival, after_response, has_come, is_response_to}
 use Rattle.mold_pacing.specs.Run.{Takes}
-use Rattle.mold_pacing.specs.declared.step.Step.TheVariants.{Arrive}
+use Rattle.mold_pacing.specs.declared.step.Step.TheVariants.{Arrive, Respond}
 use Rattle.mold_receiver.specs.Arbiter.{Arbitration, HasArbitrated, arbitrated}
 use Rattle.mold_receiver.specs.Batch.{Handed}
 use Rattle.mold_receiver.specs.Receive.{Reception}
@@ -28,7 +28,7 @@ use Rattle.mold_repair.specs.declared.origin.RepairOrigin.TheVariants.{Line as O
 use Rattle.mold_repair.proofs.HeldLemmas.{held_has}
 use Rattle.mold_repair.proofs.LawLemmas.{taken_view}
 use Rattle.mold_wire.specs.Reading.{reading}
-use Rattle.mold_repair.specs.Front.{IsFront}
+use Rattle.mold_repair.specs.Front.{HasGap, IsFront, IsFrontLeft, NoneSpans}
 use Rattle.mold_repair.specs.Missing.{IsMissing}
 use Rattle.mold_repair.proofs.ProgressLemmas.{Continues, ReceiverLaws, taken_on}
 
@@ -212,3 +212,127 @@ front_noted v line bytes p q number until ran front =
     let came = came_below (v.next + v.window) (reading bytes) in
     front_came v (nat_lt came.first came.end) came.first (find (covers p.state.now came.first) p.flights.items) p q
     number until ran front
+
+find_some_at : (p : Flight → Bool) (fs : List Flight) (i : ℕ) (f : Flight) → slice_get fs i ≡ Some f →
+    p f ≡ true → is_some (find p fs) ≡ true
+find_some_at p [] i f there passes = cc
+find_some_at p (g ∷ gs) zero f there passes =
+    let is : g ≡ f = grind (arith, there) in
+    let here : p g ≡ true = ap p is ∙ passes in
+    ap (λ (b : Bool). is_some (cond b (Some g) (find p gs))) here
+find_some_at p (g ∷ gs) (suc i) f there passes =
+    let rest = find_some_at p gs i f there passes in
+    elim (p g) as (λ b. is_some (cond b (Some g) (find p gs)) ≡ true) [ true ↦ refl | false ↦ rest ]
+
+-- Without a request for a number that each request in flight over `number` asks for, no request spans `number`.
+pub none_spans : (fs : List Flight) (now q number : ℕ) (r : Option Flight) → r ≡ find (covers now q) fs →
+    is_some r ≡ false → ((f : Flight) → f.first < number → number < f.end → (f.first ≤ q) × (q < f.end)) →
+    NoneSpans fs now number
+none_spans fs now q number r is none within i f there flies low high =
+    let in_it = within f low high in
+    let from = in_it.0 in
+    let below = in_it.1 in
+    let covered : covers now q f ≡ true = grind (arith, nat_tests, flies, from, below) in
+    true≢false (sym (find_some_at (covers now q) fs i f there covered) ∙ ap is_some (sym is) ∙ none)
+
+pub has_gap : (v : View) (came : Gap) (end : ℕ) → end ≡ held_end v came.first → came.end ≤ end → HasGap v came
+has_gap v came end is within q low high missing =
+    elim (held_has v came.first q low (omega (arith, is, within, high))) [
+      | inl past ↦ omega (arith, past, missing.after)
+      | inr some ↦ not_missing v q missing some
+    ]
+
+any_map_at : (p : Flight → Bool) (change : Flight → Flight) (fs : List Flight) →
+    ((i : ℕ) (f : Flight) → slice_get fs i ≡ Some f → p f ≡ true → p (change f) ≡ true) → list_any p fs ≡ true →
+    list_any p (map change fs) ≡ true
+any_map_at p change [] keeps any = any
+any_map_at p change (f ∷ fs) keeps any =
+    elim (p f) as (λ b. p f ≡ b → list_any p (change f ∷ map change fs) ≡ true) [
+      | true ↦ λ on. (let here : p (change f) ≡ true = keeps 0 f refl on in ap (λ (b : Bool). b || list_any p (map change fs)) here)
+      | false ↦ λ off.
+          let rest : list_any p fs ≡ true = grind (arith, any, off) in
+          let more = any_map_at p change fs (λ i g there. keeps (suc i) g there) rest in
+          grind (arith, more)
+    ] refl
+
+response_covers : (settle now first end time q : ℕ) (f : Flight) → covers time q f ≡ true →
+    (is_response_to now first end f ≡ true → f.end ≤ end → ⊥) →
+    (is_response_to now first end f ≡ true → end < f.end → time < now + settle) →
+    covers time q (after_response settle now first end f) ≡ true
+response_covers settle now first end time q f covered freed partial =
+    elim (is_response_to now first end f) as (λ b. is_response_to now first end f ≡ b →
+    covers time q (cond b (record f {
+      until = cond (nat_le f.end end) now (min f.until (now + settle));
+      pause = 0;
+      attempts = 0;
+      reached = max f.reached end;
+    }) f) ≡ true) [
+      | true ↦ λ responds.
+          elim (cases_lt end f.end) [
+            | inl more ↦
+                let off : nat_le f.end end ≡ false = grind (arith, nat_tests, more) in
+                let soon = partial responds more in
+                let flies : time < f.until = grind (arith, nat_tests, covered) in
+                let low : f.first ≤ q = grind (arith, nat_tests, covered) in
+                let high : q < f.end = grind (arith, nat_tests, covered) in
+                let still : time < min f.until (now + settle) = omega (arith, flies, soon) in
+                let there : (nat_lt time (min f.until (now + settle)) && (nat_le f.first q && nat_lt q f.end)) ≡ true = grind (arith, nat_tests, still, low, high) in
+                ap (λ (b : Bool). nat_lt time (cond b now (min f.until (now + settle))) && (nat_le f.first q && nat_lt q f.end)) off ∙ there
+            | inr all ↦ absurd (freed responds all)
+          ]
+      | false ↦ λ stays. covered
+    ] refl
+
+-- What a response leaves of the front.
+front_responded : (v : View) (server : ℕ) (came : Gap) (p q : Pacer) (number until number_left until_left : ℕ) →
+    Takes p q (Respond server came) None →
+    IsFrontLeft v p.flights.items p.state.now p.options.settle came number until number_left until_left →
+    IsFront v p.flights.items number until → IsFront v q.flights.items number_left until_left
+front_responded v server came p q number until number_left until_left took left front =
+    let now = p.state.now in
+    subst (λ (fs : List Flight). IsFront v fs number_left until_left) (sym took.table) (record {
+      known = omega (arith, front.known, left.few);
+      sent = λ time n before below missing.
+          any_map_at (covers time n) (after_response p.options.settle now came.first came.end) p.flights.items
+          (λ i f there covered.
+          let low : f.first ≤ n = grind (arith, nat_tests, covered) in
+          let high : n < f.end = grind (arith, nat_tests, covered) in
+          response_covers p.options.settle now came.first came.end time n f covered
+          (λ responds all.
+          let flies : now < f.until = grind (arith, nat_tests, responds) in
+          let begins : came.first < f.end = grind (arith, nat_tests, responds) in
+          elim left.begins [
+            | inl none ↦ omega (arith, none, below)
+            | inr kept ↦ elim (cases_lt n came.first) [
+              | inl under ↦ kept.0 i f there flies (omega (arith, low, under)) begins
+              | inr over ↦ kept.1 n over (omega (arith, high, all)) missing
+            ]
+          ])
+          (λ responds more.
+          let flies : now < f.until = grind (arith, nat_tests, responds) in
+          let ends : f.first < came.end = grind (arith, nat_tests, responds) in
+          elim left.ends [
+            | inl soon ↦ omega (arith, before, soon)
+            | inr none ↦ absurd (none i f there flies ends more)
+          ]))
+          (front.sent time n (omega (arith, before, left.short)) (omega (arith, below, left.few)) missing);
+    })
+
+front_less : (v : View) (fs : List Flight) (number until fewer shorter : ℕ) → fewer ≤ number → shorter ≤ until →
+    IsFront v fs number until → IsFront v fs fewer shorter
+front_less v fs number until fewer shorter few short front = record {
+  known = omega (arith, few, front.known);
+  sent = λ time q before below missing. front.sent time q (omega (arith, before, short)) (omega (arith, below, few)) missing;
+}
+
+pub front_server : (v : View) (b : Bool) (server : ℕ) (came : Gap) (request : Option Flight) (p q : Pacer)
+    (number until number_left until_left : ℕ) →
+    HasLearned p q (cond b (Respond server came ∷ (Arrive (held_from v came.first) ∷ filled_steps v request)) []) →
+    IsFrontLeft v p.flights.items p.state.now p.options.settle came number until number_left until_left →
+    IsFront v p.flights.items number until → IsFront v q.flights.items number_left until_left
+front_server v true server came request p q number until number_left until_left ran left front =
+    front_came v true came.first request ran.0 q number_left until_left ran.2
+    (front_responded v server came p ran.0 number until number_left until_left ran.1 left front)
+front_server v false server came request p q number until number_left until_left ran left front =
+    subst (λ (r : Pacer). IsFront v r.flights.items number_left until_left) (sym ran)
+    (front_less v p.flights.items number until number_left until_left left.few left.short front)

@@ -1,13 +1,16 @@
 //! The numbers that a datagram brought.
 
-ghost use Rattle.std.specs.Prelude.{◌≡◌, ◌+◌, ◌∷◌, []};
+ghost use Rattle.std.specs.Prelude.{◌≡◌, ◌≤◌, ◌⊎◌, ◌+◌, ◌∷◌, [], false};
 ghost use Rattle.mold_wire.specs.Reading.{reading};
 ghost use Rattle.mold_pacing.specs.declared.step.Step.TheVariants.{Arrive};
 ghost use Rattle.mold_repair.specs.Came.{came_below, filled_steps, held_end, held_from, noted, noted_from, numbers};
 ghost use Rattle.mold_repair.specs.Came.{response_steps};
+ghost use Rattle.mold_repair.specs.Front.{HasGap, IsFront, NoneSpans};
+ghost use Rattle.mold_repair.specs.declared.origin.RepairOrigin.TheVariants.{Server};
 ghost use Rattle.mold_repair.specs.Taking.{HasLearned};
 ghost use Rattle.mold_repair.specs.Timing.{is_timed};
 
+use crate::front::Front;
 use crate::header::Head;
 use crate::options::RepairOptions;
 use crate::origin::RepairOrigin;
@@ -113,6 +116,76 @@ fn report(arbiter: &Arbiter, pacer: &mut Pacer, origin: RepairOrigin, came: Gap)
     report_filled(arbiter, pacer, request);
 }
 
+// Returns the numbers that a datagram brought.
+fn came_of(arbiter: &Arbiter, datagram: &[u8]) -> Gap
+    ensures { result ≡ came_below (arbiter.now.view.next + arbiter.now.view.window) (reading datagram.now) }
+{
+    let receiver = arbiter.receiver();
+    came_below(datagram, receiver.next(), receiver.window())
+}
+
+// Returns whether a request in flight can begin below this number and end above it. If it can't, the result is false.
+fn is_spanned(pacer: &Pacer, number: u64) -> bool
+    ensures { result ≡ false → NoneSpans pacer.now.flights.items pacer.now.state.now number }
+{
+    if number == 0 {
+        return false;
+    }
+    if pacer.request_for(number - 1).is_none() {
+        return false;
+    }
+    pacer.request_for(number).is_some()
+}
+
+// Returns which number of the front is left after a response with these numbers.
+fn number_left(arbiter: &Arbiter, pacer: &Pacer, number: u64, came: Gap) -> u64
+    ensures few { result ≤ number }
+    ensures begins { (result ≡ 0)
+        ⊎ (NoneSpans pacer.now.flights.items pacer.now.state.now came.first × HasGap arbiter.now.view came) }
+{
+    if is_spanned(pacer, came.first) {
+        return 0;
+    }
+    if held_end(arbiter, came.first) < came.end {
+        return 0;
+    }
+    number
+}
+
+// Returns which time of the front is left after a response with these numbers.
+fn until_left(pacer: &Pacer, until: u64, came: Gap) -> u64
+    ensures short { result ≤ until }
+    ensures ends { (result ≤ pacer.now.state.now + pacer.now.options.settle)
+        ⊎ NoneSpans pacer.now.flights.items pacer.now.state.now came.end }
+{
+    if is_spanned(pacer, came.end) {
+        return until.min(pacer.settles());
+    }
+    until
+}
+
+/// Reports to the pacer what a response brought that was accepted. Returns what it leaves of the front.
+pub(crate) fn note_response(
+    arbiter: &Arbiter,
+    pacer: &mut Pacer,
+    front: Front,
+    server: u32,
+    datagram: &[u8],
+) -> Front
+    requires { IsFront arbiter.now.view pacer.old.flights.items front.number front.until }
+    ensures noted { HasLearned pacer.old pacer.new (noted (Server server) datagram.now arbiter.now.view
+        pacer.old.state.now pacer.old.flights.items) }
+    ensures front { IsFront arbiter.now.view pacer.new.flights.items result.number result.until }
+    ensures now { pacer.new.state.now ≡ pacer.old.state.now }
+    ensures options { pacer.new.options ≡ pacer.old.options }
+{
+    let came = came_of(arbiter, datagram);
+    let number = number_left(arbiter, pacer, front.number, came);
+    let until = until_left(pacer, front.until, came);
+    report(arbiter, pacer, RepairOrigin::Server(server), came);
+    Front { number, until }
+}
+
 /// Reports to the pacer what a datagram brought that was accepted.
 pub(crate) fn note(arbiter: &Arbiter, pacer: &mut Pacer, origin: RepairOrigin, datagram: &[u8])
     ensures noted { HasLearned pacer.old pacer.new (noted origin datagram.now arbiter.now.view pacer.old.state.now
@@ -120,8 +193,7 @@ pub(crate) fn note(arbiter: &Arbiter, pacer: &mut Pacer, origin: RepairOrigin, d
     ensures now { pacer.new.state.now ≡ pacer.old.state.now }
     ensures options { pacer.new.options ≡ pacer.old.options }
 {
-    let receiver = arbiter.receiver();
-    let came = came_below(datagram, receiver.next(), receiver.window());
+    let came = came_of(arbiter, datagram);
     report(arbiter, pacer, origin, came);
 }
 

@@ -7,7 +7,7 @@ ghost use Rattle.mold_repair.specs.Options.{ArePacerOptions, are_options};
 
 use crate::ask::Ask;
 use crate::auditing::audit_taken;
-use crate::came::{is_timed, note};
+use crate::came::{is_timed, note, note_response};
 use crate::error::RepairError;
 use crate::front::Front;
 use crate::gaps::find_free;
