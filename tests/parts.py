@@ -103,6 +103,7 @@ LANES = (
                      "library/*", "tests/checks.sh"),
         # Longer conditions of the network are not part of the gate.
         over_program("tests/repair"),
+        over_program("tests/strangers"),
         over_program("tests/feed"),
         over_program("tests/long-lines"),
         over_program("tests/day"),

@@ -1,3 +1,4 @@
 pub mod Memory
 pub mod PortSet
+pub mod SenderFilter
 pub mod Udp

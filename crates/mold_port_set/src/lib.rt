@@ -14,6 +14,7 @@ mod port_set_step;
 mod row;
 mod script;
 mod sender_filter;
+mod sender_list;
 mod socket_number;
 mod udp_port_set;
 
@@ -23,4 +24,5 @@ pub use port_datagram::PortDatagram;
 pub use port_set::PortSet;
 pub use port_set_call::PortSetCall;
 pub use port_set_step::PortSetStep;
+pub use sender_list::{SENDERS, SenderList};
 pub use udp_port_set::{PORTS, UdpPortSet};

@@ -10,7 +10,8 @@ use crate::descriptor::Descriptor;
 use crate::drop_table::{DropTable, Drops};
 use crate::opened::Opened;
 use crate::port_set::PortSet;
-use crate::sender_filter::SenderFilter;
+use crate::sender_filter::receive_wanted;
+use crate::sender_list::SenderList;
 use crate::socket_number::socket_number;
 use libc::close;
 use libc::net::{POLLIN, poll};
@@ -18,7 +19,7 @@ use libc::types::pollfd;
 use mold_devices::DeviceFault;
 use std::fs::{File, Files};
 use std::marker::Model;
-use std::net::{Ipv4Addr, Net, SocketAddr, SocketAddrV4, UdpSocket};
+use std::net::{Net, SocketAddr, SocketAddrV4, UdpSocket};
 use std::os::fd::{AsRawFd, IntoRawFd, RawFd};
 
 /// The most ports of a set of UDP ports.
@@ -42,12 +43,15 @@ const NO_DESCRIPTOR: RawFd = -1;
 ///
 /// The set allocates no memory. It closes its sockets when it is dropped, those that it adopted too.
 pub struct UdpPortSet {
-    // The number of ports. From this index on, the entries of the next four arrays are unused.
+    // The number of ports. From this index on, the entries of the next five arrays are unused.
     count: usize,
     opened: [Opened; PORTS],
     // The sockets' descriptors. `revents` is not 0 if a datagram may be at the port.
     watched: [pollfd; PORTS],
-    filters: [SenderFilter; PORTS],
+    // The senders whose datagrams the ports give, or `None` for all senders.
+    senders: [Option<SenderList>; PORTS],
+    // The numbers of ignored datagrams. They stop at `u64::MAX`.
+    passed_over: [u64; PORTS],
     drops: [Drops; PORTS],
     table: DropTable,
     // The clock when the set was made.
@@ -62,7 +66,12 @@ impl Model for UdpPortSet {
 
     ghost Value = { UdpSetState };
 
-    ghost view = { λ s. record { ports = take s.count s.opened; time = s.time; failures = s.failures } };
+    ghost view = { λ s. record {
+      ports = take s.count s.opened;
+      senders = take s.count s.senders;
+      time = s.time;
+      failures = s.failures;
+    } };
 
     ghost invariant = { λ s. (s.count ≤ 10) × (s.time < 2 ^ 62) };
 }
@@ -71,13 +80,14 @@ impl UdpPortSet {
     /// Returns a set with no port. Its clock starts now. If the system's table of sockets cannot be opened, `drops`
     /// returns `None`, and the other calls work.
     pub fn new<R: Files<File = File>>(rt: &R) -> UdpPortSet
-        ensures { result ≡ record { ports = []; time = 0; failures = 0 } }
+        ensures { result ≡ record { ports = []; senders = []; time = 0; failures = 0 } }
     {
         UdpPortSet {
             count: 0,
             opened: [Opened::Adopted(0); PORTS],
             watched: [watched(NO_DESCRIPTOR); PORTS],
-            filters: [SenderFilter::new(None); PORTS],
+            senders: [None; PORTS],
+            passed_over: [0; PORTS],
             drops: [Drops {
                 socket: None,
                 count: None,
@@ -89,16 +99,19 @@ impl UdpPortSet {
         }
     }
 
-    /// Adds a port at an address of this machine; for port number 0, the system chooses one. If `source` is not `None`,
-    /// the port gives only datagrams from this IP address. It fails if the address is not the machine's or is taken, if
+    /// Adds a port at an address of this machine; for port number 0, the system chooses one. If `senders` is not `None`,
+    /// the port gives only datagrams from these IP addresses. It fails if the address is not the machine's or is taken, if
     /// no socket is available, or if the set has [`PORTS`] ports already.
     pub fn bind<R: Net>(
         &mut self,
         rt: &R,
         address: SocketAddrV4,
-        source: Option<Ipv4Addr>,
+        senders: Option<SenderList>,
     ) -> Result<(), DeviceFault>
-        ensures ok { OnOk result (self.new ≡ record self.old { ports = self.old.ports ++ Bound address ∷ [] }) }
+        ensures ok { OnOk result (self.new ≡ record self.old {
+          ports = self.old.ports ++ Bound address ∷ [];
+          senders = self.old.senders ++ senders ∷ [];
+        }) }
         ensures err { OnErr result (self.new ≡ self.old) }
         ensures full { 10 ≤ length self.old.ports → IsErr result }
     {
@@ -106,12 +119,12 @@ impl UdpPortSet {
             return Err(DeviceFault);
         }
         let socket = UdpSocket::bind(rt, SocketAddr::V4(address)).map_err(|_| DeviceFault)?;
-        self.add(Opened::Bound(address), socket.into_raw_fd(), source);
+        self.add(Opened::Bound(address), socket.into_raw_fd(), senders);
         Ok(())
     }
 
-    /// Adds a port over an open UDP socket that the process was started with, and takes the socket over. If `source` is
-    /// not `None`, the port gives only datagrams from this IP address. It fails if the descriptor is not from 3 to
+    /// Adds a port over an open UDP socket that the process was started with, and takes the socket over. If `senders` is
+    /// not `None`, the port gives only datagrams from these IP addresses. It fails if the descriptor is not from 3 to
     /// 1023, or is not a UDP socket over IPv4 that is bound to a port. It also fails if the socket is one of this set,
     /// or if the set has [`PORTS`] ports already. In these cases the descriptor stays open. Don't adopt a socket that
     /// the process opened itself: call this before other sockets are opened, so that the descriptor can't be one of
@@ -122,9 +135,12 @@ impl UdpPortSet {
         &mut self,
         _rt: &R,
         descriptor: u16,
-        source: Option<Ipv4Addr>,
+        senders: Option<SenderList>,
     ) -> Result<(), DeviceFault>
-        ensures ok { OnOk result (self.new ≡ record self.old { ports = self.old.ports ++ Adopted descriptor ∷ [] }) }
+        ensures ok { OnOk result (self.new ≡ record self.old {
+          ports = self.old.ports ++ Adopted descriptor ∷ [];
+          senders = self.old.senders ++ senders ∷ [];
+        }) }
         ensures err { OnErr result (self.new ≡ self.old) }
         ensures full { 10 ≤ length self.old.ports → IsErr result }
         ensures range { OnOk result ((3 ≤ descriptor) × (descriptor ≤ 1023)) }
@@ -137,19 +153,23 @@ impl UdpPortSet {
         if self.is_adopted(descriptor) || self.has_socket(raw) || !is_udp_socket(Descriptor(raw)) {
             return Err(DeviceFault);
         }
-        self.add(Opened::Adopted(descriptor), raw, source);
+        self.add(Opened::Adopted(descriptor), raw, senders);
         Ok(())
     }
 
     // Adds a port.
-    fn add(&mut self, opened: Opened, descriptor: RawFd, source: Option<Ipv4Addr>)
+    fn add(&mut self, opened: Opened, descriptor: RawFd, senders: Option<SenderList>)
         requires { length self.old.ports < 10 }
-        ensures { self.new ≡ record self.old { ports = self.old.ports ++ opened ∷ [] } }
+        ensures { self.new ≡ record self.old {
+          ports = self.old.ports ++ opened ∷ [];
+          senders = self.old.senders ++ senders ∷ [];
+        } }
     {
         Descriptor(descriptor).ask_receive_buffer();
         self.opened[self.count] = opened;
         self.watched[self.count] = watched(descriptor);
-        self.filters[self.count] = SenderFilter::new(source);
+        self.senders[self.count] = senders;
+        self.passed_over[self.count] = 0;
         self.drops[self.count] = Drops {
             socket: socket_number(descriptor),
             count: None,
@@ -198,6 +218,7 @@ impl UdpPortSet {
     // Reads the clock. The time never falls.
     fn read_clock(&mut self)
         ensures ports { self.new.ports ≡ self.old.ports }
+        ensures senders { self.new.senders ≡ self.old.senders }
         ensures clock { self.old.time ≤ self.new.time }
         ensures failures { self.new.failures ≡ self.old.failures }
     {
@@ -238,6 +259,7 @@ impl PortSet for UdpPortSet {
 
         // Clauses of this set only.
         ensures ports { self.new.ports ≡ self.old.ports }
+        ensures senders { self.new.senders ≡ self.old.senders }
     {
         self.read_clock();
         let ready = poll(&mut self.watched, wait_time(self.time, until));
@@ -249,7 +271,7 @@ impl PortSet for UdpPortSet {
     }
 
     /// Receives a datagram into a prefix of `buffer`, truncated to the buffer's length, and returns its length. It
-    /// never waits. Datagrams of other senders than the port's `source` are ignored and counted. Returns `None` if no
+    /// never waits. Datagrams of other senders than those of the port are ignored and counted. Returns `None` if no
     /// datagram remains at the port, or if 64 datagrams were ignored. It fails if the set has no such port, or if the
     /// system reports an error of the socket. If it returns no length, the contents of `buffer` are unspecified.
     ///
@@ -263,6 +285,7 @@ impl PortSet for UdpPortSet {
 
         // Clauses of this set only.
         ensures ports { self.new.ports ≡ self.old.ports }
+        ensures senders { self.new.senders ≡ self.old.senders }
         ensures index { length self.old.ports ≤ port → IsErr result }
     {
         let Some(descriptor) = self.descriptor(port) else {
@@ -271,7 +294,8 @@ impl PortSet for UdpPortSet {
         if self.watched[port].revents == 0 {
             return Ok(None);
         }
-        let answer = self.filters[port].receive(descriptor, buffer);
+        let passed_over = &mut self.passed_over[port];
+        let answer = receive_wanted(descriptor, &self.senders[port], buffer, passed_over);
         self.read_clock();
         match answer {
             Ok(Some(count)) => Ok(Some(count)),
@@ -292,6 +316,7 @@ impl PortSet for UdpPortSet {
 
         // Clauses of this set only.
         ensures ports { self.new.ports ≡ self.old.ports }
+        ensures senders { self.new.senders ≡ self.old.senders }
         ensures index { length self.old.ports ≤ port → IsErr result }
     {
         let sent = match self.descriptor(port) {
@@ -322,10 +347,10 @@ impl PortSet for UdpPortSet {
     /// Returns the number of datagrams of other senders that were ignored at the port. It stops at `u64::MAX`. If the
     /// set has no such port, it is 0.
     fn passed_over(&self, port: usize) -> u64 {
-        match self.filters[..self.count].get(port) {
-            Some(filter) => filter.passed_over(),
-            None => 0,
-        }
+        self.passed_over[..self.count]
+            .get(port)
+            .copied()
+            .unwrap_or(0)
     }
 
     fn failures(&self) -> u64 {
@@ -339,7 +364,8 @@ impl Drop for UdpPortSet {
             count: _,
             opened: _,
             watched,
-            filters: _,
+            senders: _,
+            passed_over: _,
             drops: _,
             table: _table,
             start: _,

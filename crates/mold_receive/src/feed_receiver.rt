@@ -380,11 +380,32 @@ impl<D: PortSet + Drop> FeedReceiver<D> {
             drops: self.ports.drops(),
         };
         statistics.push(&mut self.outgoing.side)?;
-        push_passed(&mut self.outgoing.side, Line::A, self.ports.passed_over(0))?;
+        self.push_all_passed(options)
+    }
+
+    // Prints how many datagrams of other senders the lines and the servers' ports ignored.
+    fn push_all_passed(&mut self, options: &ReceiveOptions<D::Peer>) -> Result<(), AllocError>
+        ensures repairer { self.new.repairer ≡ self.old.repairer }
+        ensures ports { self.new.ports ≡ self.old.ports }
+        ensures text { self.new.outgoing.text ≡ self.old.outgoing.text }
+        ensures format { self.new.outgoing.format ≡ self.old.outgoing.format }
+    {
+        let at_servers = self.passed_at_servers(options);
+        let side = &mut self.outgoing.side;
+        push_passed(side, name_of(Line::A), self.ports.passed_over(0))?;
         if options.has_both() {
-            push_passed(&mut self.outgoing.side, Line::B, self.ports.passed_over(1))?;
+            push_passed(side, name_of(Line::B), self.ports.passed_over(1))?;
         }
-        Ok(())
+        push_passed(side, b"server", at_servers)
+    }
+
+    // Returns the number of datagrams that the servers' ports ignored. It stops at `u64::MAX`.
+    fn passed_at_servers(&self, options: &ReceiveOptions<D::Peer>) -> u64 {
+        let mut passed = 0u64;
+        for port in options.lines..options.lines + options.servers.len() {
+            passed = passed.saturating_add(self.ports.passed_over(port));
+        }
+        passed
     }
 
     /// Prints a contradiction and the statistics, if they are due. An error means out of memory.
@@ -582,14 +603,15 @@ fn push_lost(outgoing: &mut Outgoing, lost: Option<Gap>) -> Result<(), AllocErro
     outgoing.push_note(&words)
 }
 
-// Appends the count of datagrams of other senders that a line ignored, if there are any.
-fn push_passed(out: &mut Vec<u8>, line: Line, passed: u64) -> Result<(), AllocError> {
+// Appends the count of datagrams of other senders that were ignored on a line or at the servers' ports, if there are
+// any.
+fn push_passed(out: &mut Vec<u8>, name: &[u8], passed: u64) -> Result<(), AllocError> {
     if passed == 0 {
         return Ok(());
     }
     let words = [
         Word::Text(b"passed"),
-        Word::Text(name_of(line)),
+        Word::Text(name),
         Word::Number(passed),
     ];
     push_line(out, &words)

@@ -1,7 +1,10 @@
 //! The command `receive` over UDP sockets.
 
+ghost use Rattle.std.specs.Prelude.{◌≡◌, ◌++◌, ◌∷◌, [], IfOk, OnOk, length, map, option_map, replicate};
+ghost use Rattle.mold_sockets.specs.Receiving.{hosts_in, hosts_of, line_senders, responders, senders_of};
+
 use mold_devices::{CommandFault, IntoWrite};
-use mold_port_set::{PortSet, UdpPortSet};
+use mold_port_set::{PortSet, SenderList, UdpPortSet};
 use mold_receive::{
     FirstPacket, Opened, ReceiveOptions, ReceiveParts, Unopened, await_session, end_unopened,
     receive_loop,
@@ -34,30 +37,65 @@ fn add_line(
     ports: &mut UdpPortSet,
     line: LinePort,
     source: Option<[u8; 4]>,
-) -> Result<(), ProgramFault> {
-    let source = source.map(|octets| Ipv4Addr::from_octets(octets));
-    let added = match line {
-        LinePort::Address(address) => ports.bind(rt, socket_address(address), source),
-        LinePort::Descriptor(descriptor) => ports.adopt(rt, descriptor, source),
+) -> Result<(), ProgramFault>
+    ensures { OnOk result (hosts_of ports.new.senders ≡ hosts_of ports.old.senders ++ line_senders source ∷ []) }
+{
+    let senders = match source {
+        Some(octets) => Some(SenderList::of(Ipv4Addr::from_octets(octets))),
+        None => None,
     };
-    added.map_err(|_| ProgramFault::Socket)
+    let added = match line {
+        LinePort::Address(address) => ports.bind(rt, socket_address(address), senders),
+        LinePort::Descriptor(descriptor) => ports.adopt(rt, descriptor, senders),
+    };
+    match added {
+        Ok(()) => Ok(()),
+        Err(_) => Err(ProgramFault::Socket),
+    }
+}
+
+// Returns the senders whose responses are accepted, or `None` for all senders.
+fn responders_of(order: &ReceiveOrder) -> Option<SenderList>
+    ensures { option_map hosts_in result ≡ responders order.now }
+{
+    if order.any_responder {
+        return None;
+    }
+    let mut list = SenderList::new();
+    for index in 0..order.servers.len() {
+        list.hosts[index] = Some(Ipv4Addr::from_octets(order.servers[index].host));
+    }
+    Some(list)
+}
+
+// Adds a port for each server, which the system chooses.
+fn add_servers(
+    rt: &HostRuntime,
+    ports: &mut UdpPortSet,
+    order: &ReceiveOrder,
+) -> Result<(), ProgramFault>
+    ensures { OnOk result (hosts_of ports.new.senders ≡ hosts_of ports.old.senders
+        ++ replicate (length order.now.servers.items) (responders order.now)) }
+{
+    let senders = responders_of(order);
+    for _server in 0..order.servers.len() {
+        if ports.bind(rt, socket_address(ANY), senders).is_err() {
+            return Err(ProgramFault::Socket);
+        }
+    }
+    Ok(())
 }
 
 /// Opens the ports of the order: those of the lines, and one for each server, which the system chooses.
-pub(crate) fn open_ports(
-    rt: &HostRuntime,
-    order: &ReceiveOrder,
-) -> Result<UdpPortSet, ProgramFault> {
+pub(crate) fn open_ports(rt: &HostRuntime, order: &ReceiveOrder) -> Result<UdpPortSet, ProgramFault>
+    ensures { IfOk result (λ ports. hosts_of ports.senders ≡ senders_of order.now) }
+{
     let mut ports = UdpPortSet::new(rt);
     add_line(rt, &mut ports, order.a, order.source_a)?;
     if let Some(b) = order.b {
         add_line(rt, &mut ports, b, order.source_b)?;
     }
-    for _ in 0..order.servers.len() {
-        if ports.bind(rt, socket_address(ANY), None).is_err() {
-            return Err(ProgramFault::Socket);
-        }
-    }
+    add_servers(rt, &mut ports, order)?;
     Ok(ports)
 }
 

@@ -2,7 +2,7 @@
 
 use crate::comparisons::holds;
 use mold_devices::DeviceFault;
-use mold_port_set::{MemoryPortSet, PortSet, PortSetStep, UdpPortSet};
+use mold_port_set::{MemoryPortSet, PortSet, PortSetStep, SenderList, UdpPortSet};
 use std::alloc::Global;
 use std::fs::{File, Files};
 use std::net::{Ipv4Addr, Net, SocketAddrV4};
@@ -58,7 +58,7 @@ fn expect_exchange(rt: &impl Abort, set: &mut UdpPortSet) -> Result<(), DeviceFa
 
 // Binds three ports. The first gives only datagrams of the second's address. The third is at another one.
 fn bind_three(rt: &impl Net, set: &mut UdpPortSet) -> Result<(), DeviceFault> {
-    set.bind(rt, loopback(), Some(*loopback().ip()))?;
+    set.bind(rt, loopback(), Some(SenderList::of(*loopback().ip())))?;
     set.bind(rt, loopback(), None)?;
     set.bind(rt, other(), None)
 }
