@@ -1,5 +1,5 @@
 -- What entries are published as, one by one, and the room that their messages leave.
-use Rattle.std.proofs.Common.{arith, ◌≡◌, ◌∙◌, ◌↔◌, ℕ, ◌+◌, ◌≤◌, Bool, cond, true, false, nat_lt, List, [], ◌∷◌}
+use Rattle.std.proofs.Common.{arith, ◌≡◌, ◌∙◌, ◌↔◌, ℕ, ◌+◌, ◌*◌, ◌≤◌, Bool, cond, true, false, nat_lt, List, [], ◌∷◌}
 use Rattle.std.proofs.Common.{◌++◌, length, length-append, map, Option, None, Some, Result, Ok, Err, ap, refl, sym}
 use Rattle.std.proofs.Common.{true≢false}
 use Rattle.std.proofs.Common.{subst, IsTrue, ⊎_elim, ◌==◌}
