@@ -397,7 +397,7 @@ is_frugal laws law old new steps os ran well empty room =
 
 step_room : (v : View) (step : RepairStep) → ((v : View) (p : Packet) → v.room ≡ None → HasRoomFor v p) → v.room ≡ None →
     HasRoomForStep v step
-step_room v (Take time origin datagram) law none packet read = law v packet none
+step_room v (Take time origin datagram) law none = λ packet read. law v packet none
 step_room v (Poll time) law none = tt
 step_room v (Lost time) law none = tt
 step_room v (Pass time) law none = tt
