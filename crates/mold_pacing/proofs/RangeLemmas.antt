@@ -7,11 +7,11 @@ use Rattle.std.proofs.lemmas.Bool.{cases_lt}
 use Rattle.std.proofs.lemmas.Bool.Decides.{nat_tests}
 use Rattle.std.specs.List.{list_all, list_any}
 use Rattle.mold_pacing.proofs.ApartLemmas.{apart_at}
-use Rattle.mold_pacing.proofs.EndLemmas.{all_both, all_first, all_map, all_rest, until_response}
-use Rattle.mold_pacing.proofs.TableLemmas.{any_none}
+use Rattle.mold_pacing.proofs.EndLemmas.{all_both, all_first, all_map, all_rest, true_is_false, until_response}
+use Rattle.mold_pacing.proofs.TableLemmas.{any_none, ascending_at}
 use Rattle.mold_pacing.specs.Deadline.{can_send}
 use Rattle.mold_pacing.specs.declared.pacer.Pacer.{Pacer}
-use Rattle.mold_pacing.specs.Flight.{ArePassed, are_apart, ends_below, is_over, is_stale, waits_until}
+use Rattle.mold_pacing.specs.Flight.{ArePassed, are_apart, ends_below, flies_from, is_ascending, is_over, is_stale, waits_until}
 use Rattle.mold_pacing.specs.Table.{AreBelow}
 use Rattle.mold_pacing.specs.Most.{ends_request}
 use Rattle.mold_pacing.specs.Responses.{after_arrival, after_response, has_come, is_response_to}
@@ -236,3 +236,105 @@ sends_by p None true is later waits none full opens =
 sends_by p None false is later waits none full opens = cc
 sends_by p (Some time) true is later waits none full opens = cc
 sends_by p (Some time) false is later waits none full opens = cannot_send p time full later waits
+
+all_each : (p : Flight → Bool) (fs : List Flight) → ((i : ℕ) (f : Flight) → slice_get fs i ≡ Some f → p f ≡ true) →
+    list_all p fs ≡ true
+all_each p [] each = refl
+all_each p (f ∷ fs) each = all_both p f fs (each 0 f refl) (all_each p fs (λ i g there. each (suc i) g there))
+
+flies_low : (now low : ℕ) (f : Flight) → flies_from now low f ≡ true → now < f.until → low ≤ f.first
+flies_low now low f from flies =
+    elim (cases_lt f.first low) [
+      | inl under ↦
+          let off : flies_from now low f ≡ false = grind (arith, nat_tests, flies, under) in
+          absurd (true_is_false (sym from ∙ off))
+      | inr above ↦ above
+    ]
+
+-- No request before the index is in flight, since it begins below all of those in flight.
+below_low : (fs : List Flight) (low now index : ℕ) (f : Flight) → is_ascending 0 fs ≡ true →
+    list_all (flies_from now low) fs ≡ true → slice_get fs index ≡ Some f → f.first < low → (i : ℕ) (g : Flight) →
+    i < index → slice_get fs i ≡ Some g → now < g.until → ⊥
+below_low fs low now index f sorted from there under i g before other flies =
+    let first = ascending_at 0 fs i index g f sorted (omega (arith, before)) other there in
+    omega (arith, under, first, flies_low now low g (all_at (flies_from now low) fs i g from other) flies)
+
+over_below : (fs : List Flight) (low now index below : ℕ) (f : Flight) → is_ascending 0 fs ≡ true →
+    list_all (flies_from now low) fs ≡ true → slice_get fs index ≡ Some f → f.first < low → f.until ≤ now →
+    ((i : ℕ) (g : Flight) → index < i → i < below → slice_get fs i ≡ Some g → g.until ≤ now) → (i : ℕ) (g : Flight) →
+    i < below → slice_get fs i ≡ Some g → now < g.until → ⊥
+over_below fs low now index below f sorted from there under done over i g before other flies =
+    elim (cases_lt i index) [
+      | inl earlier ↦ below_low fs low now index f sorted from there under i g earlier other flies
+      | inr after ↦ elim (cases_lt index i) [
+        | inl above ↦ omega (arith, flies, over i g above before other)
+        | inr at ↦
+            let same : i ≡ index = omega (arith, after, at) in
+            let both : Some g ≡ Some f = sym other ∙ ap (slice_get fs) same ∙ there in
+            let is : g ≡ f = grind (arith, both) in
+            omega (arith, flies, done, ap (λ (h : Flight). h.until) is)
+      ]
+    ]
+
+pub passed_low : (fs : List Flight) (low now index below number : ℕ) (f : Flight) → is_ascending 0 fs ≡ true →
+    list_all (flies_from now low) fs ≡ true → slice_get fs index ≡ Some f → f.first < low → f.until ≤ now →
+    ((i : ℕ) (g : Flight) → index < i → i < below → slice_get fs i ≡ Some g → g.until ≤ now) →
+    ArePassed fs now below number
+passed_low fs low now index below number f sorted from there under done over i g before other flies =
+    absurd (over_below fs low now index below f sorted from there under done over i g before other flies)
+
+flies_over : (now number : ℕ) (f : Flight) → f.until ≤ now → flies_from now number f ≡ true
+flies_over now number f over = grind (arith, nat_tests, over)
+
+pub flies_above : (now number : ℕ) (f : Flight) → number ≤ f.first → flies_from now number f ≡ true
+flies_above now number f above = grind (arith, nat_tests, above)
+
+-- All requests in flight begin at or above a number if none before its index is in flight.
+pub low_none : (fs : List Flight) (now below number : ℕ) →
+    ((i : ℕ) (g : Flight) → i < below → slice_get fs i ≡ Some g → g.until ≤ now) →
+    ((i : ℕ) (g : Flight) → below ≤ i → slice_get fs i ≡ Some g → number ≤ g.first) →
+    list_all (flies_from now number) fs ≡ true
+low_none fs now below number over next = all_each (flies_from now number) fs (λ i f there.
+    elim (cases_lt i below) [
+      | inl before ↦ (let done = over i f before there in flies_over now number f done)
+      | inr after ↦ (let from = next i f after there in flies_above now number f from)
+    ])
+
+pub low_at : (fs : List Flight) (low now index below number : ℕ) (f : Flight) → is_ascending 0 fs ≡ true →
+    list_all (flies_from now low) fs ≡ true → slice_get fs index ≡ Some f → f.first < low → f.until ≤ now →
+    ((i : ℕ) (g : Flight) → index < i → i < below → slice_get fs i ≡ Some g → g.until ≤ now) →
+    ((i : ℕ) (g : Flight) → below ≤ i → slice_get fs i ≡ Some g → number ≤ g.first) →
+    list_all (flies_from now number) fs ≡ true
+low_at fs low now index below number f sorted from there under done over next =
+    low_none fs now below number (λ i g before other.
+    elim (cases_lt now g.until) [
+      | inl flies ↦ absurd (over_below fs low now index below f sorted from there under done over i g before other flies)
+      | inr past ↦ past
+    ]) next
+
+-- A change that leaves the first numbers, and sends nothing again.
+pub flies_kept : (now later low : ℕ) (change : Flight → Flight) (fs : List Flight) →
+    ((f : Flight) → (change f).first ≡ f.first) → ((f : Flight) → later < (change f).until → now < f.until) →
+    list_all (flies_from now low) fs ≡ true → list_all (flies_from later low) (map change fs) ≡ true
+flies_kept now later low change fs firsts still all =
+    all_map (flies_from now low) (flies_from later low) change fs (λ f from.
+    elim (cases_lt later (change f).until) [
+      | inl flies ↦ flies_above later low (change f) (omega (arith, firsts f, flies_low now low f from (still f flies)))
+      | inr over ↦ flies_over later low (change f) over
+    ]) all
+
+pub flies_later : (now later low : ℕ) (fs : List Flight) → now ≤ later → list_all (flies_from now low) fs ≡ true →
+    list_all (flies_from later low) fs ≡ true
+flies_later now later low [] order all = refl
+flies_later now later low (f ∷ fs) order all =
+    let here : flies_from now low f ≡ true = all_first (flies_from now low) f fs all in
+    let then : flies_from later low f ≡ true = grind (arith, nat_tests, order, here) in
+    all_both (flies_from later low) f fs then (flies_later now later low fs order (all_rest (flies_from now low) f fs all))
+
+pub flies_less : (now low less : ℕ) (fs : List Flight) → less ≤ low → list_all (flies_from now low) fs ≡ true →
+    list_all (flies_from now less) fs ≡ true
+flies_less now low less [] order all = refl
+flies_less now low less (f ∷ fs) order all =
+    let here : flies_from now low f ≡ true = all_first (flies_from now low) f fs all in
+    let then : flies_from now less f ≡ true = grind (arith, nat_tests, order, here) in
+    all_both (flies_from now less) f fs then (flies_less now low less fs order (all_rest (flies_from now low) f fs all))

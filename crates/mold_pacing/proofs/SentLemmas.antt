@@ -4,8 +4,8 @@ use Rattle.std.proofs.lemmas.Bool.Decides.{nat_tests}
 use Rattle.std.specs.List.{list_all}
 use Rattle.mold_pacing.proofs.EndLemmas.{all_placed, all_without}
 use Rattle.mold_pacing.proofs.PlaceLemmas.{removed_ascending}
-use Rattle.mold_pacing.proofs.RangeLemmas.{ends_more, waits_lower}
-use Rattle.mold_pacing.specs.Flight.{ends_below, is_ascending, waits_until}
+use Rattle.mold_pacing.proofs.RangeLemmas.{ends_more, flies_above, flies_less, waits_lower}
+use Rattle.mold_pacing.specs.Flight.{ends_below, flies_from, is_ascending, waits_until}
 use Rattle.mold_pacing.specs.Repeat.{pause_for}
 use Rattle.mold_pacing.specs.Table.{placed, without}
 use Rattle.mold_pacing.specs.declared.flight.Flight.{Flight}
@@ -39,3 +39,13 @@ sent_bounded end sent leaves fs all =
     let here : ends_below (max end sent.end) sent ≡ true = grind (arith, nat_tests, less) in
     all_placed (ends_below (max end sent.end)) sent (without leaves fs) here
     (all_without (ends_below (max end sent.end)) leaves fs (ends_more end (max end sent.end) fs (omega arith) all))
+
+pub sent_flies : (now low : ℕ) (sent : Flight) (leaves : Option ℕ) (fs : List Flight) →
+    list_all (flies_from now low) fs ≡ true →
+    list_all (flies_from now (min low sent.first)) (placed sent (without leaves fs)) ≡ true
+sent_flies now low sent leaves fs all =
+    let less : min low sent.first ≤ sent.first = omega arith in
+    let here : flies_from now (min low sent.first) sent ≡ true = flies_above now (min low sent.first) sent less in
+    all_placed (flies_from now (min low sent.first)) sent (without leaves fs) here
+    (all_without (flies_from now (min low sent.first)) leaves fs
+    (flies_less now low (min low sent.first) fs (omega arith) all))

@@ -1,5 +1,5 @@
 -- Requests in flight.
-use Rattle.std.specs.Prelude.{◌≡◌, ℕ, ◌<◌, ◌≤◌, ◌&&◌, Bool, true, false, List, [], ◌∷◌, nat_le, nat_lt, slice_get, Some}
+use Rattle.std.specs.Prelude.{◌≡◌, ℕ, ◌<◌, ◌≤◌, ◌&&◌, ◌||◌, Bool, true, false, List, [], ◌∷◌, nat_le, nat_lt, slice_get, Some}
 use Rattle.std.specs.Prelude.{if◌then◌else◌}
 use Rattle.std.specs.List.{list_any}
 use Rattle.mold_pacing.specs.declared.flight.Flight.{Flight}
@@ -53,6 +53,10 @@ waits_until time f = nat_le time f.until
 -- Whether the request ends at or below this number.
 abbrev pub ends_below : ℕ → Flight → Bool
 ends_below number f = nat_le f.end number
+
+-- Whether the request is over, or begins at or above this number.
+abbrev pub flies_from : ℕ → ℕ → Flight → Bool
+flies_from now number f = is_over now f || nat_le number f.first
 
 -- Whether each request asks for a number, and those in flight are apart: each begins at or above the end of the one
 -- before it, and the first begins at or above `low`.

@@ -7,4 +7,6 @@ pub(crate) struct Bounds {
     pub(crate) over: u64,
     /// Each request ends at or below this number.
     pub(crate) end: u64,
+    /// Each request in flight begins at or above this number.
+    pub(crate) low: u64,
 }

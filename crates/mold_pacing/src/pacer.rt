@@ -2,7 +2,8 @@
 
 ghost use Rattle.std.specs.Prelude.{◌<◌, ◌≤◌, ◌+◌, ◌^◌, ◌≡◌, true, vec_capacity, vec_len};
 ghost use Rattle.std.specs.List.{list_all};
-ghost use Rattle.mold_pacing.specs.Flight.{are_apart, ends_below, is_ascending, is_over, waits_until};
+ghost use Rattle.mold_pacing.specs.Flight.{are_apart, ends_below, flies_from, is_ascending, is_over};
+ghost use Rattle.mold_pacing.specs.Flight.{waits_until};
 
 use crate::ask::Ask;
 use crate::bounds::Bounds;
@@ -18,7 +19,7 @@ use crate::response::{ended_request, take_arrival, take_response};
 use crate::state::PacerState;
 use crate::step::Step;
 use crate::table::{
-    Free, all_begin_below, find_covering, first_free, free_end, next_hole, passed_index,
+    Free, all_begin_below, find_covering, first_free, free_end, low_from, next_hole, passed_index,
 };
 use crate::waiting::{free_from, least_until, next_over, over_from};
 use std::alloc::{AllocError, Global};
@@ -34,6 +35,7 @@ pub struct Pacer {
     ghost sorted: { is_ascending 0 flights.items ≡ true },
     ghost apart: { are_apart state.now 0 flights.items ≡ true },
     ghost waits: { list_all (waits_until bounds.over) flights.items ≡ true },
+    ghost low: { list_all (flies_from state.now bounds.low) flights.items ≡ true },
     ghost bounded: { list_all (ends_below bounds.end) flights.items ≡ true },
     ghost few: { vec_len flights ≤ options.places },
     ghost room: { options.places ≤ vec_capacity flights },
@@ -74,6 +76,7 @@ impl Pacer {
             bounds: Bounds {
                 over: u64::MAX,
                 end: 0,
+                low: u64::MAX,
             },
         })
     }
@@ -109,8 +112,11 @@ impl Pacer {
         ensures flights { self.new.flights.items ≡
             map (after_response self.old.options.settle self.old.state.now came.first came.end) self.old.flights.items }
     {
-        let ended = ended_request(&self.flights, self.state.now, came);
-        let least = take_response(&mut self.flights, self.options.settle, self.state.now, came);
+        let now = self.state.now;
+        let low = low_from(&self.flights, self.bounds.low, now, came.first);
+        let ended = ended_request(&self.flights, low, now, came);
+        let least = take_response(&mut self.flights, low, self.options.settle, now, came);
+        self.bounds.low = low;
         self.bounds.over = self.bounds.over.min(least);
         self.state = self.state.respond(self.options, server, ended);
     }
@@ -185,6 +191,7 @@ impl Pacer {
         self.bounds = Bounds {
             over: self.bounds.over.min(sent.until),
             end: self.bounds.end.max(sent.end),
+            low: self.bounds.low.min(sent.first),
         };
         let state = self.state.learn(self.options, place.before);
         self.state = state.ask(self.options.interval, ask.end.saturating_sub(ask.first));
@@ -202,7 +209,7 @@ impl Pacer {
         if !is_open(self.state.opens, self.options.tolerance, now) {
             return None;
         }
-        let free = first_free(&self.flights, now, self.state.ripe, gaps)?;
+        let free = first_free(&self.flights, self.bounds.low, now, self.state.ripe, gaps)?;
         let place = place_for(
             &self.flights,
             self.bounds,
@@ -232,8 +239,9 @@ impl Pacer {
     pub fn can_send(&self) -> bool
         ensures { result ≡ can_send self.now }
     {
-        let now = self.state.now;
-        if !is_open(self.state.opens, self.options.tolerance, now) {
+        let state = self.state;
+        let now = state.now;
+        if !is_open(state.opens, self.options.tolerance, now) {
             return false;
         }
         if self.flights.len() < self.options.places as usize {
@@ -267,7 +275,7 @@ impl Pacer {
         ensures passed { ArePassed self.now.flights.items self.now.state.now result.index number }
     {
         Cursor {
-            index: passed_index(&self.flights, self.state.now, number),
+            index: passed_index(&self.flights, self.bounds.low, self.state.now, number),
             number,
         }
     }
@@ -343,7 +351,7 @@ impl Pacer {
     pub fn request_for(&self, number: u64) -> Option<Flight>
         ensures { result ≡ request_for self.now number }
     {
-        find_covering(&self.flights, self.state.now, number)
+        find_covering(&self.flights, self.bounds.low, self.state.now, number)
     }
 
     /// Returns how many requests in a row for this number had no response. A request in flight doesn't count.

@@ -2,7 +2,7 @@
 
 ghost use Rattle.std.specs.Prelude.{◌≡◌, ◌<◌, ◌+◌, ◌^◌, ℕ, true, find, map, min};
 ghost use Rattle.std.specs.List.{list_all};
-ghost use Rattle.mold_pacing.specs.Flight.{are_apart, is_ascending, waits_until};
+ghost use Rattle.mold_pacing.specs.Flight.{are_apart, flies_from, is_ascending, waits_until};
 ghost use Rattle.mold_pacing.specs.Most.{ends_request};
 ghost use Rattle.mold_pacing.specs.Responses.{after_arrival, after_response, is_response_to};
 
@@ -60,12 +60,13 @@ fn is_end(flight: Flight, now: u64, came: Gap) -> bool
 }
 
 /// Returns the first request that a response with the numbers of the range frees.
-pub(crate) fn ended_request(flights: &[Flight], now: u64, came: Gap) -> Option<Flight>
+pub(crate) fn ended_request(flights: &[Flight], low: u64, now: u64, came: Gap) -> Option<Flight>
+    requires low { list_all (flies_from now low) flights.now ≡ true }
     requires sorted { is_ascending 0 flights.now ≡ true }
     requires apart { are_apart now 0 flights.now ≡ true }
     ensures { result ≡ find (ends_request now came.first came.end) flights.now }
 {
-    let mut index = passed_index(flights, now, came.first);
+    let mut index = passed_index(flights, low, now, came.first);
     while index < flights.len() {
         let flight = flights[index];
         if came.end <= flight.first {
@@ -81,7 +82,14 @@ pub(crate) fn ended_request(flights: &[Flight], now: u64, came: Gap) -> Option<F
 
 /// Applies a response with the numbers of the range to each request. Returns a time before which none of those that it
 /// looked at is over.
-pub(crate) fn take_response(flights: &mut [Flight], settle: u64, now: u64, came: Gap) -> u64
+pub(crate) fn take_response(
+    flights: &mut [Flight],
+    low: u64,
+    settle: u64,
+    now: u64,
+    came: Gap,
+) -> u64
+    requires low { list_all (flies_from now low) flights.old ≡ true }
     requires fits { now + settle < 2 ^ 64 }
     requires sorted { is_ascending 0 flights.old ≡ true }
     requires apart { are_apart now 0 flights.old ≡ true }
@@ -90,7 +98,7 @@ pub(crate) fn take_response(flights: &mut [Flight], settle: u64, now: u64, came:
         list_all (waits_until (min time result)) flights.new ≡ true }
 {
     let mut least = u64::MAX;
-    let mut index = passed_index(flights, now, came.first);
+    let mut index = passed_index(flights, low, now, came.first);
     while index < flights.len() {
         if came.end <= flights[index].first {
             return least;

@@ -4,7 +4,8 @@ ghost use Rattle.std.specs.Prelude.{◌≡◌, ◌≤◌, ◌<◌, ◌⊎◌, �
 ghost use Rattle.std.specs.Prelude.{slice_get, Some};
 ghost use Rattle.mold_pacing.specs.Table.{AreBelow};
 ghost use Rattle.mold_pacing.specs.Flight.{AllInFlight, ArePassed, BeginAbove, NoneInFlight, covers, in_flight};
-ghost use Rattle.mold_pacing.specs.Flight.{are_apart, is_ascending};
+ghost use Rattle.mold_pacing.specs.Flight.{are_apart, flies_from, is_ascending};
+ghost use Rattle.std.specs.List.{list_all};
 ghost use Rattle.mold_pacing.specs.declared.flight.Flight.{Flight};
 ghost use Rattle.mold_pacing.specs.Asks.{AreGaps, AreAllInFlight, IsFirstFree};
 
@@ -128,9 +129,10 @@ pub(crate) fn count_below(flights: &[Flight], number: u64) -> usize
 
 /// Returns an index before which all requests in flight end at or below this number. From there on, only the first
 /// request in flight can begin below it.
-pub(crate) fn passed_index(flights: &[Flight], now: u64, number: u64) -> usize
+pub(crate) fn passed_index(flights: &[Flight], low: u64, now: u64, number: u64) -> usize
     requires sorted { is_ascending 0 flights.now ≡ true }
     requires apart { are_apart now 0 flights.now ≡ true }
+    requires low { list_all (flies_from now low) flights.now ≡ true }
     ensures { ArePassed flights.now now result number }
 {
     let below = count_below(flights, number);
@@ -141,26 +143,61 @@ pub(crate) fn passed_index(flights: &[Flight], now: u64, number: u64) -> usize
         if now < flight.until {
             return if flight.end <= number { below } else { index };
         }
+        if flight.first < low {
+            return below;
+        }
     }
     below
 }
 
-// Returns the cursor's index, or a greater one if it is 0.
-fn index_from(flights: &[Flight], now: u64, from: Cursor) -> usize
+/// Returns the number, or `low` if a request in flight begins below it, or if `low` is greater.
+pub(crate) fn low_from(flights: &[Flight], low: u64, now: u64, number: u64) -> u64
     requires sorted { is_ascending 0 flights.now ≡ true }
+    requires low { list_all (flies_from now low) flights.now ≡ true }
+    ensures { list_all (flies_from now result) flights.now ≡ true }
+{
+    if number <= low {
+        return low;
+    }
+    let below = count_below(flights, number);
+    let mut index = below;
+    while index > 0 {
+        index -= 1;
+        let flight = flights[index];
+        if now < flight.until {
+            return low;
+        }
+        if flight.first < low {
+            return number;
+        }
+    }
+    number
+}
+
+// Returns the cursor's index, or a greater one if it is 0.
+fn index_from(flights: &[Flight], low: u64, now: u64, from: Cursor) -> usize
+    requires sorted { is_ascending 0 flights.now ≡ true }
+    requires low { list_all (flies_from now low) flights.now ≡ true }
     requires apart { are_apart now 0 flights.now ≡ true }
     requires passed { ArePassed flights.now now from.index from.number }
     ensures { ArePassed flights.now now result from.number }
 {
     if from.index == 0 {
-        return passed_index(flights, now, from.number);
+        return passed_index(flights, low, now, from.number);
     }
     from.index
 }
 
 /// Returns the least number of the gaps that is below `ripe` and not in flight. Each gap and each request is visited at
 /// most once, but no gap after the first one that begins at or above `ripe`, and no request below the first gap.
-pub(crate) fn first_free(flights: &[Flight], now: u64, ripe: u64, gaps: &[Gap]) -> Option<Free>
+pub(crate) fn first_free(
+    flights: &[Flight],
+    low: u64,
+    now: u64,
+    ripe: u64,
+    gaps: &[Gap],
+) -> Option<Free>
+    requires low { list_all (flies_from now low) flights.now ≡ true }
     requires now { now < 2 ^ 62 }
     requires sorted { is_ascending 0 flights.now ≡ true }
     requires apart { are_apart now 0 flights.now ≡ true }
@@ -184,7 +221,7 @@ pub(crate) fn first_free(flights: &[Flight], now: u64, ripe: u64, gaps: &[Gap]) 
                 index: cursor.index,
                 number: cursor.number.max(gap.first),
             };
-            let index = index_from(flights, now, from);
+            let index = index_from(flights, low, now, from);
             let passed = pass_flights(flights, now, Cursor { index, ..from });
             cursor = Cursor {
                 index: passed.index,
@@ -223,12 +260,13 @@ fn is_covering(flight: Flight, now: u64, number: u64) -> bool
 }
 
 /// Returns the first request in flight that asks for this number.
-pub(crate) fn find_covering(flights: &[Flight], now: u64, number: u64) -> Option<Flight>
+pub(crate) fn find_covering(flights: &[Flight], low: u64, now: u64, number: u64) -> Option<Flight>
+    requires low { list_all (flies_from now low) flights.now ≡ true }
     requires sorted { is_ascending 0 flights.now ≡ true }
     requires apart { are_apart now 0 flights.now ≡ true }
     ensures { result ≡ find (covers now number) flights.now }
 {
-    let mut index = passed_index(flights, now, number);
+    let mut index = passed_index(flights, low, now, number);
     while index < flights.len() {
         let flight = flights[index];
         if number < flight.first {

@@ -1,7 +1,7 @@
 use Rattle.std.proofs.Common.{◌-◌, arith, inl, inr, sym, ◌∙◌, ap}
 use Rattle.std.proofs.lemmas.Bool.{cases_lt}
 use Rattle.std.proofs.lemmas.Option.{slice_get-get_or, slice_get_within}
-use Rattle.mold_pacing.proofs.RangeLemmas.{passed_at, passed_below}
+use Rattle.mold_pacing.proofs.RangeLemmas.{passed_at, passed_below, passed_low}
 use Rattle.mold_pacing.proofs.TableLemmas.{flight_at}
 use Rattle.mold_pacing.proofs.WaitingLemmas.{same_at}
 use Rattle.mold_pacing.proofs.table.passed_index.Goals as goal
@@ -45,3 +45,14 @@ loop-index-preserved c =
         )
       ];
     }
+
+pub returns-then-flight-low : goal.returns-then-flight-low
+returns-then-flight-low c =
+    let fs = c.args.flights.now in
+    let index = c.loop-index.index - 1 in
+    let below = c.count_below-below.ensures in
+    let inv = c.loop-index.invariant in
+    let there = slice_get-get_or fs index _ (omega (arith, c.loop-index-test.true, inv.within, below.bound)) in
+    passed_low fs c.args.low c.args.now index c.count_below-below.result c.args.number (flight_at fs index)
+    c.requires.sorted c.requires.low there c.if-flight-low.true c.if-now-flight.false
+    (λ i g after before other. inv.over i g (omega (arith, after)) before other)

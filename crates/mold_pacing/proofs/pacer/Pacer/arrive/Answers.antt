@@ -5,9 +5,9 @@ use Rattle.mold_pacing.specs.declared.flight.Flight.{Flight}
 use Rattle.mold_pacing.specs.Responses.{after_arrival}
 use Rattle.mold_pacing.specs.Table.{AreBelow}
 use Rattle.std.specs.List.{list_all}
-use Rattle.mold_pacing.specs.Flight.{are_apart, ends_below, is_over, waits_until}
+use Rattle.mold_pacing.specs.Flight.{are_apart, ends_below, flies_from, is_over, waits_until}
 use Rattle.mold_pacing.proofs.ApartLemmas.{apart_map}
-use Rattle.mold_pacing.proofs.RangeLemmas.{ends_kept, arrival_end, arrival_until}
+use Rattle.mold_pacing.proofs.RangeLemmas.{flies_kept, ends_kept, arrival_end, arrival_until}
 use Rattle.mold_pacing.proofs.EndLemmas.{all_map, ends_arrival}
 use Rattle.mold_pacing.proofs.ResponseLemmas.{arrival_first, arrival_none, changed_ascending}
 use Rattle.mold_pacing.proofs.pacer.Pacer.arrive.Goals as goal
@@ -78,3 +78,16 @@ invariant_of-self-clause-waits c =
     (ap (list_all (waits_until (min old.bounds.over c.take_arrival-least.result))) (with_items_is fs now long)
     ∙ c.take_arrival-least.ensures.waits old.bounds.over
     (ap (list_all (waits_until old.bounds.over)) c.deref_mut.ensures.value ∙ old.waits))
+
+pub invariant_of-self-clause-low : goal.invariant_of-self-clause-low
+invariant_of-self-clause-low c =
+    let old = c.args.self.now in
+    let fs = old.flights in
+    let now = c.take_arrival-least.new.flights in
+    let change = after_arrival old.state.now c.args.came.first c.args.came.end in
+    let is = c.take_arrival-least.ensures.flights ∙ ap (map change) c.deref_mut.ensures.value in
+    let long = ap (λ (t : List Flight). length t) is ∙ length-map fs.items change ∙ sym fs.ok.0 in
+    let low = old.bounds.low in
+    let was = old.low in
+    ap (list_all (flies_from old.state.now low)) (with_items_is fs now long ∙ is)
+    ∙ flies_kept old.state.now old.state.now low change fs.items (arrival_first old.state.now c.args.came.first c.args.came.end) (λ f flies. omega (arith, flies, arrival_until old.state.now c.args.came.first c.args.came.end f)) was

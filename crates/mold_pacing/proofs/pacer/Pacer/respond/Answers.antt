@@ -6,9 +6,9 @@ use Rattle.mold_pacing.specs.declared.state.PacerState.{PacerState}
 use Rattle.mold_pacing.specs.declared.flight.Flight.{Flight}
 use Rattle.mold_pacing.specs.Responses.{after_response}
 use Rattle.std.specs.List.{list_all}
-use Rattle.mold_pacing.specs.Flight.{are_apart, ends_below, is_over, waits_until}
+use Rattle.mold_pacing.specs.Flight.{are_apart, ends_below, flies_from, is_over, waits_until}
 use Rattle.mold_pacing.proofs.ApartLemmas.{apart_map}
-use Rattle.mold_pacing.proofs.RangeLemmas.{ends_kept, response_end, response_still}
+use Rattle.mold_pacing.proofs.RangeLemmas.{flies_kept, ends_kept, response_end, response_still}
 use Rattle.mold_pacing.proofs.EndLemmas.{all_map, ends_response}
 use Rattle.mold_pacing.proofs.ResponseLemmas.{response_first, changed_ascending}
 use Rattle.mold_pacing.proofs.pacer.Pacer.respond.Goals as goal
@@ -78,3 +78,20 @@ invariant_of-self-clause-waits c =
     (ap (list_all (waits_until (min old.bounds.over c.take_response-least.result))) (with_items_is fs now long)
     ∙ c.take_response-least.ensures.waits old.bounds.over
     (ap (list_all (waits_until old.bounds.over)) c.deref_mut.ensures.value ∙ old.waits))
+
+pub invariant_of-self-clause-low : goal.invariant_of-self-clause-low
+invariant_of-self-clause-low c =
+    let old = c.args.self.now in
+    let fs = old.flights in
+    let now = c.take_response-least.new.flights in
+    let change = after_response old.options.settle old.state.now c.args.came.first c.args.came.end in
+    let is = c.take_response-least.ensures.flights ∙ ap (map change) c.deref_mut.ensures.value in
+    let long = ap (λ (t : List Flight). length t) is ∙ length-map fs.items change ∙ sym fs.ok.0 in
+    let low = c.low_from-low.result in
+    let time = ap (λ (s : PacerState). s.now) c.respond-self.ensures
+    ∙ responded_now old.options c.args.server c.ended_request-ended.result old.state in
+    let was = subst (λ (t : List Flight). list_all (flies_from old.state.now low) t ≡ true) c.deref.ensures.value
+    c.low_from-low.ensures in
+    ap (λ (n : ℕ). list_all (flies_from n low) (with_items fs now).items) time
+    ∙ ap (list_all (flies_from old.state.now low)) (with_items_is fs now long ∙ is)
+    ∙ flies_kept old.state.now old.state.now low change fs.items (response_first old.options.settle old.state.now c.args.came.first c.args.came.end) (response_still old.options.settle old.state.now c.args.came.first c.args.came.end) was

@@ -1,10 +1,10 @@
 use Rattle.std.proofs.Common.{ℕ, ◌+◌, ◌<◌, ◌∙◌, List, ap, arith, length, max, min, subst, sym}
 use Rattle.std.specs.List.{list_all}
-use Rattle.mold_pacing.specs.Flight.{NoneInFlight, are_apart, ends_below, is_ascending, is_over, waits_until}
+use Rattle.mold_pacing.specs.Flight.{NoneInFlight, are_apart, ends_below, flies_from, is_ascending, is_over, waits_until}
 use Rattle.mold_pacing.specs.Table.{without}
 use Rattle.mold_pacing.proofs.ApartLemmas.{sent_apart}
 use Rattle.mold_pacing.proofs.EndLemmas.{all_placed, all_without, sent_ends}
-use Rattle.mold_pacing.proofs.SentLemmas.{pause_some, sent_bounded, sent_waits, without_ascending}
+use Rattle.mold_pacing.proofs.SentLemmas.{pause_some, sent_bounded, sent_flies, sent_waits, without_ascending}
 use Rattle.mold_pacing.specs.declared.flight.Flight.{Flight}
 use Rattle.mold_pacing.specs.declared.state.PacerState.{PacerState}
 use Rattle.mold_pacing.proofs.LawLemmas.{learned_marked, learned_most, learned_now, learned_opens}
@@ -40,6 +40,9 @@ invariant_of-self c =
           (subst (λ (n : ℕ). NoneInFlight fs old.state.now c.args.ask.first n) (sym end) c.requires.free)) (omega (arith, first, end, c.requires.some)) flies old.apart;
       waits = rw c.min.ensures (ap (list_all (waits_until (min old.bounds.over sent.until))) c.replace.ensures.items
           ∙ sent_waits old.bounds.over sent leaves fs old.waits);
+      low = ap (λ (n : ℕ). list_all (flies_from n c.min-2.result) c.replace.new.flights.items) now
+          ∙ (rw c.min-2.ensures (ap (list_all (flies_from old.state.now (min old.bounds.low sent.first))) c.replace.ensures.items
+          ∙ sent_flies old.state.now old.bounds.low sent leaves fs old.low));
       bounded = rw c.max.ensures (ap (list_all (ends_below (max old.bounds.end sent.end))) c.replace.ensures.items
           ∙ sent_bounded old.bounds.end sent leaves fs old.bounded);
       few = omega (
