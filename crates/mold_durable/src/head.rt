@@ -60,12 +60,18 @@ pub fn write_head<S: Storage>(storage: &mut S, session: Session) -> Result<(), D
 /// The greatest length of a file whose creator was killed: that of a head and the gate after it.
 pub(crate) const UNFINISHED_LENGTH: usize = HEAD_LENGTH + 1;
 
-// Returns whether the bytes are the first of the magic bytes, or zeros.
+// Returns whether each of the first eight bytes is that of the magic bytes at its index, or zero.
 fn is_start(bytes: &[u8]) -> bool
-    requires { length bytes.now ≤ 8 }
     ensures { IsTrue result ↔ IsStart bytes.now }
 {
-    bytes == &magic()[..bytes.len()] || bytes == &[0; MAGIC_LENGTH][..bytes.len()]
+    let magic = magic();
+    let end = bytes.len().min(MAGIC_LENGTH);
+    for at in 0..end {
+        if bytes[at] != magic[at] && bytes[at] != 0 {
+            return false;
+        }
+    }
+    true
 }
 
 /// Returns whether a creator of a journal's file that is killed may leave a file of these bytes.
@@ -73,7 +79,7 @@ pub(crate) fn is_unfinished(bytes: &[u8]) -> bool
     ensures { IsTrue result ↔ IsUnfinished bytes.now }
 {
     let length = bytes.len();
-    if length > UNFINISHED_LENGTH || !is_start(&bytes[..length.min(MAGIC_LENGTH)]) {
+    if length > UNFINISHED_LENGTH || !is_start(bytes) {
         return false;
     }
     length < UNFINISHED_LENGTH || bytes[HEAD_LENGTH] == SHUT_GATE
