@@ -69,7 +69,7 @@ impl ClosedStreams {
 // Opens the descriptor of a standard stream if it is closed, for writing only or for reading only, and returns whether
 // it was. It stays open as long as the process. The system gives a file that is opened the lowest number that is free.
 fn reserve(rt: &HostRuntime, descriptor: RawFd, writes: bool) -> Result<bool, CommandFault> {
-    if lseek(descriptor, 0, SEEK_CUR) >= 0 || errno() != EBADF {
+    if lseek(descriptor, 0, SEEK_CUR) != -1 || errno() != EBADF {
         return Ok(false);
     }
     let mut options = OpenOptions::new();
