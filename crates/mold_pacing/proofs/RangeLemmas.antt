@@ -338,3 +338,9 @@ flies_less now low less (f ∷ fs) order all =
     let here : flies_from now low f ≡ true = all_first (flies_from now low) f fs all in
     let then : flies_from now less f ≡ true = grind (arith, nat_tests, order, here) in
     all_both (flies_from now less) f fs then (flies_less now low less fs order (all_rest (flies_from now low) f fs all))
+
+pub waits_at : (time : ℕ) (fs : List Flight) (i : ℕ) (f : Flight) → list_all (waits_until time) fs ≡ true →
+    slice_get fs i ≡ Some f → time ≤ f.until
+waits_at time fs i f all there =
+    let waits = all_at (waits_until time) fs i f all there in
+    grind (arith, nat_tests, waits)

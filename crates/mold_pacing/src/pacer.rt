@@ -309,7 +309,11 @@ impl Pacer {
         ensures bound { (number : ℕ) → in_flight self.now.state.now number self.now.flights.items ≡ true →
             result ≤ self.now.state.now + self.now.options.ceiling }
     {
-        next_over(&self.flights, self.state.now)
+        let now = self.state.now;
+        if now < self.bounds.over {
+            return self.bounds.over;
+        }
+        next_over(&self.flights, now)
     }
 
     /// Returns what the pacer knows besides its requests.
