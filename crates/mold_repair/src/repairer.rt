@@ -162,13 +162,13 @@ impl Repairer {
         ensures delays { self.new.delays ≡ self.old.delays }
         ensures audit { self.new.audit ≡ self.old.audit }
     {
-        note(
+        self.front = note_response(
             &self.arbiter,
             &mut self.pacer,
-            RepairOrigin::Server(server),
+            self.front,
+            server,
             datagram,
         );
-        self.front = NO_FRONT;
     }
 
     // Does the same if messages were missing before the datagram. Otherwise no request can be for its numbers.
