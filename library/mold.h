@@ -318,7 +318,7 @@ uint32_t mold_listener_new(mold_listener *listener, const uint8_t session[10], u
 /* Makes a listener as mold_listener_new does, whose store has room for `store` bytes: those of the stored messages and of
  * their length fields, 2 for each message. If the messages of a datagram that begins above a gap have no room, none of
  * them is stored. A datagram that has the message N needs no room. So the memory of the listener has a bound, and the
- * first gap can always be filled. If `store` is 0, there is no limit, as with mold_listener_new.
+ * first gap can always be filled. If `store` is 0, the store is not limited, as with mold_listener_new.
  *
  *   MOLD_E_BROKEN     the handle is not empty.
  *   MOLD_E_NEXT_ZERO  next is 0.

@@ -355,7 +355,7 @@ public:
         return static_cast<Code>(mold_listener_new(&handle_, session.data(), next, window));
     }
 
-    /// Opens the listener with a store that has room for `store` bytes. 0 is no limit.
+    /// Opens the listener with a store that has room for `store` bytes. With 0 the store is not limited.
     [[nodiscard]] Code open(const Session &session, std::uint64_t next, std::uint32_t window,
                             std::uint64_t store) noexcept {
         return static_cast<Code>(mold_listener_bounded(&handle_, session.data(), next, window, store));

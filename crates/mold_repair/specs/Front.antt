@@ -20,7 +20,7 @@ NoneSpans fs now number = (i : ℕ) (f : Flight) → slice_get fs i ≡ Some f �
 abbrev pub HasGap : View → Gap → Type 0
 HasGap v gap = (q : ℕ) → gap.first ≤ q → q < gap.end → IsMissing v q → ⊥
 
--- What remains of the front after a response with these numbers.
+-- How far the requests still reach after a response with these numbers.
 pub record IsFrontLeft (v : View) (fs : List Flight) (now settle : ℕ) (came : Gap)
     (number until number_left until_left : ℕ) : Type 0 where
   pub few : number_left ≤ number

@@ -76,7 +76,8 @@ impl Listener {
 
     /// Makes a listener as [`new`](Self::new) does, whose store has room for `store` bytes: those of the stored messages
     /// and of their length fields, 2 for each message. If the messages of a datagram that begins above a gap have no
-    /// room, none of them is stored. A datagram that has the message N needs no room. If `store` is 0, there is no limit.
+    /// room, none of them is stored. A datagram that has the message N needs no room. If `store` is 0, the store is not
+    /// limited.
     ///
     /// # Errors
     ///
