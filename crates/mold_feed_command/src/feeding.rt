@@ -196,8 +196,8 @@ fn begin(rt: &HostRuntime, order: &FeedOrder) -> Result<u8, ProgramFault> {
 }
 
 /// Keeps a session, whose messages are read from standard input, in a journal file, sends it on one or two lines, and
-/// responds to requests. A file that exists is continued, unless it is not a journal of the session. Refusals are printed
-/// on standard output.
+/// responds to requests. A file that exists is continued, unless it is not a journal of the session. Refusals are
+/// printed on standard output.
 pub fn run_feed(rt: &HostRuntime, order: &FeedOrder) -> Result<u8, ProgramFault> {
     let path = order.journal.as_str();
     match open_file(rt, path) {

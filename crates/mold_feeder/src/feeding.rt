@@ -53,8 +53,8 @@ fn status_of(stop: FeedStop) -> u8
 /// If a wait fails, it reads the input without waiting for it first, if it lacks entries. The fault is `Read` if a read
 /// of the input failed, or after 18446744073709551615 turns. It is also `Read` if `journal` could not be read, or has
 /// fewer messages than the publisher: then another process has changed the file. It is `Write` if the journal or `sink`
-/// could not be written. If a group could not be committed, none of its messages is sent, and a crash leaves all of them
-/// or none.
+/// could not be written. If a group could not be committed, none of its messages is sent, and a crash leaves all of
+/// them or none.
 pub fn feed_loop<
     S: Storage + Drop,
     L: FeedPorts + Drop,

@@ -8,7 +8,8 @@ pub enum InputFault {
     /// A line is not an even number of hexadecimal digits.
     #[error("the line is not an even number of hexadecimal digits")]
     NotHex,
-    /// A line has more than `MAX_LINE` hexadecimal digits, an even number. `len` is the number of bytes that they encode.
+    /// A line has more than `MAX_LINE` hexadecimal digits, an even number. `len` is the number of bytes that they
+    /// encode.
     #[error("a message of {len} bytes is too long")]
     TooLong { len: usize },
     /// The input ends within a block: after the first byte of its length, or before the last byte of its message.

@@ -99,9 +99,9 @@ impl UdpPortSet {
         }
     }
 
-    /// Adds a port at an address of this machine; for port number 0, the system chooses one. If `senders` is not `None`,
-    /// the port gives only datagrams from these IP addresses. It fails if the address is not the machine's or is taken, if
-    /// no socket is available, or if the set has [`PORTS`] ports already.
+    /// Adds a port at an address of this machine; for port number 0, the system chooses one. If `senders` is not
+    /// `None`, the port gives only datagrams from these IP addresses. It fails if the address is not the machine's or
+    /// is taken, if no socket is available, or if the set has [`PORTS`] ports already.
     pub fn bind<R: Net>(
         &mut self,
         rt: &R,
@@ -123,12 +123,12 @@ impl UdpPortSet {
         Ok(())
     }
 
-    /// Adds a port over an open UDP socket that the process was started with, and takes the socket over. If `senders` is
-    /// not `None`, the port gives only datagrams from these IP addresses. It fails if the descriptor is not from 3 to
-    /// 1023, or is not a UDP socket over IPv4 that is bound to a port. It also fails if the socket is one of this set,
-    /// or if the set has [`PORTS`] ports already. In these cases the descriptor stays open. Don't adopt a socket that
-    /// the process opened itself: call this before other sockets are opened, so that the descriptor can't be one of
-    /// theirs.
+    /// Adds a port over an open UDP socket that the process was started with, and takes the socket over. If `senders`
+    /// is not `None`, the port gives only datagrams from these IP addresses. It fails if the descriptor is not from 3
+    /// to 1023, or is not a UDP socket over IPv4 that is bound to a port. It also fails if the socket is one of this
+    /// set, or if the set has [`PORTS`] ports already. In these cases the descriptor stays open. Don't adopt a socket
+    /// that the process opened itself: call this before other sockets are opened, so that the descriptor can't be one
+    /// of theirs.
     ///
     /// The socket's modes stay as they are, so another process that has the socket too can use it as before.
     pub fn adopt<R: Net>(

@@ -58,7 +58,8 @@ pub struct FeedReceiver<D> {
 }
 
 impl<D: PortSet + Drop> FeedReceiver<D> {
-    /// Returns a receiver that took no datagram and printed nothing. It prints in this format. This allocates no memory.
+    /// Returns a receiver that took no datagram and printed nothing. It prints in this format. This allocates no
+    /// memory.
     pub fn new(
         alloc: Global,
         ports: D,
@@ -103,8 +104,8 @@ impl<D: PortSet + Drop> FeedReceiver<D> {
         push_refused_from(&mut self.outgoing.side, origin, why, datagram)
     }
 
-    /// Takes a datagram of this origin. The batch then has what it delivers. If it is refused, a line with the reason is
-    /// printed, unless such a line was printed a short time ago. An error means out of memory.
+    /// Takes a datagram of this origin. The batch then has what it delivers. If it is refused, a line with the reason
+    /// is printed, unless such a line was printed a short time ago. An error means out of memory.
     pub fn deliver(&mut self, origin: RepairOrigin, datagram: &[u8]) -> Result<(), AllocError>
         ensures taken { HasTaken self.old.repairer self.new.repairer (D.state self.old.ports).now origin datagram.now
             self.new.batch }
@@ -319,8 +320,8 @@ impl<D: PortSet + Drop> FeedReceiver<D> {
         }
     }
 
-    /// Waits until a datagram is at a port, or until the repairer or the reports have something to do, but at most until
-    /// the time `latest`.
+    /// Waits until a datagram is at a port, or until the repairer or the reports have something to do, but at most
+    /// until the time `latest`.
     pub fn wait(&mut self, options: &ReceiveOptions<D::Peer>, latest: u64)
         ensures asked { (lines : ℕ) (servers : List D.Peer) → HasAsked lines servers
             self.old.outgoing.format D.modeled (state_of D.state self.old) (state_of D.state self.new) }

@@ -104,8 +104,8 @@ pub record AreSpare (spare : Vec (Vec ℕ Global) Global) (small : Vec ℕ Globa
   pub less : length small.items ≤ SEGMENT_BYTES
   pub exact : vec_capacity small ≤ length small.items
 
--- The segments are consistent, and each has a key that fits a place. The memory of each, except for the roomy one, is at
--- most twice as large as its bytes in use. All bytes in use are counted.
+-- The segments are consistent, and each has a key that fits a place. The memory of each, except for the roomy one, is
+-- at most twice as large as its bytes in use. All bytes in use are counted.
 pub record AreSegments (segments : Segments) : Type 0 where
   pub each : (key : ℕ) (segment : Segment) → get segments.table key ≡ Some segment → IsSegment segment
   pub keys : (key : ℕ) (segment : Segment) → get segments.table key ≡ Some segment → key < 2 ^ 32

@@ -16,7 +16,8 @@ ghost use Rattle.mold_receiver.specs.Batch.{Handed, Follows, followed_by};
 ghost use Rattle.mold_wire.specs.Truth.{Carries, IsTruePacket};
 ghost use Rattle.mold_receiver.specs.Having.{HasAllOf, HasMessage};
 ghost use Rattle.mold_receiver.specs.Honest.{IsHonest, IsSkippedHonestly, IsTakenHonestly};
-ghost use Rattle.mold_receiver.specs.Receive.{HasRoomFor, IsTakenPacket, Reception, data_packet, ended_after, handed_on};
+ghost use Rattle.mold_receiver.specs.Receive.{HasRoomFor, IsTakenPacket, Reception, data_packet, ended_after};
+ghost use Rattle.mold_receiver.specs.Receive.{handed_on};
 ghost use Rattle.mold_receiver.specs.Receive.{is_dropped, receive, view_after};
 ghost use Rattle.mold_receiver.specs.Skip.{skipped};
 ghost use Rattle.mold_receiver.specs.Store.{Message, available};
@@ -62,8 +63,8 @@ pub fn well_formed_law()
 {}
 
 /// A message that came is never missing again. After a packet is accepted for which the store has room, the view has
-/// each of its messages whose number is in the window. What a view has, it has after each later packet, and after messages
-/// are given up.
+/// each of its messages whose number is in the window. What a view has, it has after each later packet, and after
+/// messages are given up.
 pub fn having_law()
     ensures came { (v : View) (p : Packet) (number : ℕ) → IsWellFormed v → p.sequence ≤ number → number < top_of p →
         number < (view_after v p).next + v.window → HasRoomFor v p → HasMessage (view_after v p) number }
@@ -83,10 +84,10 @@ pub fn honest_take_law()
     refusal_law();
 }
 
-/// Which packets the store has room for. A packet that doesn't begin above `next` needs none, so the gap at `next` can be
-/// filled whatever is stored. An empty store has room for each datagram of at most `MIN_STORE` bytes, and a store without
-/// a limit for each packet. After a packet for which there is no room, the view knows of its messages, and that is all
-/// that changed.
+/// Which packets the store has room for. A packet that doesn't begin above `next` needs none, so the gap at `next`
+/// can be filled whatever is stored. An empty store has room for each datagram of at most `MIN_STORE` bytes, and a
+/// store without a limit for each packet. After a packet for which there is no room, the view knows of its messages,
+/// and that is all that changed.
 pub fn room_law()
     ensures next { (v : View) (p : Packet) → p.sequence ≤ v.next → HasRoomFor v p }
     ensures empty { (v : View) (p : Packet) (bytes : List ℕ) → IsWellFormed v → v.store ≡ finite.empty →

@@ -4,7 +4,8 @@
 // emits calls that return structs through memory. They take a third of the time of a datagram with one message.
 
 ghost use Rattle.std.specs.Prelude.{◌≡◌, ◌↔◌, IsTrue, ◌⊎◌, [], ◌+◌, ◌*◌, ◌-◌, ◌<◌, ◌≤◌, ◌^◌, min, length};
-ghost use Rattle.std.specs.Prelude.{true, false, Some, None, Ok, Err, IfOk, IfErr, IfNone, IfSome, OnOk, OnErr, drop, max};
+ghost use Rattle.std.specs.Prelude.{true, false, Some, None, Ok, Err, IfOk, IfErr, IfNone, IfSome, OnOk, OnErr, drop};
+ghost use Rattle.std.specs.Prelude.{max};
 ghost use Rattle.std.specs.FinMap as finite;
 ghost use Rattle.std.specs.Option.{OnSome};
 ghost use Rattle.mold_wire.specs.Block.{blocks as packed};
@@ -98,7 +99,7 @@ pub struct Receiver {
     known: u64,
     ended: Option<u64>,
     slots: Slots,
-    // The room of the store in bytes. `None` is no limit.
+    // The room of the store in bytes. With `None` the store is not limited.
     room: Option<u64>,
     alloc: Global,
 }
@@ -159,10 +160,10 @@ impl Receiver {
         Receiver::bounded(alloc, session, next, window, None)
     }
 
-    /// Returns a receiver as `wide` does, whose store has room for `store` bytes. `None` is no limit. The bytes are those
-    /// of the stored messages and of their length fields, 2 for each message. If the store has no room for the messages of
-    /// a datagram that begins above `next`, all of them are dropped, as those past the window are. A datagram that has the
-    /// message `next` needs no room.
+    /// Returns a receiver as `wide` does, whose store has room for `store` bytes. With `None` the store is not
+    /// limited. The bytes are those of the stored messages and of their length fields, 2 for each message. If the
+    /// store has no room for the messages of a datagram that begins above `next`, all of them are dropped, as those
+    /// past the window are. A datagram that has the message `next` needs no room.
     pub fn bounded(
         alloc: Global,
         session: Session,
@@ -478,8 +479,9 @@ impl Receiver {
     }
 
     /// Takes a datagram. New messages are appended to `batch`, or stored if they are above a gap. Above a gap,
-    /// messages past the window are dropped, and all messages of a datagram for which the store has no room. Every refusal except `Memory` is found before anything is allocated.
-    /// After a refusal, the receiver and the batch are unchanged. The batch must be empty or end just before `next`.
+    /// messages past the window are dropped, and all messages of a datagram for which the store has no room. Every
+    /// refusal except `Memory` is found before anything is allocated. After a refusal, the receiver and the batch are
+    /// unchanged. The batch must be empty or end just before `next`.
     pub fn take(&mut self, bytes: &[u8], batch: &mut Batch) -> Result<Taken, Refusal>
         requires { Follows batch.old self.old.next }
         ensures taken { IfOk result (λ taken. HasTaken self.old bytes.now batch.old self.new batch.new taken) }
@@ -672,8 +674,8 @@ impl Receiver {
 
     /// Takes a datagram as `take` does, but doesn't copy the messages that the datagram delivers itself: the result has
     /// them. They are valid as long as the datagram. The batch is emptied first, and gets the stored messages that
-    /// follow them. Memory is only needed to store messages and to deliver stored ones. After a refusal, the receiver is
-    /// unchanged and the batch is empty.
+    /// follow them. Memory is only needed to store messages and to deliver stored ones. After a refusal, the receiver
+    /// is unchanged and the batch is empty.
     pub fn hear<'a>(&mut self, bytes: &'a [u8], batch: &mut Batch) -> Result<Heard<'a>, Refusal>
         ensures heard { IfOk result
             (λ heard. HasHeard self.old bytes.now self.new heard.own batch.new heard.taken) }
@@ -745,8 +747,8 @@ impl Receiver {
         self.slots.memory()
     }
 
-    /// Returns the bytes of the stored messages and of their length fields, 2 for each message. They are within the room
-    /// of the store.
+    /// Returns the bytes of the stored messages and of their length fields, 2 for each message. They are within the
+    /// room of the store.
     pub fn stored_bytes(&self) -> usize
         ensures bytes { result ≡ stored_bytes self.now.store }
         ensures within { IsWithinRoom self.now.room (stored_bytes self.now.store) }

@@ -163,8 +163,8 @@ impl Slots {
 
     /// Delivers the messages from a slot on without a copy, up to the first empty slot, and drops the slots before it.
     /// This is only done if they are all messages of one segment, in its order. Returns that empty slot, or `None` if
-    /// nothing changed. The batch is empty, and the first slot has the number `next`. If an allocation fails, it returns
-    /// an error and nothing changes.
+    /// nothing changed. The batch is empty, and the first slot has the number `next`. If an allocation fails, it
+    /// returns an error and nothing changes.
     pub(crate) fn deliver_whole(
         &mut self,
         alloc: Global,

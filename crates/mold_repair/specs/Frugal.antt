@@ -28,7 +28,8 @@ pub record IsFrugalRun (old new : Repairer) (steps : List RepairStep) (outcomes 
 
 -- If the step takes a datagram that encodes a packet, the store has room for it.
 abbrev pub HasRoomForStep : View → RepairStep → Type 0
-HasRoomForStep v (Take time origin datagram) = (packet : Packet) → reading datagram.now ≡ Ok packet → HasRoomFor v packet
+HasRoomForStep v (Take time origin datagram) =
+    (packet : Packet) → reading datagram.now ≡ Ok packet → HasRoomFor v packet
 HasRoomForStep v (Poll time) = Unit {0}
 HasRoomForStep v (Lost time) = Unit {0}
 HasRoomForStep v (Pass time) = Unit {0}

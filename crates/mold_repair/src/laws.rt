@@ -1,7 +1,8 @@
 //! Theorems about all runs of a repairer. Each law is a function with an empty body whose contract is the theorem.
 //! `run::run` returns such a run.
 
-ghost use Rattle.std.specs.Prelude.{◌≡◌, ◌+◌, ◌-◌, ◌*◌, ◌<◌, ◌≤◌, ◌^◌, ℕ, [], List, Option, IfSome, None, Some, false, length};
+ghost use Rattle.std.specs.Prelude.{◌≡◌, ◌+◌, ◌-◌, ◌*◌, ◌<◌, ◌≤◌, ◌^◌, ℕ, [], List, Option, IfSome, None, Some};
+ghost use Rattle.std.specs.Prelude.{false, length};
 ghost use Rattle.std.specs.Prelude.{◌∷◌, ◌⊎◌, Bool, max};
 ghost use Rattle.std.specs.Io.Iter.{u64_saturate};
 ghost use Rattle.mold_pacing.specs.Attempts.{count_asks_for};
@@ -49,8 +50,8 @@ pub fn order_law()
     taken_law();
 }
 
-/// In a run, the count of messages that were given up grows by the lengths of the ranges that its steps gave up. A count
-/// that reaches 2^64 - 1 stays there.
+/// In a run, the count of messages that were given up grows by the lengths of the ranges that its steps gave up. A
+/// count that reaches 2^64 - 1 stays there.
 pub fn lost_count_law()
     ensures { (old new : Repairer) (steps : List RepairStep) (outcomes : List Outcome) →
         IsRepaired old new steps outcomes → old.counts.lost < 2 ^ 64 →
@@ -126,10 +127,10 @@ pub fn pacing_law()
     taken_law();
 }
 
-/// In a run that begins without requests, few requests are wasted, if the store has room for each packet: a store without
-/// a limit has. Those that neither ran out nor are in flight at the
-/// end are at most as many as the distinct numbers that arrived while a request for them was in flight. A request runs
-/// out when its timeout passes, or the settle time after a response.
+/// In a run that begins without requests, few requests are wasted, if the store has room for each packet: a store
+/// without a limit has. Those that neither ran out nor are in flight at the end are at most as many as the distinct
+/// numbers that arrived while a request for them was in flight. A request runs out when its timeout passes, or the
+/// settle time after a response.
 pub fn frugal_law()
     ensures frugal { (old new : Repairer) (steps : List RepairStep) (outcomes : List Outcome)
         (ran : IsRepaired old new steps outcomes) → IsWellFormed old.arbiter.view → old.pacer.flights.items ≡ [] →

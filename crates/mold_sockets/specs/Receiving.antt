@@ -1,5 +1,6 @@
 -- Which senders' datagrams the ports of `receive` give.
-use Rattle.std.specs.Prelude.{if◌then◌else◌, ℕ, ◌-◌, List, [], ◌∷◌, ◌++◌, Option, None, Some, length, map, option_map, replicate}
+use Rattle.std.specs.Prelude.{if◌then◌else◌, ℕ, ◌-◌, List, [], ◌∷◌, ◌++◌, Option, None, Some, length, map}
+use Rattle.std.specs.Prelude.{option_map, replicate}
 use Rattle.std.specs.Net.Addr.{ipv4_octets}
 use Rattle.mold_port_set.specs.declared.sender_list.SenderList.{SenderList}
 use Rattle.mold_words.specs.declared.line_port.LinePort.{LinePort}

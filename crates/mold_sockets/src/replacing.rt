@@ -23,8 +23,8 @@ pub(crate) fn fault_of(rt: &HostRuntime, path: &str, error: JournalFileError) ->
     }
 }
 
-/// Makes a sink whose first write creates the file at `path`, or empties it. If the file exists, it is locked at once. If
-/// another process has locked it, the fault is `Locked`; if it cannot be opened for writing, `Write`.
+/// Makes a sink whose first write creates the file at `path`, or empties it. If the file exists, it is locked at
+/// once. If another process has locked it, the fault is `Locked`; if it cannot be opened for writing, `Write`.
 pub fn open_replaced<'a>(
     rt: &'a HostRuntime,
     path: &'a str,

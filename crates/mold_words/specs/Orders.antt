@@ -545,7 +545,8 @@ servers_in rows =
     if nat_lt MAX_SERVERS (length (texts_in (codes "server") rows)) then None
     else values_of address_of (texts_in (codes "server") rows)
 
--- When and how often messages are requested, and who may respond, if the numbers are valid. The ceiling is at least the timeout.
+-- When and how often messages are requested, and who may respond, if the numbers are valid. The ceiling is at least
+-- the timeout.
 unfoldable pub requests_in : List Row → Option RequestArguments
 requests_in rows =
     option_and_then
@@ -617,8 +618,8 @@ received start lines requests receiver servers = record {
   blocks = receiver.blocks;
 }
 
--- What `receive` asks for with these options apart from a journal, if their values are valid. Without `--patience` it is
--- 0, and adapts.
+-- What `receive` asks for with these options apart from a journal, if their values are valid. Without `--patience` it
+-- is 0, and adapts.
 unfoldable pub receive_in : List Row → Option ReceiveArguments
 receive_in rows =
     option_and_then

@@ -101,8 +101,9 @@ receive_command = (
   (codes "session", Optional) ∷ (codes "learn", Flag) ∷ (codes "next", Optional) ∷ (codes "from-now", Flag)
       ∷ (codes "a", Required) ∷ (codes "b", Optional) ∷ (codes "source-a", Optional)
       ∷ (codes "source-b", Optional) ∷ (codes "server", Repeated) ∷ (codes "any-responder", Flag)
-      ∷ (codes "window", Optional) ∷ (codes "store", Optional) ∷ (codes "patience", Optional) ∷ (codes "timeout", Optional)
-      ∷ (codes "ceiling", Optional) ∷ (codes "requests", Optional) ∷ (codes "in-flight", Optional)
+      ∷ (codes "window", Optional) ∷ (codes "store", Optional) ∷ (codes "patience", Optional)
+      ∷ (codes "timeout", Optional) ∷ (codes "ceiling", Optional) ∷ (codes "requests", Optional)
+      ∷ (codes "in-flight", Optional)
       ∷ (codes "give-up", Optional) ∷ (codes "audit", Optional) ∷ (codes "quiet", Optional)
       ∷ (codes "stats", Optional) ∷ (codes "journal", Optional) ∷ (codes "no-sync", Flag) ∷ (codes "blocks", Flag) ∷ [],
 )

@@ -20,8 +20,8 @@ ghost use Rattle.mold_words.specs.LinePorts.{bound_to, opened_as};
 ghost use Rattle.mold_words.specs.Words.{is_command, mold_app};
 
 /// `show` is accepted, and asks to show packets, as `--` alone does. `show --request` is accepted, and asks to show
-/// requests. `--capture F` asks to show the packets of the capture `F`, and `--session` to show those of one session. With
-/// `--capture`, `--request` is refused. Without it, `--session` is refused.
+/// requests. `--capture F` asks to show the packets of the capture `F`, and `--session` to show those of one session.
+/// With `--capture`, `--request` is refused. Without it, `--session` is refused.
 pub fn show_taken_law()
     ensures plain { Say (codes "show" ∷ []) (show_wanted false) }
     ensures request { Say (codes "show" ∷ codes "--request" ∷ []) (show_wanted true) }
@@ -305,11 +305,11 @@ pub fn publish_taken_law()
         ∷ codes "--b" ∷ codes "127.0.0.1:9001" ∷ codes "--journal" ∷ codes "J" ∷ []) ≡ None }
 {}
 
-/// `feed --session MKT --a .. --journal J` is accepted, and asks to keep the session `MKT` in `J` and to send it to this
-/// address, in datagrams of up to 1,400 bytes from 0.0.0.0. A heartbeat is sent after a second, one heartbeat and one end
-/// packet follow the messages, and no request is received. With `--bind`, requests are responded to for ten more seconds
-/// after the input has ended, unless `--linger` sets another time. Each option replaces its default. `--interface-b`
-/// without `--b` is refused.
+/// `feed --session MKT --a .. --journal J` is accepted, and asks to keep the session `MKT` in `J` and to send it to
+/// this address, in datagrams of up to 1,400 bytes from 0.0.0.0. A heartbeat is sent after a second, one heartbeat
+/// and one end packet follow the messages, and no request is received. With `--bind`, requests are responded to for
+/// ten more seconds after the input has ended, unless `--linger` sets another time. Each option replaces its default.
+/// `--interface-b` without `--b` is refused.
 pub fn feed_taken_law()
     ensures usual { Say
         (codes "feed" ∷ codes "--session" ∷ codes "MKT" ∷ codes "--a" ∷ codes "239.192.1.1:26477"
@@ -532,11 +532,11 @@ pub fn listen_taken_law()
         ∷ codes "--b" ∷ codes "0.0.0.0:0" ∷ codes "--server" ∷ codes "0.0.0.0:0" ∷ []) ≡ None }
 {}
 
-/// `receive --session MKT --a ..` is accepted, and asks to print the session `MKT` from message 1 on, received on line A
-/// alone, without servers. The other options have their defaults. A line is an address or a descriptor, and each option
-/// replaces its default. `--learn` asks for the session of the first packet, and `--from-now` to start at its number.
-/// Refused are a command without a session, a multicast group, a source of line B without line B, a ceiling below the
-/// timeout, a store of 0, nine servers, and options that exclude each other.
+/// `receive --session MKT --a ..` is accepted, and asks to print the session `MKT` from message 1 on, received on
+/// line A alone, without servers. The other options have their defaults. A line is an address or a descriptor, and
+/// each option replaces its default. `--learn` asks for the session of the first packet, and `--from-now` to start at
+/// its number. Refused are a command without a session, a multicast group, a source of line B without line B, a
+/// ceiling below the timeout, a store of 0, nine servers, and options that exclude each other.
 pub fn receive_taken_law()
     ensures usual { Say
         (codes "receive" ∷ codes "--session" ∷ codes "MKT" ∷ codes "--a" ∷ codes "127.0.0.1:9000" ∷ [])
@@ -621,9 +621,9 @@ pub fn receive_taken_law()
         ∷ codes "10.0.0.9:9" ∷ []) ≡ None }
 {}
 
-/// With `--journal J`, `receive` asks to keep the session in `J`. `--no-sync` asks not to wait for the disk, and requires
-/// `--journal`. A journal starts at message 1, and nothing is given up or printed: `--from-now`, a `--next` above 1, a
-/// `--give-up` above 0 and `--blocks` are refused.
+/// With `--journal J`, `receive` asks to keep the session in `J`. `--no-sync` asks not to wait for the disk, and
+/// requires `--journal`. A journal starts at message 1, and nothing is given up or printed: `--from-now`, a `--next`
+/// above 1, a `--give-up` above 0 and `--blocks` are refused.
 pub fn record_taken_law()
     ensures usual { Say
         (codes "receive" ∷ codes "--learn" ∷ codes "--a" ∷ codes "fd:3" ∷ codes "--journal" ∷ codes "J" ∷ [])
@@ -773,8 +773,8 @@ pub fn upgrade_taken_law()
 /// `dump --journal J` is accepted, and asks to print all messages of the journal in `J` from message 1 on, as lines.
 /// `--from` sets another first message, and `--count` a maximum number. `--from 0` is refused, and so is a count that
 /// does not fit 64 bits. `--blocks` asks to print blocks, and together with `--end-at-empty` to print blocks with an
-/// empty block as the mark of the end. `--end-at-empty` without `--blocks` is refused. `--follow` asks to print messages
-/// as they are added.
+/// empty block as the mark of the end. `--end-at-empty` without `--blocks` is refused. `--follow` asks to print
+/// messages as they are added.
 pub fn dump_taken_law()
     ensures usual { Say (codes "dump" ∷ codes "--journal" ∷ codes "J" ∷ [])
         (dump_wanted (record {

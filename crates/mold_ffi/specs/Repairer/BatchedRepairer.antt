@@ -33,7 +33,8 @@ batched_of timed = record { arbitration = timed.repairer.arbiter; batch = timed.
 
 -- A repairer with these options, before it was passed a time. It received nothing, and delivered nothing.
 pub record IsFresh (session : Session) (fields : MoldRepairOptions) (timed : BatchedRepairer) : Type 0 where
-  pub arbiter : timed.repairer.arbiter ≡ fresh_arbitration_within (room_of fields.store) session fields.next fields.window
+  pub arbiter :
+      timed.repairer.arbiter ≡ fresh_arbitration_within (room_of fields.store) session fields.next fields.window
   pub batch : timed.batch ≡ record { first = 0; messages = [] }
   pub options : timed.repairer.options ≡ options_of fields
   pub state : timed.repairer.pacer.state ≡ fresh timed.repairer.pacer.options fields.next
@@ -49,8 +50,8 @@ pub record IsCleared (old new : BatchedRepairer) : Type 0 where
   pub repairer : new.repairer ≡ old.repairer
   pub batch : new.batch ≡ record { first = 0; messages = [] }
 
--- A repairer took or refused a datagram at the time `now`. Its arbiter and its batch changed as those of a listener, and
--- its pacer learned of it.
+-- A repairer took or refused a datagram at the time `now`. Its arbiter and its batch changed as those of a listener,
+-- and its pacer learned of it.
 pub record HasTakenAt (now : ℕ) (origin : RepairOrigin) (bytes : List ℕ) (old new : BatchedRepairer)
     (result : Result Taken Refusal) : Type 0 where
   pub taken : IfOk result (λ taken. HasArbitrated (line_of (receiver_origin origin)) old.repairer.arbiter bytes

@@ -79,8 +79,8 @@ impl BatchedArbiter {
         }
     }
 
-    /// Takes a usual datagram of a line as `take` does, but faster. For other datagrams, and if an allocation fails, the
-    /// result is `None`, and nothing changes.
+    /// Takes a usual datagram of a line as `take` does, but faster. For other datagrams, and if an allocation fails,
+    /// the result is `None`, and nothing changes.
     // Inlined for the same reason as `Arbiter::take_quickly`.
     #[inline(always)]
     #[tactic(auto, using(crate::proofs::ListenerLemmas::quickly_received))]
@@ -107,8 +107,8 @@ impl BatchedArbiter {
         self.arbiter.hear(origin, bytes, &mut self.batch)
     }
 
-    /// Takes a usual datagram of a line as `hear` does, but faster. For other datagrams the result is `None`, and nothing
-    /// changes.
+    /// Takes a usual datagram of a line as `hear` does, but faster. For other datagrams the result is `None`, and
+    /// nothing changes.
     // Inlined for the same reason as `Arbiter::hear_quickly`.
     #[inline(always)]
     pub(crate) fn hear_quickly<'a>(&mut self, line: Line, bytes: &'a [u8]) -> Option<Heard<'a>>
@@ -145,8 +145,8 @@ impl BatchedArbiter {
         }
     }
 
-    /// Gives up the messages from the next one to just below `to`, if all of them are missing and the batch is empty. The
-    /// stored messages that follow join the batch.
+    /// Gives up the messages from the next one to just below `to`, if all of them are missing and the batch is empty.
+    /// The stored messages that follow join the batch.
     pub(crate) fn skip(&mut self, to: u64) -> u32
         ensures { Skips self.old to result (Some (AListener self.new)) }
     {

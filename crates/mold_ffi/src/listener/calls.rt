@@ -53,8 +53,9 @@ pub extern "C" fn mold_listener_new(
     }
 }
 
-/// Makes a listener as `mold_listener_new` does, whose store has room for `store` bytes: those of the stored messages and
-/// of their length fields, 2 for each message. If `store` is 0, there is no limit. The handle must be empty.
+/// Makes a listener as `mold_listener_new` does, whose store has room for `store` bytes: those of the stored messages
+/// and of their length fields, 2 for each message. If `store` is 0, the store is not limited. The handle must be
+/// empty.
 #[unsafe(no_mangle)]
 pub extern "C" fn mold_listener_bounded(
     alloc: Global,

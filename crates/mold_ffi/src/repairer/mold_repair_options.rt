@@ -39,7 +39,7 @@ pub struct MoldRepairOptions {
     pub give_up: u32,
     /// The number of delivered messages of which digests are kept.
     pub audit: u32,
-    /// The room of the store, in bytes. If it is 0, there is no limit.
+    /// The room of the store, in bytes. If it is 0, the store is not limited.
     pub store: u64,
 }
 
