@@ -5,6 +5,7 @@ pub mod Header
 pub mod Missing
 pub mod Gaps
 pub mod Front
+pub mod Props
 pub mod Timing
 pub mod Taking
 pub mod GivingUp

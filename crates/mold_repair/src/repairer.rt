@@ -4,6 +4,7 @@ ghost use Rattle.std.specs.Prelude.{◌≡◌, ◌≤◌, ◌<◌, ◌^◌, true
 ghost use Rattle.mold_receiver.specs.View.{IsWellFormed};
 ghost use Rattle.mold_repair.specs.Front.{IsFront};
 ghost use Rattle.mold_repair.specs.Options.{ArePacerOptions, are_options};
+ghost use Rattle.mold_repair.specs.Props.{props};
 
 use crate::ask::Ask;
 use crate::auditing::audit_taken;
@@ -49,7 +50,7 @@ pub struct Repairer {
     ghost valid: { are_options options ≡ true },
     ghost paced: { ArePacerOptions options pacer.options },
     ghost noted: { audit.next ≤ arbiter.view.next },
-    ghost formed: { IsWellFormed arbiter.view },
+    ghost formed: { IsWellFormed arbiter.view } by { Prim.hlevel props },
     ghost fronted: { IsFront arbiter.view pacer.flights.items front.number front.until },
 }
 
