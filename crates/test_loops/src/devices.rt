@@ -5,7 +5,7 @@ use mold_devices::{DeviceFault, FromRead, IntoWrite, Sink, Source};
 use std::io;
 use std::io::{Error, ErrorKind, Read, Write};
 
-/// Returns one byte a call. The second call is interrupted.
+/// Returns one byte a call. After the first call 16 calls are interrupted, and after the next one 17 calls.
 #[derive(Drop)]
 struct Interrupted {
     calls: u64,
@@ -14,7 +14,7 @@ struct Interrupted {
 impl Read for Interrupted {
     fn read(&mut self, buffer: &mut [u8]) -> io::Result<usize> {
         self.calls = self.calls.saturating_add(1);
-        if self.calls == 2 {
+        if matches!(self.calls, 2..=17 | 19..=35) {
             return Err(Error::from(ErrorKind::Interrupted));
         }
         if buffer.is_empty() {
@@ -49,17 +49,17 @@ impl Write for Reluctant {
 }
 
 /// What each read returns: how many bytes, or a failure.
-const READS: [Result<usize, DeviceFault>; 3] = [Ok(1), Err(DeviceFault), Ok(1)];
+const READS: [Result<usize, DeviceFault>; 4] = [Ok(1), Ok(1), Err(DeviceFault), Ok(1)];
 
 #[test]
-fn an_interrupted_read_is_a_failure(rt: HostRuntime) {
+fn an_interrupted_read_is_repeated_16_times(rt: HostRuntime) {
     let mut source = FromRead::new(Interrupted { calls: 0 });
     let mut buffer = [0u8; 8];
     for (i, wanted) in READS.iter().enumerate() {
         holds_at(&rt, source.read(&mut buffer) == *wanted, "read", i);
     }
-    holds_at(&rt, source.failures() == 1, "failures after", 3);
-    holds_at(&rt, source.into_inner().calls == 3, "calls after", 3);
+    holds_at(&rt, source.failures() == 1, "failures after", 4);
+    holds_at(&rt, source.into_inner().calls == 36, "calls after", 4);
 }
 
 /// What each write returns.
