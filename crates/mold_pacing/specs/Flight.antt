@@ -1,7 +1,6 @@
 -- Requests in flight.
-use Rattle.std.specs.Prelude.{◌≡◌, ℕ, ◌<◌, ◌≤◌, ◌&&◌, ◌||◌, Bool, true, false, List, [], ◌∷◌, nat_le, nat_lt}
-use Rattle.std.specs.Prelude.{slice_get, Some}
-use Rattle.std.specs.Prelude.{if◌then◌else◌}
+use Rattle.std.specs.Prelude.{◌≡◌, ℕ, ◌<◌, ◌≤◌, ◌&&◌, ◌||◌, Bool, true, false, List, [], ◌∷◌}
+use Rattle.std.specs.Prelude.{if◌then◌else◌, nat_le, nat_lt, slice_get, Some}
 use Rattle.std.specs.List.{list_any}
 use Rattle.mold_pacing.specs.declared.flight.Flight.{Flight}
 

@@ -1,7 +1,7 @@
 //! Walks over the table of requests, which is in ascending order of their first numbers.
 
-ghost use Rattle.std.specs.Prelude.{◌≡◌, ◌≤◌, ◌<◌, ◌⊎◌, ◌&&◌, ◌^◌, ℕ, true, false, nat_lt, length, find, IfSome};
-ghost use Rattle.std.specs.Prelude.{IfNone};
+ghost use Rattle.std.specs.Prelude.{◌≡◌, ◌≤◌, ◌<◌, ◌⊎◌, ◌&&◌, ◌^◌, ℕ, true, false, nat_lt, length, find};
+ghost use Rattle.std.specs.Prelude.{IfNone, IfSome};
 ghost use Rattle.std.specs.Prelude.{slice_get, Some};
 ghost use Rattle.mold_pacing.specs.Table.{AreBelow};
 ghost use Rattle.mold_pacing.specs.Flight.{AllInFlight, ArePassed, BeginAbove, NoneInFlight, covers, in_flight};

@@ -163,13 +163,7 @@ impl Repairer {
         ensures delays { self.new.delays ≡ self.old.delays }
         ensures audit { self.new.audit ≡ self.old.audit }
     {
-        self.front = note_response(
-            &self.arbiter,
-            &mut self.pacer,
-            self.front,
-            server,
-            datagram,
-        );
+        self.front = note_response(&self.arbiter, &mut self.pacer, self.front, server, datagram);
     }
 
     // Does the same if messages were missing before the datagram. Otherwise no request can be for its numbers.
