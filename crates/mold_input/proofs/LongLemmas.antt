@@ -97,8 +97,8 @@ digits_more : (one other more : List ℕ) → digits one ≡ digits other → di
 digits_more one other more same =
     both_digits one more ∙ ap (λ (b : Bool). b && digits more) same ∙ sym (both_digits other more)
 
-pub same_start : (bytes : List ℕ) → IsSameStart bytes bytes
-same_start bytes = record { entry = λ more. refl; empty = refl; no_end = λ none. none }
+pub same_start : {M : Type 0} (meaning : List ℕ → M) (bytes : List ℕ) → IsSameStart meaning bytes bytes
+same_start meaning bytes = record { same = λ more. refl; empty = refl; no_end = λ none. none }
 
 empty_same : (one other : ℕ) → 0 < one → 0 < other → eqb one 0 ≡ eqb other 0
 empty_same (suc one) (suc other) some more = eqb-suc-zero one ∙ sym (eqb-suc-zero other)
@@ -107,13 +107,13 @@ empty_same (suc one) zero some more = absurd (omega (arith, more))
 
 -- Digits that are counted take the place of the same number of digits.
 pub digits_counted : (n : ℕ) (bytes : List ℕ) → n ≡ length bytes → digits bytes ≡ true → MAX_LINE < n →
-    IsSameStart (replicate n 48 ++ []) bytes
+    IsSameStart line_entry (replicate n 48 ++ []) bytes
 digits_counted n bytes sized good long =
     let zeros : List ℕ = replicate n 48 ++ [] in
     let counted : length zeros ≡ n = omega (arith, length-append {A = ℕ} (replicate n 48) [], length-replicate {A = ℕ} n 48) in
     let same : digits zeros ≡ digits bytes = counted_digits n [] refl ∙ sym good in
     record {
-      entry = λ more.
+      same = λ more.
           same_long (zeros ++ more) (bytes ++ more) (digits_more zeros bytes more same)
           (omega (arith, length-append zeros more, length-append bytes more, counted, sized))
           (omega (arith, length-append zeros more, counted, long));
@@ -133,9 +133,9 @@ dot_no_end zero lt is = absurd (cc)
 dot_no_end (suc k) lt is = absurd (omega (arith, lt))
 
 -- A byte that is not a digit takes the place of bytes that are not all digits.
-pub bad_replaced : (bytes : List ℕ) → digits bytes ≡ false → IsSameStart (46 ∷ []) bytes
+pub bad_replaced : (bytes : List ℕ) → digits bytes ≡ false → IsSameStart line_entry (46 ∷ []) bytes
 bad_replaced bytes bad = record {
-  entry = λ more. bad_entry (46 ∷ more) refl ∙ sym (bad_entry (bytes ++ more) (bad_more bytes more bad));
+  same = λ more. bad_entry (46 ∷ more) refl ∙ sym (bad_entry (bytes ++ more) (bad_more bytes more bad));
   empty = empty_same 1 (length bytes) (omega arith) (some_bad bytes bad);
   no_end = λ none. dot_no_end;
 }

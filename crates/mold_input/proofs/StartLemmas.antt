@@ -13,12 +13,12 @@ use Rattle.mold_input.specs.declared.next.Next.{Next}
 use Rattle.mold_input.specs.declared.next.Next.TheVariants.{Message, Fault, End}
 use Rattle.mold_input.proofs.LongLemmas.{same_start}
 
--- The bytes of the line so far were taken from the input. The part has the same entry.
-pub record Starting (known left : Option (List ℕ)) (part : List ℕ) : Type 0 where
+-- The bytes of the line so far were taken from the input. The part means the same.
+pub record Starting {M : Type 0} (meaning : List ℕ → M) (known left : Option (List ℕ)) (part : List ℕ) : Type 0 where
   pub line : List ℕ
   pub read : Consumes known left line
   pub no_end : HasNoEnd line
-  pub same : IsSameStart part line
+  pub same : IsSameStart meaning part line
 
 sum_empty : (a b : ℕ) → eqb (a + b) 0 ≡ (eqb a 0 && eqb b 0)
 sum_empty zero b = ap (λ (n : ℕ). eqb n 0) (zero-add b)
@@ -37,66 +37,71 @@ both_empty first second more same =
     ∙ sym (ap (λ (n : ℕ). eqb n 0) (length-append second more) ∙ sum_empty (length second) (length more))
 
 -- More bytes were added to both.
-pub same_more : (part line more new : List ℕ) → IsSameStart part line → IsSameStart new (part ++ more) → HasNoEnd line →
-    HasNoEnd more → IsSameStart new (line ++ more)
-same_more part line more new before added whole none = record {
-  entry = λ after.
-      added.entry after
-      ∙ ap line_entry (append_assoc part more after)
-      ∙ before.entry (more ++ after)
-      ∙ sym (ap line_entry (append_assoc line more after));
+pub same_more : {M : Type 0} (meaning : List ℕ → M)
+    (part line more new : List ℕ) → IsSameStart meaning part line →
+    IsSameStart meaning new (part ++ more) → HasNoEnd line → HasNoEnd more → IsSameStart meaning new (line ++ more)
+same_more meaning part line more new before added whole none = record {
+  same = λ after.
+      added.same after
+      ∙ ap meaning (append_assoc part more after)
+      ∙ before.same (more ++ after)
+      ∙ sym (ap meaning (append_assoc line more after));
   empty = added.empty ∙ both_empty part line more before.empty;
   no_end = λ all. added.no_end (HasNoEnd-append part more (before.no_end whole) none);
 }
 
 -- Nothing was added yet.
-pub starting_none : (known : Option (List ℕ)) → Starting known known []
-starting_none known = record {
+pub starting_none : {M : Type 0} (meaning : List ℕ → M) (known : Option (List ℕ)) → Starting meaning known known []
+starting_none meaning known = record {
   line = [];
   read = Consumes-nil known;
   no_end = λ k lt is. absurd (omega (arith, lt));
-  same = same_start [];
+  same = same_start meaning [];
 }
 
 -- A piece without an end of line was read and added.
-pub starting_more : (known mid left : Option (List ℕ)) (part piece new : List ℕ) → Starting known mid part →
-    Consumes mid left piece → HasNoEnd piece → IsSameStart new (part ++ piece) → Starting known left new
-starting_more known mid left part piece new before read none added = record {
+pub starting_more : {M : Type 0} (meaning : List ℕ → M)
+    (known mid left : Option (List ℕ)) (part piece new : List ℕ) → Starting meaning known mid part →
+    Consumes mid left piece → HasNoEnd piece → IsSameStart meaning new (part ++ piece) → Starting meaning known left new
+starting_more meaning known mid left part piece new before read none added = record {
   line = before.line ++ piece;
   read = Consumes-trans known mid left before.line piece before.read read;
   no_end = HasNoEnd-append before.line piece before.no_end none;
-  same = same_more part before.line piece new before.same added before.no_end none;
+  same = same_more meaning part before.line piece new before.same added before.no_end none;
 }
 
-in_pieces : (known mid left : Option (List ℕ)) (part piece : List ℕ) (before : Starting known mid part) →
-    Consumes mid left piece → InPieces known mid left before.line piece
-in_pieces known mid left part piece before read =
+in_pieces : {M : Type 0} (meaning : List ℕ → M)
+    (known mid left : Option (List ℕ)) (part piece : List ℕ)
+    (before : Starting meaning known mid part) → Consumes mid left piece → InPieces known mid left before.line piece
+in_pieces meaning known mid left part piece before read =
     record { begun = before.read; no_end = before.no_end; read = read }
 
 -- The line ends in the piece.
-pub starting_ends : (known mid left : Option (List ℕ)) (part piece new : List ℕ) (at : ℕ) → Starting known mid part →
-    Consumes mid left piece → FirstEnd piece at → IsSameStart new (part ++ take at piece) →
-    GivesStart known (prepend_known (drop (at + 1) piece) left) true new
-starting_ends known mid left part piece new at before read end added = record {
+pub starting_ends : {M : Type 0} (meaning : List ℕ → M)
+    (known mid left : Option (List ℕ)) (part piece new : List ℕ) (at : ℕ) →
+    Starting meaning known mid part → Consumes mid left piece → FirstEnd piece at → IsSameStart meaning new (part ++ take at piece) →
+    GivesStart meaning known (prepend_known (drop (at + 1) piece) left) true new
+starting_ends meaning known mid left part piece new at before read end added = record {
   whole = before.line ++ take at piece;
-  gives = gives_joined (in_pieces known mid left part piece before read) end;
+  gives = gives_joined (in_pieces meaning known mid left part piece before read) end;
   same =
-      ap line_entry (sym (append-nil new))
-      ∙ added.entry []
-      ∙ ap line_entry (append_assoc part (take at piece) [])
-      ∙ before.same.entry (take at piece ++ [])
-      ∙ ap (λ (t : List ℕ). line_entry (before.line ++ t)) (append-nil (take at piece));
+      ap meaning (sym (append-nil new))
+      ∙ added.same []
+      ∙ ap meaning (append_assoc part (take at piece) [])
+      ∙ before.same.same (take at piece ++ [])
+      ∙ ap (λ (t : List ℕ). meaning (before.line ++ t)) (append-nil (take at piece));
 }
 
 -- The input ends.
-pub starting_over : (known mid left : Option (List ℕ)) (part piece : List ℕ) (empty : Bool) → Starting known mid part →
+pub starting_over : {M : Type 0} (meaning : List ℕ → M)
+    (known mid left : Option (List ℕ)) (part piece : List ℕ) (empty : Bool) → Starting meaning known mid part →
     Consumes mid left piece → IsOver left piece → empty ≡ eqb (length part) 0 →
-    GivesStart known (prepend_known piece left) (not empty) part
-starting_over known mid left part piece empty before read over is = record {
+    GivesStart meaning known (prepend_known piece left) (not empty) part
+starting_over meaning known mid left part piece empty before read over is = record {
   whole = before.line;
-  gives = gives_end (in_pieces known mid left part piece before read) over (is ∙ before.same.empty);
+  gives = gives_end (in_pieces meaning known mid left part piece before read) over (is ∙ before.same.empty);
   same =
-      ap line_entry (sym (append-nil part)) ∙ before.same.entry [] ∙ ap line_entry (append-nil before.line);
+      ap meaning (sym (append-nil part)) ∙ before.same.same [] ∙ ap meaning (append-nil before.line);
 }
 
 -- ---- the next entry
@@ -118,14 +123,14 @@ gives_entry (Some xs) (Some ys) line next message gives is =
     ap (map line_entry) gives ∙ read_entries line (lines_of ys) next message is
 
 pub gives_start : (known left : Option (List ℕ)) (line : List ℕ) (next : Next) (message : List ℕ) →
-    GivesStart known left true line → IsEntry (line_entry line) next message →
+    GivesStart line_entry known left true line → IsEntry (line_entry line) next message →
     GivesNext (known_entries line_entries known) (known_entries line_entries left) next message
 gives_start known left line next message start is =
     gives_entry known left start.whole next message start.gives
     (subst (λ (e : Entry). IsEntry e next message) start.same is)
 
 -- No entry remains.
-pub gives_none : (known left : Option (List ℕ)) (line message : List ℕ) → GivesStart known left false line →
+pub gives_none : (known left : Option (List ℕ)) (line message : List ℕ) → GivesStart line_entry known left false line →
     GivesNext (known_entries line_entries known) (known_entries line_entries left) End message
 gives_none None left line message start = tt
 gives_none (Some xs) None line message start = absurd start.gives

@@ -3,3 +3,4 @@ pub mod BlocksToEmpty
 pub mod Entries
 pub mod Formats
 pub mod LongLines
+pub mod PacketLines

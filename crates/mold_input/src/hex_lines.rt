@@ -1,14 +1,14 @@
 //! Messages as lines of hexadecimal digits.
 
-ghost use Rattle.std.specs.Prelude.{◌≡◌, ◌<◌, [], true, IfOk};
+ghost use Rattle.std.specs.Prelude.{◌≡◌, ◌<◌, [], IfOk};
 ghost use Rattle.std.specs.Io.KnownBytes.{prepend_known};
 ghost use Rattle.mold_devices.specs.Faults.{CountsRead};
-ghost use Rattle.mold_devices.specs.Lines.{HasNoEnd, work_left};
+ghost use Rattle.mold_devices.specs.Lines.{work_left};
 ghost use Rattle.mold_input.specs.Entries.{line_entries};
-ghost use Rattle.mold_input.specs.LongLines.{GivesStart, bytes_of};
 ghost use Rattle.mold_input.specs.declared.input_kind.InputKind.TheVariants as kind;
 
 use crate::input_kind::InputKind;
+use crate::joining::{LINE_END, PIECE, join_line};
 use crate::line_part::{LinePart, read_line};
 use crate::message_reader::MessageReader;
 use crate::next::Next;
@@ -16,12 +16,6 @@ use memchr::memchr;
 use mold_devices::{InputReader, Piece, ReadFault, Source};
 use std::alloc::{AllocError, Global};
 use std::marker::Model;
-
-/// The greatest number of bytes that one read takes.
-const PIECE: usize = 65536;
-
-/// The byte that ends a line.
-const LINE_END: u8 = b'\n';
 
 /// A reader of lines of hexadecimal digits. Each line is one message; an empty line is an empty message. It keeps at
 /// most `MAX_LINE` bytes of a line.
@@ -78,35 +72,5 @@ impl MessageReader for HexLines {
 
     fn message(&self) -> &[u8] {
         self.message.as_slice()
-    }
-}
-
-// Joins the line that starts in the piece and continues in later reads. Returns false if no byte remains.
-fn join_line<S: Source>(
-    piece: &mut Piece<PIECE>,
-    part: &mut LinePart,
-    source: &mut S,
-) -> Result<bool, ReadFault>
-    requires no_end { HasNoEnd piece.old }
-    requires empty { part.old ≡ record { counted = 0; kept = [] } }
-    ensures line { IfOk result (λ found. GivesStart
-        (prepend_known piece.old (S.left source.old))
-        (prepend_known piece.new (S.left source.new)) found (bytes_of part.new)) }
-    ensures work { IfOk result (λ found. found ≡ true →
-        work_left (S.bound source.new) piece.new < work_left (S.bound source.old) piece.old) }
-    ensures failures { CountsRead (S.failed source.old) (S.failed source.new) result }
-{
-    part.add(piece.rest())?;
-    'pieces: loop {
-        let count = piece.refill(source)?;
-        if count == 0 {
-            return Ok(!part.is_empty());
-        }
-        if let Some(at) = memchr(LINE_END, piece.rest()) {
-            part.add(&piece.rest()[..at])?;
-            piece.skip(at + 1);
-            return Ok(true);
-        }
-        part.add(piece.rest())?;
     }
 }

@@ -1,13 +1,14 @@
 //! The part of an entry that has been read. Of a line that is too long for a message, only the digits are counted.
 
 ghost use Rattle.std.specs.Prelude.{◌≡◌, ◌+◌, ◌++◌, ◌≤◌, ◌==◌, [], drop, length, take, IfOk, IfSome, OnOk};
-ghost use Rattle.mold_input.specs.Entries.{line_entry};
+ghost use Rattle.mold_input.specs.Entries.{Entry, line_entry};
 ghost use Rattle.mold_input.specs.LongLines.{IsEntry, IsSameStart, bytes_of};
 ghost use Rattle.mold_input.specs.declared.limits.TheConstants.{MAX_LINE};
 
 use crate::input_fault::InputFault;
 use crate::limits::MAX_LINE;
 use crate::next::Next;
+use crate::part::Part;
 use mold_digits::{are_digits, decode};
 use std::alloc::{AllocError, Global};
 use std::marker::Model;
@@ -66,7 +67,7 @@ impl LinePart {
     /// counted. Otherwise a single byte that is not a digit takes its place. It fails if an allocation fails, or if
     /// there are more digits than can be counted.
     pub fn add(&mut self, bytes: &[u8]) -> Result<(), AllocError>
-        ensures same { OnOk result (IsSameStart (bytes_of self.new) (bytes_of self.old ++ bytes.now)) }
+        ensures same { OnOk result (IsSameStart line_entry (bytes_of self.new) (bytes_of self.old ++ bytes.now)) }
         ensures few { length self.old.kept ≤ MAX_LINE → length self.new.kept ≤ MAX_LINE }
     {
         if self.counted == 0 && bytes.len() <= MAX_LINE.saturating_sub(self.kept.len()) {
@@ -145,6 +146,26 @@ impl LinePart {
         Ok(Next::Fault {
             why: InputFault::NotHex,
         })
+    }
+}
+
+impl Part for LinePart {
+    ghost Meaning = { Entry };
+
+    ghost meaning = { line_entry };
+
+    ghost bytes = { bytes_of };
+
+    fn clear(&mut self) {
+        LinePart::clear(self);
+    }
+
+    fn is_empty(&self) -> bool {
+        LinePart::is_empty(self)
+    }
+
+    fn add(&mut self, more: &[u8]) -> Result<(), AllocError> {
+        LinePart::add(self, more)
     }
 }
 

@@ -1,4 +1,5 @@
 use Rattle.std.proofs.Common.{arith, ◌≡◌, ◌∙◌, ◌<◌, ap, sym, subst, List, [], ◌∷◌, ℕ, length, length-append, replicate, ◌++◌, true, false}
+use Rattle.mold_input.specs.Entries.{line_entry}
 use Rattle.mold_input.specs.LongLines.{IsSameStart, PartState, bytes_of}
 use Rattle.mold_input.specs.declared.limits.TheConstants.{MAX_LINE}
 use Rattle.mold_input.proofs.LongLemmas.{bad_replaced, digits, digits_counted, not_both, part_bad, part_good, part_length}
@@ -44,9 +45,10 @@ returns-then-are_digits-2-clause-same c =
             c.self.invariant (omega (arith, w.if-self-eq0.false)),
           )
     ] in
-    subst (λ (t : List ℕ). IsSameStart (replicate c.in-Some.counted 48 ++ t) (bytes_of c.args.self.now ++ bytes))
+    subst (λ (t : List ℕ).
+    IsSameStart line_entry (replicate c.in-Some.counted 48 ++ t) (bytes_of c.args.self.now ++ bytes))
     (sym c.clear.ensures.items)
-    (subst (λ (t : List ℕ). IsSameStart (replicate c.in-Some.counted 48 ++ []) (t ++ bytes)) (sym shown)
+    (subst (λ (t : List ℕ). IsSameStart line_entry (replicate c.in-Some.counted 48 ++ []) (t ++ bytes)) (sym shown)
     (digits_counted c.in-Some.counted all len (part_good n kept bytes first second) long))
 
 pub returns-clause-same : goal.returns-clause-same
@@ -73,6 +75,6 @@ returns-clause-same c =
     ∙ c.in_ok-extend_from_slice.ensures.items
     ∙ ap (λ (t : List ℕ). t ++ 46 ∷ []) (ap (λ (s : PartState). s.kept) is)
     in
-    subst (λ (t : List ℕ). IsSameStart t (bytes_of c.args.self.now ++ bytes)) (sym dot)
-    (subst (λ (t : List ℕ). IsSameStart (46 ∷ []) (t ++ bytes)) (sym shown)
+    subst (λ (t : List ℕ). IsSameStart line_entry t (bytes_of c.args.self.now ++ bytes)) (sym dot)
+    (subst (λ (t : List ℕ). IsSameStart line_entry (46 ∷ []) (t ++ bytes)) (sym shown)
     (bad_replaced ((replicate n 48 ++ kept) ++ bytes) bad))
