@@ -64,6 +64,12 @@ GivesNext None left next message = ⊤
 GivesNext (Some entries) None next message = ⊥
 GivesNext (Some entries) (Some left) next message = entries ≡ entries_before next message left
 
+-- The reader found an entry: a message or a fault.
+abbrev pub IsEntryFound : Next → Type 0
+IsEntryFound Message = ⊤
+IsEntryFound (Fault why) = ⊤
+IsEntryFound End = ⊥
+
 -- The model of a reader of messages.
 pub record ReaderState : Type 0 where
   -- The message that was found last.

@@ -4,7 +4,7 @@ ghost use Rattle.std.specs.Prelude.{◌≡◌, ◌<◌, [], IfOk};
 ghost use Rattle.std.specs.Io.KnownBytes.{prepend_known};
 ghost use Rattle.mold_devices.specs.Faults.{CountsRead};
 ghost use Rattle.mold_devices.specs.Lines.{work_left};
-ghost use Rattle.mold_input.specs.Entries.{line_entries};
+ghost use Rattle.mold_input.specs.Entries.{GivesNext, IsEntryFound, known_entries, line_entries};
 ghost use Rattle.mold_input.specs.declared.input_kind.InputKind.TheVariants as kind;
 
 use crate::input_kind::InputKind;
@@ -57,7 +57,15 @@ impl MessageReader for HexLines {
         InputKind::Lines
     }
 
-    fn advance<S: Source>(&mut self, source: &mut S) -> Result<Next, ReadFault> {
+    // Each line reduces the remaining work, even if it is not a message. So a command can continue after a fault.
+    fn advance<S: Source>(&mut self, source: &mut S) -> Result<Next, ReadFault>
+        ensures next { IfOk result (λ next. GivesNext
+            (known_entries line_entries (prepend_known self.old.unread (S.left source.old)))
+            (known_entries line_entries (prepend_known self.new.unread (S.left source.new))) next self.new.message) }
+        ensures work { IfOk result (λ next. IsEntryFound next →
+            work_left (S.bound source.new) self.new.unread < work_left (S.bound source.old) self.old.unread) }
+        ensures failures { CountsRead (S.failed source.old) (S.failed source.new) result }
+    {
         if let Some(at) = memchr(LINE_END, self.piece.rest()) {
             let next = read_line(&self.piece.rest()[..at], &mut self.message)?;
             self.piece.skip(at + 1);
