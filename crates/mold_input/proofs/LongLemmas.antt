@@ -93,14 +93,14 @@ counted_digits n back good =
     ∙ good
 
 -- What follows does not matter for the comparison.
-digits_more : (one other more : List ℕ) → digits one ≡ digits other → digits (one ++ more) ≡ digits (other ++ more)
+pub digits_more : (one other more : List ℕ) → digits one ≡ digits other → digits (one ++ more) ≡ digits (other ++ more)
 digits_more one other more same =
     both_digits one more ∙ ap (λ (b : Bool). b && digits more) same ∙ sym (both_digits other more)
 
 pub same_start : {M : Type 0} (meaning : List ℕ → M) (bytes : List ℕ) → IsSameStart meaning bytes bytes
 same_start meaning bytes = record { same = λ more. refl; empty = refl; no_end = λ none. none }
 
-empty_same : (one other : ℕ) → 0 < one → 0 < other → eqb one 0 ≡ eqb other 0
+pub empty_same : (one other : ℕ) → 0 < one → 0 < other → eqb one 0 ≡ eqb other 0
 empty_same (suc one) (suc other) some more = eqb-suc-zero one ∙ sym (eqb-suc-zero other)
 empty_same zero other some more = absurd (omega (arith, some))
 empty_same (suc one) zero some more = absurd (omega (arith, more))

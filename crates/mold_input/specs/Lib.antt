@@ -4,3 +4,4 @@ pub mod Entries
 pub mod Formats
 pub mod LongLines
 pub mod PacketLines
+pub mod PacketPart

@@ -16,8 +16,9 @@ use std::alloc::{AllocError, Global};
 use std::marker::Model;
 
 /// A reader of lines of packets. A line is borrowed from the bytes of one read, without a copy, if that read contains
-/// the whole line. A line that spans several reads is kept only until it is known that it holds no packet. Then a
-/// shorter line with the same fault takes its place, so a long line that can only be refused takes little memory.
+/// the whole line. A line that spans several reads is kept whole while it can still hold a packet. Once it can only be
+/// refused, a shorter line with the same fault takes its place. The memory that a line takes is in proportion to the
+/// length at which it can only be refused.
 #[derive(Drop)]
 pub struct PacketLines {
     piece: Box<Piece<PIECE>>,
@@ -53,7 +54,7 @@ impl PacketLines {
         })
     }
 
-    /// Returns the line that `advance` found last, without the byte that ends it. Of a line that holds no packet, it may
+    /// Returns the line that `advance` found last, without the byte that ends it. If the line holds no packet, this may
     /// be a shorter line with the same fault.
     pub fn line(&self) -> &[u8]
         ensures { result.now ≡ self.now.line }
