@@ -13,3 +13,4 @@ pub mod SessionLemmas
 pub mod LawLemmas
 pub mod EntryLemmas
 pub mod DigestLemmas
+pub mod FaultLemmas

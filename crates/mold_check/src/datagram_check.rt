@@ -108,6 +108,8 @@ impl Judge for DatagramCheck {
     ) -> Result<(), CommandFault> {
         Ok(())
     }
+
+    fn fault_law() {}
 }
 
 /// Writes the text and the reason why the datagram is refused, and returns the exit status. If an allocation fails,

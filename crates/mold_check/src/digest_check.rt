@@ -85,6 +85,8 @@ impl Judge for DigestCheck {
     ) -> Result<(), CommandFault> {
         Ok(())
     }
+
+    fn fault_law() {}
 }
 
 fn push_whole(text: &mut Vec<u8>, messages: u64) -> Result<(), AllocError>

@@ -47,6 +47,7 @@ impl<'a, J: FreshJudge> Digested<'a, J> {
 
 impl<'a, J: Judge> Judge for Digested<'a, J> {
     ghost use Rattle.mold_check.specs.Digested.{digested_judging};
+    ghost use Rattle.mold_check.specs.Judge.{JudgesByFault};
 
     ghost judging = { digested_judging J.judging };
 
@@ -75,5 +76,12 @@ impl<'a, J: Judge> Judge for Digested<'a, J> {
         naming: &N,
     ) -> Result<(), CommandFault> {
         self.judge.print_early(sink, text, naming)
+    }
+
+    // For the toolchain: it states the clause of the trait again.
+    fn fault_law()
+        ensures { JudgesByFault (digested_judging J.judging) }
+    {
+        J::fault_law();
     }
 }

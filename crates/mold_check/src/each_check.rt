@@ -79,4 +79,8 @@ impl<J: FreshJudge> Judge for EachCheck<J> {
         self.table.print(sink, text, naming, self.refused)?;
         Ok(())
     }
+
+    fn fault_law() {
+        J::fault_law();
+    }
 }

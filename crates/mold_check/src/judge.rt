@@ -2,7 +2,7 @@
 
 ghost use Rattle.std.specs.Prelude.{◌≡◌, ◌++◌, IfOk, OnOk};
 ghost use Rattle.std.specs.Io.KnownBytes.{Appends};
-ghost use Rattle.mold_check.specs.Judge.{Judging};
+ghost use Rattle.mold_check.specs.Judge.{Judging, JudgesByFault};
 ghost use Rattle.mold_devices.specs.Devices.{AppendsPrefix};
 ghost use Rattle.mold_devices.specs.Faults.{CountsSink};
 ghost use Rattle.mold_devices.specs.Writing.{Moves};
@@ -52,4 +52,8 @@ pub trait Judge: Drop {
         ensures front { AppendsPrefix (K.held sink.old) (K.held sink.new)
             (text.old.items ++ judging.early (N.named naming.now) self.now) }
         ensures failures { CountsSink (K.failed sink.old) (K.failed sink.new) result };
+
+    /// States that a datagram that does not encode a packet is judged by its fault alone. It does nothing.
+    fn fault_law()
+        ensures { JudgesByFault judging };
 }
