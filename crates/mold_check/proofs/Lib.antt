@@ -14,3 +14,4 @@ pub mod LawLemmas
 pub mod EntryLemmas
 pub mod DigestLemmas
 pub mod FaultLemmas
+pub mod ContentLemmas

@@ -12,10 +12,12 @@ use crate::datagram_check::DatagramCheck;
 use crate::fresh_judge::FreshJudge;
 use crate::judge::Judge;
 use crate::line_check::LineCheck;
-use mold_devices::{CommandFault, Lines, ReadFault, Sink, Source};
+use mold_devices::{CommandFault, ReadFault, Sink, Source};
+use mold_input::PacketLines;
 use std::alloc::Global;
 
-/// Reads all lines of the source into a check with this judge. The check can then be printed.
+/// Reads all lines of the source into a check with this judge. The check can then be printed. Of a long line that can
+/// only be refused, only a part is kept.
 ///
 /// `Read` is returned only if the source failed, `Memory` only if an allocation failed.
 pub fn read_lines_over<J: Judge, S: Source>(
@@ -27,7 +29,8 @@ pub fn read_lines_over<J: Judge, S: Source>(
         check ≡ all_taken J.judging (beginning_over judge) (lines_of input))) }
     ensures failures { CountsRead (S.failed source.old) (S.failed source.new) result }
 {
-    let mut lines = Lines::new(alloc)?;
+    J::fault_law();
+    let mut lines = PacketLines::new(alloc)?;
     let mut check = LineCheck::over(alloc, judge);
     'lines: loop {
         if !lines.advance(source)? {
@@ -52,9 +55,9 @@ pub fn read_lines<J: FreshJudge, S: Source>(
 /// Checks the datagrams that the lines of the source encode as hexadecimal digits, in their order. It writes the
 /// outcome to the sink and returns the exit status: 0 whole, 1 incomplete, 2 a line is refused.
 ///
-/// It reads all lines before it writes, and keeps only the messages that the checker stores. After a fault, a prefix of
-/// the text was written. `Read` and `Write` are returned only if the source or the sink failed, `Memory` only if an
-/// allocation failed.
+/// It reads all lines before it writes, and keeps only the messages that the checker stores. Of a long line that can
+/// only be refused, it keeps only a part. After a fault, a prefix of the text was written. `Read` and `Write` are
+/// returned only if the source or the sink failed, `Memory` only if an allocation failed.
 pub fn check_lines<S: Source, K: Sink>(
     alloc: Global,
     source: &mut S,
