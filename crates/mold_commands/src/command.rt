@@ -11,7 +11,7 @@ ghost use Rattle.mold_show.specs.Pack.{pack_status, pack_text};
 use mold_check::check_lines;
 use mold_devices::{CommandFault, Sink, Source, run_lines};
 use mold_input::{BlocksToEmpty, HexLines, MessageBlocks, MessageFormat};
-use mold_show::{Pack, PackOptions, Show};
+use mold_show::{Pack, PackOptions, ShowPackets, ShowRequests};
 use mold_sim::Sim;
 use mold_wire::Session;
 use mold_words::{CheckOrder, InputOrder, Judging, Order, PackOrder, SimOrder};
@@ -39,9 +39,10 @@ pub fn run_command<S: Source, K: Sink>(
         (K.failed sink.old) (K.failed sink.new) result }
 {
     match order {
-        Order::Show { request } => {
-            run_lines(alloc, &mut Show::new(alloc, *request), source, sink)
+        Order::Show { request: false } => {
+            run_lines(alloc, &mut ShowPackets::new(alloc), source, sink)
         }
+        Order::Show { request: true } => run_lines(alloc, &mut ShowRequests::new(), source, sink),
         Order::Pack(order) => run_pack(alloc, order, source, sink),
         Order::Sim(order) => run_lines(alloc, &mut sim_of(alloc, order)?, source, sink),
         Order::Check(

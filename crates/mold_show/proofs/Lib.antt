@@ -6,3 +6,5 @@ pub mod ListedLemmas
 pub mod PackJournalLemmas
 pub mod PackLemmas
 pub mod ShowLemmas
+pub mod ShowPacketsLemmas
+pub mod ShowRequestsLemmas

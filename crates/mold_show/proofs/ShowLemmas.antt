@@ -1,8 +1,9 @@
 -- What is printed for one more line, and after the last line.
-use Rattle.std.proofs.Common.{◌≡◌, ℕ, Bool, true, false, cond, List, [], ◌∷◌, ◌++◌, Option, None, Some, refl, sym, ap, ◌∙◌, append-nil}
-use Rattle.std.specs.Prelude.{◌||◌}
+use Rattle.std.proofs.Common.{◌≡◌, ℕ, Bool, true, false, cond, List, [], ◌++◌, Option, None, Some, refl, sym}
+use Rattle.std.proofs.Common.{ap, subst, ◌∙◌, append-nil}
+use Rattle.std.specs.Prelude.{◌||◌, ⊤}
 use Rattle.std.specs.List.{flat_map, list_any}
-use Rattle.mold_devices.specs.Lines.{lines_of, GivesLine}
+use Rattle.mold_devices.specs.Lines.{lines_of}
 use Rattle.mold_devices.specs.Turns.{GoesOver, IsTurn}
 use Rattle.mold_devices.specs.declared.turn.Turn.TheVariants.{More, Done}
 use Rattle.mold_show.specs.Show.{ShowState, line_text, line_refused, show_text, show_refused, show_printing}
@@ -15,82 +16,89 @@ or-false : (b : Bool) → b || false ≡ b
 or-false true = refl
 or-false false = refl
 
--- The text of the first line is printed first.
-show_text-line : (requests : Bool) (bytes line behind : List ℕ) → lines_of bytes ≡ line ∷ lines_of behind →
-    show_text requests bytes ≡ line_text requests line ++ show_text requests behind
-unfolding show_text
-show_text-line requests bytes line behind cut = ap (flat_map (line_text requests)) cut
+-- The first line of `xs` has this text, and `is_refused` states whether it is refused. The lines after it are those of
+-- `ys`.
+pub record IsFirst (requests is_refused : Bool) (xs ys text : List ℕ) : Type 0 where
+  pub text_is : show_text requests xs ≡ text ++ show_text requests ys
+  pub refused_is : show_refused requests xs ≡ (is_refused || show_refused requests ys)
 
-show_refused-line : (requests : Bool) (bytes line behind : List ℕ) → lines_of bytes ≡ line ∷ lines_of behind →
-    show_refused requests bytes ≡ (line_refused requests line || show_refused requests behind)
-unfolding show_refused
-show_refused-line requests bytes line behind cut = ap (list_any (line_refused requests)) cut
+-- The same if the input is known.
+abbrev pub GivesFirst : Bool → Bool → Option (List ℕ) → Option (List ℕ) → List ℕ → Type 0
+GivesFirst requests is_refused None left text = ⊤
+GivesFirst requests is_refused (Some xs) None text = ⊥
+GivesFirst requests is_refused (Some xs) (Some ys) text = IsFirst requests is_refused xs ys text
 
-show_text-nil : (requests : Bool) → show_text requests [] ≡ []
-unfolding show_text
-show_text-nil requests = refl
-
-show_refused-nil : (requests : Bool) → show_refused requests [] ≡ false
-unfolding show_refused
-show_refused-nil requests = refl
+-- The input has no lines, if it is known.
+abbrev pub GivesNone : Option (List ℕ) → Option (List ℕ) → Type 0
+GivesNone None left = ⊤
+GivesNone (Some xs) None = ⊥
+GivesNone (Some xs) (Some ys) = lines_of xs ≡ []
 
 -- The state of the command after one more line.
 abbrev pub shown_more : ShowState → Bool → ShowState
-shown_more s asked = record { requests = s.requests; refused = s.refused || asked }
+shown_more s is_refused = record { refused = s.refused || is_refused }
 
--- A line was found, and its text was appended.
-pub record IsShown (s : ShowState) (asked : Bool) (known left : Option (List ℕ)) (old new : List ℕ) : Type 0 where
-  pub line : List ℕ
-  pub gives : GivesLine known left true line
-  pub written : new ≡ old ++ line_text s.requests line
-  pub refused : asked ≡ line_refused s.requests line
-
-more_goes : (s : ShowState) (asked : Bool) (known left : Option (List ℕ)) (old new : List ℕ)
-    (is : IsShown s asked known left old new) → GivesLine known left true is.line →
-    GoesOver (show_printing s) (show_printing (shown_more s asked)) known left (line_text s.requests is.line) More
-more_goes s asked None left old new is gives = tt
-more_goes s asked (Some xs) None old new is gives = absurd gives
-more_goes s asked (Some xs) (Some ys) old new is gives = (
-  show_text-line s.requests xs is.line ys gives,
-  ap (λ (b : Bool). cond (s.refused || b) 2 0)
-      (show_refused-line s.requests xs is.line ys gives
-      ∙ ap (λ (b : Bool). b || show_refused s.requests ys) (sym is.refused))
-      ∙ ap (λ (b : Bool). cond b 2 0) (or_assoc s.refused asked (show_refused s.requests ys)),
+more_goes : (requests : Bool) (s : ShowState) (is_refused : Bool) (known left : Option (List ℕ)) (text : List ℕ) →
+    GivesFirst requests is_refused known left text →
+    GoesOver (show_printing requests s) (show_printing requests (shown_more s is_refused)) known left text More
+more_goes requests s is_refused None left text first = tt
+more_goes requests s is_refused (Some xs) None text first = absurd first
+more_goes requests s is_refused (Some xs) (Some ys) text first = (
+  first.text_is,
+  ap (λ (b : Bool). cond (s.refused || b) 2 0) first.refused_is
+      ∙ ap (λ (b : Bool). cond b 2 0) (or_assoc s.refused is_refused (show_refused requests ys)),
 )
 
 -- A turn that shows a line.
-pub shown_line : (s : ShowState) (asked : Bool) {known left : Option (List ℕ)} {old new : List ℕ} →
-    IsShown s asked known left old new →
-    IsTurn (show_printing s) (show_printing (shown_more s asked)) known left old new More
-shown_line s asked {known} {left} {old} {new} is = record {
-  added = line_text s.requests is.line;
-  written = is.written;
-  goes = more_goes s asked known left old new is is.gives;
+pub shown_line : (requests : Bool) (s : ShowState) (is_refused : Bool) {known left : Option (List ℕ)}
+    {old new : List ℕ} (text : List ℕ) → GivesFirst requests is_refused known left text → new ≡ old ++ text →
+    IsTurn (show_printing requests s) (show_printing requests (shown_more s is_refused)) known left old new More
+shown_line requests s is_refused {known} {left} {old} {new} text first written = record {
+  added = text;
+  written = written;
+  goes = more_goes requests s is_refused known left text first;
 }
 
--- No line remained, and the status reports whether one was refused.
-pub record IsOver (s : ShowState) (known left : Option (List ℕ)) (status : ℕ) : Type 0 where
-  pub line : List ℕ
-  pub gives : GivesLine known left false line
-  pub status_is : status ≡ cond s.refused 2 0
+or-true : (b : Bool) → b || true ≡ true
+or-true true = refl
+or-true false = refl
 
-done_goes : (s : ShowState) (known left : Option (List ℕ)) (line : List ℕ) (status : ℕ) →
-    GivesLine known left false line → status ≡ cond s.refused 2 0 →
-    GoesOver (show_printing s) (show_printing s) known left [] (Done status)
-done_goes s None left line status gives is = tt
-done_goes s (Some xs) None line status gives is = absurd gives
-done_goes s (Some xs) (Some ys) line status gives is = (
-  ap (show_text s.requests) gives ∙ show_text-nil s.requests,
-  ap (λ (b : Bool). cond (s.refused || b) 2 0) (ap (show_refused s.requests) gives ∙ show_refused-nil s.requests)
+-- A turn that shows a line that is refused.
+pub shown_refused : (requests : Bool) (s : ShowState) {known left : Option (List ℕ)} {old new : List ℕ}
+    (text : List ℕ) → GivesFirst requests true known left text → new ≡ old ++ text →
+    IsTurn (show_printing requests s) (show_printing requests (record { refused = true })) known left old new More
+shown_refused requests s {known} {left} {old} {new} text first written =
+    subst (λ (b : Bool).
+    IsTurn (show_printing requests s) (show_printing requests (record { refused = b })) known left old new More)
+    (or-true s.refused)
+    (shown_line requests s true {known = known} {left = left} {old = old} {new = new} text first written)
+
+no_text : (requests : Bool) (xs : List ℕ) → lines_of xs ≡ [] → show_text requests xs ≡ []
+unfolding show_text
+no_text requests xs none = ap (flat_map (line_text requests)) none
+
+none_refused : (requests : Bool) (xs : List ℕ) → lines_of xs ≡ [] → show_refused requests xs ≡ false
+unfolding show_refused
+none_refused requests xs none = ap (list_any (line_refused requests)) none
+
+done_goes : (requests : Bool) (s : ShowState) (known left : Option (List ℕ)) (status : ℕ) →
+    GivesNone known left → status ≡ cond s.refused 2 0 →
+    GoesOver (show_printing requests s) (show_printing requests s) known left [] (Done status)
+done_goes requests s None left status none is = tt
+done_goes requests s (Some xs) None status none is = absurd none
+done_goes requests s (Some xs) (Some ys) status none is = (
+  no_text requests xs none,
+  ap (λ (b : Bool). cond (s.refused || b) 2 0) (none_refused requests xs none)
       ∙ ap (λ (b : Bool). cond b 2 0) (or-false s.refused)
       ∙ sym is,
 )
 
--- The last turn prints nothing.
-pub shown_all : (s : ShowState) {known left : Option (List ℕ)} {old : List ℕ} {status : ℕ} →
-    IsOver s known left status → IsTurn (show_printing s) (show_printing s) known left old old (Done status)
-shown_all s {known} {left} {old} {status} is = record {
+-- The last turn prints nothing. The status states whether a line was refused.
+pub shown_all : (requests : Bool) (s : ShowState) {known left : Option (List ℕ)} {old : List ℕ} {status : ℕ} →
+    GivesNone known left → status ≡ cond s.refused 2 0 →
+    IsTurn (show_printing requests s) (show_printing requests s) known left old old (Done status)
+shown_all requests s {known} {left} {old} {status} none is = record {
   added = [];
   written = sym (append-nil old);
-  goes = done_goes s known left is.line status is.gives is.status_is;
+  goes = done_goes requests s known left status none is;
 }

@@ -4,3 +4,4 @@ pub mod Pack
 pub mod PackJournal
 pub mod Packets
 pub mod Show
+pub mod ShowRequests

@@ -75,14 +75,13 @@ show_refused requests input = list_any (line_refused requests) (lines_of input)
 abbrev pub show_status : Bool → List ℕ → ℕ
 show_status requests input = if show_refused requests input then 2 else 0
 
--- The state of the command: whether its lines are requests, and whether a line was refused so far.
+-- The state of the command: whether a line was refused so far.
 pub record ShowState : Type 0 where
-  pub requests : Bool
   pub refused : Bool
 
 -- What the command prints for the remaining input, and its exit status.
-abbrev pub show_printing : ShowState → Printing
-show_printing s = record {
-  text = show_text s.requests;
-  status = λ input. if s.refused || show_refused s.requests input then 2 else 0;
+abbrev pub show_printing : Bool → ShowState → Printing
+show_printing requests s = record {
+  text = show_text requests;
+  status = λ input. if s.refused || show_refused requests input then 2 else 0;
 }

@@ -12,6 +12,8 @@ mod pack_journal;
 mod pack_options;
 mod save_outcome;
 mod show;
+mod show_packets;
+mod show_requests;
 
 pub use dump::{dump_file, end_dump, push_end};
 pub use dump_fault::DumpFault;
@@ -21,4 +23,5 @@ pub use pack::Pack;
 pub use pack_journal::pack_into_journal;
 pub use pack_options::PackOptions;
 pub use save_outcome::SaveOutcome;
-pub use show::Show;
+pub use show_packets::ShowPackets;
+pub use show_requests::ShowRequests;
