@@ -114,12 +114,12 @@ front_lines (byte ∷ next ∷ front) more some none =
     ∙ ap (onto_first byte) (front_lines (next ∷ front) more (omega arith) (λ k lt is. none (suc k) (omega (arith, lt)) is))
     ∙ onto_next byte (next ∷ front) (lines_of more)
 
-same_first : (one other : List ℕ) (lines : List (List ℕ)) → IsSameStart one other →
+same_first : (one other : List ℕ) (lines : List (List ℕ)) → IsSameStart line_entry one other →
     map line_entry (onto_front one lines) ≡ map line_entry (onto_front other lines)
 same_first one other [] same =
     ap (λ (e : Entry). e ∷ [])
-    (ap line_entry (sym (append-nil one)) ∙ same.entry [] ∙ ap line_entry (append-nil other))
-same_first one other (line ∷ lines) same = ap (λ (e : Entry). e ∷ map line_entry lines) (same.entry line)
+    (ap line_entry (sym (append-nil one)) ∙ same.same [] ∙ ap line_entry (append-nil other))
+same_first one other (line ∷ lines) same = ap (λ (e : Entry). e ∷ map line_entry lines) (same.same line)
 
 not_empty : (one other : ℕ) → eqb one 0 ≡ eqb other 0 → 0 < other → 0 < one
 not_empty (suc one) other same some = omega arith
@@ -127,7 +127,7 @@ not_empty zero (suc other) same some = let no = sym (eqb-suc-zero other) ∙ sym
 not_empty zero zero same some = absurd (omega (arith, some))
 
 -- Starts of a line with the same entry, whatever follows.
-pub same_entries : (one other more : List ℕ) → IsSameStart one other → HasNoEnd other →
+pub same_entries : (one other more : List ℕ) → IsSameStart line_entry one other → HasNoEnd other →
     line_entries (one ++ more) ≡ line_entries (other ++ more)
 same_entries one other more same none = elim (cases_eq (length other) 0) [
   | inl empty ↦
