@@ -19,10 +19,10 @@ use Rattle.mold_session.specs.Publisher.{MayPublish, PublisherState}
 use Rattle.mold_session.specs.Truthful.{MayAnswer, IsTrueDatagram}
 use Rattle.mold_session.specs.declared.error.AppendError.{AppendError}
 use Rattle.mold_publish.specs.Publishing.{PublishedInput, entries_published, entry_outcome, input_published, published_from}
-use Rattle.mold_publish.specs.Publishing.{unless_refused}
+use Rattle.mold_publish.specs.Publishing.{fault_refusal, unless_refused}
 use Rattle.mold_publish.specs.Sending.{all_but_last, end_packet, packets_after, packets_before}
 use Rattle.mold_publish.specs.declared.message_refusal.MessageRefusal.{MessageRefusal}
-use Rattle.mold_publish.specs.declared.refusal_reason.RefusalReason.TheVariants.{NotRead, NotTaken}
+use Rattle.mold_publish.specs.declared.refusal_reason.RefusalReason.TheVariants.{NotTaken}
 use Rattle.mold_input.specs.Entries.{Entry, InputEntries}
 use Rattle.mold_input.specs.declared.input_kind.InputKind.{InputKind}
 use Rattle.mold_input.specs.declared.input_kind.InputKind.TheVariants.{Lines, Blocks}
@@ -138,7 +138,8 @@ module _ (laws : PublishedLaws) where
   entry_taken kind journal (Ok message) entries behind is each =
       message_taken kind journal entries message (append_refusal journal message) behind is refl each
   entry_taken kind journal (Err why) entries behind is each =
-      entry_refused kind journal (Err why) entries (record { kind = kind; why = NotRead why }) is refl
+      entry_refused kind journal (Err why) entries (record { kind = kind; why = fault_refusal why journal.closed }) is
+      refl
 
   -- all entries
   entries_taken : (kind : InputKind) (entries : List Entry) (journal : JournalState) → IsJournal journal →

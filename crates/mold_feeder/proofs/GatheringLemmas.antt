@@ -11,9 +11,8 @@ use Rattle.mold_input.specs.Entries.{Entry, GivesNext, InputEntries, with_kind}
 use Rattle.mold_input.specs.declared.input_fault.InputFault.{InputFault}
 use Rattle.mold_input.specs.declared.input_kind.InputKind.{InputKind}
 use Rattle.mold_input.specs.declared.next.Next.TheVariants as next
-use Rattle.mold_publish.specs.Publishing.{InputPublished, entry_outcome}
+use Rattle.mold_publish.specs.Publishing.{InputPublished, entry_outcome, fault_refusal}
 use Rattle.mold_publish.specs.declared.message_refusal.MessageRefusal.{MessageRefusal}
-use Rattle.mold_publish.specs.declared.refusal_reason.RefusalReason.TheVariants.{NotRead}
 use Rattle.mold_publish.proofs.PublishingLemmas.{published_end, published_fault, published_more, published_nothing, published_refused}
 use Rattle.mold_session.specs.Journal.{JournalState}
 use Rattle.mold_session.specs.Publisher.{PublisherState}
@@ -105,9 +104,10 @@ module _ {S : Type 0} (shows may_leave : S → List ℕ → Type 0) (kind : Inpu
       (read : List ℕ) (why : InputFault) → most ≤ all → SoFar most old now known left →
       GivesNext left behind (next.Fault why) read →
       Gathers shows may_leave life all old now (with_kind kind known) (with_kind kind behind)
-      (Refused (record { kind = kind; why = NotRead why }))
+      (Refused (record { kind = kind; why = fault_refusal why now.publisher.journal.closed }))
   gathered_fault most all old now known left behind read why le so_far gives =
-      stopped most all old now known left behind (Refused (record { kind = kind; why = NotRead why })) le so_far
+      stopped most all old now known left behind
+      (Refused (record { kind = kind; why = fault_refusal why now.publisher.journal.closed })) le so_far
       (published_fault kind old.publisher.journal now.publisher.journal known left behind read why so_far.input gives)
 
   -- A message is refused.

@@ -70,7 +70,7 @@ pub fn gather<M: MessageReader, K: Source, S: Storage + Drop>(
         match messages.advance(source)? {
             Next::Message => {}
             Next::Fault { why } => {
-                let why = RefusalReason::NotRead(why);
+                let why = RefusalReason::from_fault(why, publisher.is_closed());
                 let refusal = MessageRefusal { kind, why };
                 return Ok(Gathered::Refused { refusal });
             }

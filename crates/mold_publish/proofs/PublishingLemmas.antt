@@ -22,11 +22,10 @@ use Rattle.mold_session.specs.declared.error.AppendError.{AppendError}
 use Rattle.mold_session.specs.declared.error.AppendError.TheVariants.{Closed, TooLong}
 use Rattle.mold_session.specs.declared.error.AppendError.TheVariants as append
 use Rattle.mold_publish.specs.Publishing.{PublishedInput, published_from, entries_published, entry_outcome}
-use Rattle.mold_publish.specs.Publishing.{lines_published, line_outcome}
+use Rattle.mold_publish.specs.Publishing.{lines_published, line_outcome, fault_refusal}
 use Rattle.mold_publish.specs.Publishing.{unless_refused, InputPublished, Fills}
 use Rattle.mold_publish.specs.Publishing.{TakesEntry, HasRoom, IsJustFull}
 use Rattle.mold_publish.specs.declared.message_refusal.MessageRefusal.{MessageRefusal}
-use Rattle.mold_publish.specs.declared.refusal_reason.RefusalReason.TheVariants.{NotRead}
 use Rattle.mold_publish.specs.declared.filling.Filled.{Filled}
 use Rattle.mold_publish.specs.declared.filling.Filled.TheVariants.{Full, End, Refused}
 
@@ -89,7 +88,7 @@ module _ (kind : InputKind) where
   -- an entry is not a message
   pub published_fault : (old now : JournalState) (known left behind : Option (List Entry)) (read : List ℕ)
       (why : InputFault) → Published old now known left Full → GivesNext left behind (next.Fault why) read →
-      Published old now known behind (Refused (record { kind = kind; why = NotRead why }))
+      Published old now known behind (Refused (record { kind = kind; why = fault_refusal why now.closed }))
   published_fault old now None left behind read why so_far gives = tt
   published_fault old now (Some all) None behind read why so_far gives = absurd so_far
   published_fault old now (Some all) (Some xs) None read why so_far gives = absurd gives
@@ -111,7 +110,7 @@ module _ (kind : InputKind) where
 
 long_same : (journal : JournalState) (message : List ℕ) (long : Bool) →
     entry_outcome Lines journal (cond long (Err (fault.TooLong (length message))) (Ok message))
-    ≡ cond long (Err (record { kind = Lines; why = NotRead (fault.TooLong (length message)) }))
+    ≡ cond long (Err (record { kind = Lines; why = fault_refusal (fault.TooLong (length message)) journal.closed }))
     (unless_refused Lines message (append_refusal journal message))
 long_same journal message true = refl
 long_same journal message false = refl
@@ -241,7 +240,7 @@ pub filled_fault : (kind : InputKind) (start now : PublisherState) (known left b
     (read : List ℕ) (why : InputFault) → FilledSoFar kind start now known left →
     GivesNext left behind (next.Fault why) read →
     Fills start now (with_kind kind known) (with_kind kind behind)
-    (Refused (record { kind = kind; why = NotRead why }))
+    (Refused (record { kind = kind; why = fault_refusal why now.journal.closed }))
 filled_fault kind start now known left behind read why so_far gives = record {
   limit = so_far.limit;
   sent = so_far.sent;

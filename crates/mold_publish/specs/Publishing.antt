@@ -1,5 +1,5 @@
 -- The messages of an input that are published.
-use Rattle.std.specs.Prelude.{◌≡◌, ℕ, ◌*◌, ◌≤◌, nat_lt, if◌then◌else◌, List, [], ◌∷◌, ◌++◌, codes, decimal, length}
+use Rattle.std.specs.Prelude.{◌≡◌, ℕ, ◌*◌, ◌≤◌, Bool, nat_lt, if◌then◌else◌, List, [], ◌∷◌, ◌++◌, codes, decimal, length}
 use Rattle.std.specs.Prelude.{Option, None, Some, Result, Ok, Err, ⊤}
 use Rattle.hex.specs.Hex.{decode_of}
 use Rattle.hex.specs.declared.error.FromHexError.{FromHexError}
@@ -15,6 +15,7 @@ use Rattle.mold_text.specs.Text.{refused_line}
 use Rattle.mold_session.specs.Journal.{JournalState, append_refusal, appended}
 use Rattle.mold_session.specs.Publisher.{PublisherState, unsent_of, published}
 use Rattle.mold_session.specs.declared.error.AppendError.{AppendError}
+use Rattle.mold_session.specs.declared.error.AppendError.TheVariants.{Closed}
 use Rattle.mold_publish.specs.declared.message_refusal.MessageRefusal.{MessageRefusal}
 use Rattle.mold_publish.specs.declared.refusal_reason.RefusalReason.{RefusalReason}
 use Rattle.mold_publish.specs.declared.refusal_reason.RefusalReason.TheVariants.{NotRead, NotTaken}
@@ -55,9 +56,15 @@ abbrev pub unless_refused : InputKind → List ℕ → Option AppendError → Re
 unless_refused kind message None = Ok message
 unless_refused kind message (Some why) = refused_for kind (NotTaken why)
 
+-- The reason why an entry with this fault is refused. A closed journal refuses a message of any length as `Closed`.
+abbrev pub fault_refusal : InputFault → Bool → RefusalReason
+fault_refusal NotHex closed = NotRead NotHex
+fault_refusal (TooLong len) closed = if closed then NotTaken Closed else NotRead (TooLong len)
+fault_refusal Cut closed = NotRead Cut
+
 -- The message of an entry, or the reason why the entry is refused.
 abbrev pub entry_outcome : InputKind → JournalState → Entry → Result (List ℕ) MessageRefusal
-entry_outcome kind journal (Err why) = refused_for kind (NotRead why)
+entry_outcome kind journal (Err why) = refused_for kind (fault_refusal why journal.closed)
 entry_outcome kind journal (Ok message) = unless_refused kind message (append_refusal journal message)
 
 -- A journal, and the reason why the entry after its messages is refused. There is no reason if no entry remains.
@@ -89,7 +96,8 @@ input_published journal input = entries_published input.kind journal input.entri
 abbrev pub line_outcome : JournalState → Result (List ℕ) FromHexError → Result (List ℕ) MessageRefusal
 line_outcome journal (Err _) = refused_for Lines (NotRead NotHex)
 line_outcome journal (Ok message) =
-    if nat_lt MAX_LINE (2 * length message) then refused_for Lines (NotRead (TooLong (length message)))
+    if nat_lt MAX_LINE (2 * length message)
+    then refused_for Lines (fault_refusal (TooLong (length message)) journal.closed)
     else unless_refused Lines message (append_refusal journal message)
 
 -- The journal after the lines were published in order, up to the first one that is refused, and the reason for that

@@ -1,5 +1,8 @@
 //! The reasons for which an entry of an input is refused.
 
+ghost use Rattle.std.specs.Prelude.{◌≡◌};
+ghost use Rattle.mold_publish.specs.Publishing.{fault_refusal};
+
 use mold_input::InputFault;
 use mold_session::AppendError;
 use thiserror::Error;
@@ -13,4 +16,17 @@ pub enum RefusalReason {
     /// The journal refuses the message.
     #[error("{0}")]
     NotTaken(AppendError),
+}
+
+impl RefusalReason {
+    /// Returns the reason why an entry with this fault is refused. `closed` states whether the journal is closed. A
+    /// closed journal refuses a message of any length as `Closed`.
+    pub fn from_fault(fault: InputFault, closed: bool) -> RefusalReason
+        ensures { result ≡ fault_refusal fault closed }
+    {
+        match fault {
+            InputFault::TooLong { .. } if closed => RefusalReason::NotTaken(AppendError::Closed),
+            _ => RefusalReason::NotRead(fault),
+        }
+    }
 }

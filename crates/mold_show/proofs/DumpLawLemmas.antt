@@ -28,9 +28,9 @@ use Rattle.mold_input.specs.declared.input_kind.InputKind.TheVariants as kind
 use Rattle.mold_input.specs.declared.limits.TheConstants.{MAX_LINE}
 use Rattle.mold_input.specs.declared.message_format.MessageFormat.{MessageFormat}
 use Rattle.mold_input.specs.declared.message_format.MessageFormat.TheVariants.{Lines, Blocks, BlocksToEmpty}
-use Rattle.mold_publish.specs.Publishing.{PublishedInput, line_outcome, lines_published, published_from, refused_for, unless_refused}
+use Rattle.mold_publish.specs.Publishing.{PublishedInput, fault_refusal, line_outcome, lines_published, published_from}
+use Rattle.mold_publish.specs.Publishing.{refused_for, unless_refused}
 use Rattle.mold_publish.specs.declared.message_refusal.MessageRefusal.{MessageRefusal}
-use Rattle.mold_publish.specs.declared.refusal_reason.RefusalReason.TheVariants.{NotRead}
 use Rattle.mold_text.specs.Line.{joined}
 use Rattle.mold_show.specs.Dump.{PrintsAll, dump_text, dumped, end_mark, ends_session, fault_line, fault_of}
 use Rattle.mold_show.specs.Dump.{fault_status, fault_text, has_unprintable, is_empty, last_text, message_line}
@@ -175,7 +175,7 @@ all_published (message ∷ messages) journal opened are within short few =
     let fits : length message ≤ journal.max_message = within.0 in
     let outcome : line_outcome journal (decode_of (encode_lower message)) ≡ Ok message =
     ap (line_outcome journal) (decode_of-encode_lower message are.0)
-    ∙ ap (λ (b : Bool). cond b (refused_for kind.Lines (NotRead (fault.TooLong (length message))))
+    ∙ ap (λ (b : Bool). cond b (refused_for kind.Lines (fault_refusal (fault.TooLong (length message)) journal.closed))
     (unless_refused kind.Lines message (append_refusal journal message)))
     (short_enough MAX_LINE (2 * length message) (omega (arith, short.0)))
     ∙ ap (unless_refused kind.Lines message) (not_refused journal message opened fits (omega (arith, few)))

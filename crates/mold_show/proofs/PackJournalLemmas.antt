@@ -11,10 +11,9 @@ use Rattle.mold_input.specs.declared.next.Next.TheVariants as next
 use Rattle.mold_session.specs.File.{AppendsFile}
 use Rattle.mold_session.specs.Journal.{JournalState, appended}
 use Rattle.mold_publish.specs.Publishing.{InputPublished, entries_published, entry_outcome}
-use Rattle.mold_publish.specs.Publishing.{input_published, published_from}
+use Rattle.mold_publish.specs.Publishing.{fault_refusal, input_published, published_from}
 use Rattle.mold_publish.specs.declared.filling.Filled.TheVariants.{Full}
 use Rattle.mold_publish.specs.declared.message_refusal.MessageRefusal.{MessageRefusal}
-use Rattle.mold_publish.specs.declared.refusal_reason.RefusalReason.TheVariants.{NotRead}
 use Rattle.mold_show.specs.PackJournal.{AppendsEntry, SavesInput}
 use Rattle.mold_show.specs.declared.save_outcome.SaveOutcome.TheVariants.{Saved, Refused}
 
@@ -91,7 +90,7 @@ module _ (kind : InputKind) where
   pub not_appended : (old now : JournalState) (known left behind : Option (List Entry)) (found : List ℕ)
       (why : InputFault) → SoFar old now (with_kind kind known) (with_kind kind left) →
       GivesNext left behind (next.Fault why) found →
-      IsAppended old now (with_kind kind known) (Some (record { kind = kind; why = NotRead why }))
+      IsAppended old now (with_kind kind known) (Some (record { kind = kind; why = fault_refusal why now.closed }))
   not_appended old now None left behind found why so_far gives = tt
   not_appended old now (Some all) None behind found why so_far gives = absurd so_far
   not_appended old now (Some all) (Some xs) None found why so_far gives = absurd gives

@@ -58,7 +58,7 @@ fn append_messages<M: MessageReader, S: Source>(
         match messages.advance(source)? {
             Next::Message => {}
             Next::Fault { why } => {
-                let why = RefusalReason::NotRead(why);
+                let why = RefusalReason::from_fault(why, journal.is_closed());
                 return Ok(Some(MessageRefusal { kind, why }));
             }
             Next::End => return Ok(None),

@@ -18,7 +18,7 @@ loop-message-init g c = record {
 
 pub returns-in-Fault-clause-gathered : goal.returns-in-Fault-clause-gathered
 returns-in-Fault-clause-gathered g c = λ life is.
-    rw c.kind-kind.ensures
+    rw (c.kind-kind.ensures, c.from_fault-why.ensures, c.is_closed.ensures)
     (gathered_fault g.S.Storage.shows g.S.Storage.may_leave g.M.MessageReader.input_kind life c.loop-message._message
     c.args.most c.args.publisher.now c.loop-message.publisher _ _ _ (g.M.MessageReader.found c.advance.new.self)
     c.in-Fault.why (omega (arith, c.loop-message-test.true)) (c.loop-message.invariant.gathered life is)

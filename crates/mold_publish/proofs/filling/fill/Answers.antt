@@ -13,7 +13,7 @@ returns-in-End-clause-filled g c =
 
 pub returns-in-Fault-clause-filled : goal.returns-in-Fault-clause-filled
 returns-in-Fault-clause-filled g c =
-    rw c.kind-kind.ensures
+    rw (c.kind-kind.ensures, c.from_fault-why.ensures, c.is_closed.ensures)
     (filled_fault _ _ _ _ _ _ (g.M.MessageReader.found c.advance.new.self) c.in-Fault.why c.messages.invariant.filled
     (rw c.in-Fault.is at c.in_ok-advance.ensures.next))
 

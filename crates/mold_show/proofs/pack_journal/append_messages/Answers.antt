@@ -24,7 +24,7 @@ returns-in-End-clause-input g c =
 
 pub returns-in-Fault-clause-input : goal.returns-in-Fault-clause-input
 returns-in-Fault-clause-input g c =
-    rw c.kind-kind.ensures
+    rw (c.kind-kind.ensures, c.from_fault-why.ensures, c.is_closed.ensures)
     (not_appended _ _ _ _ _ _ (g.M.MessageReader.found c.advance.new.self) c.in-Fault.why
     c.messages.invariant.appended (rw c.in-Fault.is at c.in_ok-advance.ensures.next))
 
