@@ -2,10 +2,18 @@
  * these three functions itself.
  *
  * An allocation returns two registers: whether it succeeded, and the address. If it fails, the library's call returns
- * MOLD_E_MEMORY, and the process continues. */
-#include <stddef.h>
-#include <stdint.h>
-#include <stdlib.h>
+ * MOLD_E_MEMORY, and the process continues.
+ *
+ * This file includes nothing, because the toolchain's clang has no headers. So it declares what it uses of the C
+ * library. */
+typedef __SIZE_TYPE__ size_t;
+typedef __UINT64_TYPE__ uint64_t;
+
+#define NULL ((void *)0)
+
+void *malloc(size_t size);
+void *realloc(void *old, size_t size);
+void free(void *old);
 
 /* The alignment of malloc's memory on this system. */
 #define ALIGNED 16
