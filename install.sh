@@ -8,8 +8,8 @@
 # mold.hpp, and mold.pc for pkg-config.
 #
 # The program mold is the one that ./mold runs. If it is not built yet, ./mold builds it first, which takes
-# minutes and needs the toolchain. In the same way library/build builds the library, which also needs a C
-# compiler. The installed programs do not need this repository. mold-join needs Python 3.8 or later.
+# minutes and needs the toolchain. In the same way library/build builds the library. The installed programs do
+# not need this repository. mold-join needs Python 3.8 or later.
 #
 # A line is printed for each file that is installed or removed. The file share/doc/mold/installed below DIR
 # lists the installed files. An existing file that is not on that list is never replaced, because a linker

@@ -52,8 +52,7 @@ RT_CI = Part("rt ci")
 # Builds the program with the kept proofs, and runs it on empty input.
 BUILD = Part("rt run -- show", folder=f"crates/{PROGRAM}", is_counted=False)
 # Builds the library from what `rt ci` has built, before the edits, which start with what this proves.
-BUILD_LIBRARY = Part("tests/build-library", ("library/build", "library/alloc.c"), LIBRARY, needs_compiler=True,
-                     is_counted=False)
+BUILD_LIBRARY = Part("tests/build-library", ("library/build", "library/alloc.c"), LIBRARY, is_counted=False)
 EDITS = Part("tests/edits --proved")
 # Parts that do not need the program. They run one after the other.
 WITHOUT_PROGRAM = (
@@ -79,7 +78,7 @@ LANES = (
         over_program("tests/library", "library/*", "docs/LIBRARY.md", "install.sh", "mold-join", "tests/udp-sessions",
                      "tests/model.py", crate=LIBRARY, needs_compiler=True),
         Part("tests/python", ("library/build", "library/alloc.c", "library/mold.h", "library/python/*",
-                              "library/bench/python", "docs/LIBRARY.md"), LIBRARY, needs_compiler=True),
+                              "library/bench/python", "docs/LIBRARY.md"), LIBRARY),
         over_program("tests/documents " + " ".join(DOCUMENTS), *DOCUMENTS, "examples/*", "library/*", "install.sh",
                      "mold-join"),
     ),
@@ -97,8 +96,7 @@ LANES = (
     (
         Part("sh tests/launcher", ("mold", "tests/checks.sh")),
         over_program("tests/manual", "docs/*.1", "mold-join", "completions/*"),
-        over_program("tests/dist", "dist", "dist.py", "install.sh", "mold-join", "library/*", crate=LIBRARY,
-                     needs_compiler=True),
+        over_program("tests/dist", "dist", "dist.py", "install.sh", "mold-join", "library/*", crate=LIBRARY),
         over_program("tests/install", "install.sh", "mold", "mold-join", "docs/*.1", "completions/*", "LICENSE*",
                      "library/*", "tests/checks.sh"),
         # Longer conditions of the network are not part of the gate.
