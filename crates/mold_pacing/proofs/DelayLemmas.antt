@@ -1,10 +1,10 @@
 -- The greatest of the last delays.
 use Rattle.std.proofs.Common.{◌≡◌, ℕ, zero, suc, ◌<◌, ◌≤◌, List, [], ◌∷◌, Some, arith, inl, inr, length, max, set, slice_get}
-use Rattle.std.proofs.Common.{◌||◌, ◌∙◌, Bool, cond, ◌*◌, ◌/◌, ap, min, nat_lt, refl, sym}
+use Rattle.std.proofs.Common.{◌||◌, ◌∙◌, Bool, cond, ◌*◌, ◌/◌, ap, min, nat_lt, refl, replicate, sym}
 use Rattle.std.proofs.lemmas.Bool.{cases_lt}
 use Rattle.std.proofs.lemmas.Bool.Decides.{nat_tests}
 use Rattle.std.specs.List.{list_any}
-use Rattle.mold_pacing.specs.Delays.{greatest_of, greatest_stamp, is_delay, patience_for}
+use Rattle.mold_pacing.specs.Delays.{greatest_of, greatest_stamp, is_delay, no_delay, patience_for}
 use Rattle.mold_pacing.specs.declared.delay.Delay.{Delay}
 use Rattle.mold_pacing.specs.declared.delays.TheConstants.{FIRST_PATIENCE, GREATEST_PATIENCE, LEAST_PATIENCE}
 
@@ -87,3 +87,17 @@ greatest_kept (d ∷ ds) (suc index) delay left there below less =
       ]
       | inr over ↦ omega (arith, over, below, less, set_most ds index delay)
     ]
+
+-- The greatest stamp of a list that repeats `no_delay` is 0.
+-- For the prover: the count is a variable, so that the list of 1,024 records is not unfolded.
+none_greatest : (count : ℕ) → greatest_stamp (replicate count no_delay) ≡ 0
+none_greatest zero = refl
+none_greatest (suc count) = omega (arith, none_greatest count)
+
+pub repeated_greatest : (count : ℕ) (delays : List Delay) → delays ≡ replicate count no_delay →
+    greatest_stamp delays ≡ 0
+repeated_greatest count delays is = ap greatest_stamp is ∙ none_greatest count
+
+pub repeated_patience : (count : ℕ) (delays : List Delay) → delays ≡ replicate count no_delay →
+    patience_for delays ≡ FIRST_PATIENCE
+repeated_patience count delays is = patience_none delays (repeated_greatest count delays is)
