@@ -1,6 +1,6 @@
 -- A request enters the table, and another one leaves it.
 use Rattle.std.proofs.Common.{◌≡◌, ℕ, zero, suc, ◌+◌, ◌<◌, ◌≤◌, Bool, true, false, List, [], ◌∷◌, ◌++◌, Option, Some, None}
-use Rattle.std.proofs.Common.{arith, nat_le, refl, ap, ◌∙◌, sym, slice_get, length, take, drop, cond, inl, inr}
+use Rattle.std.proofs.Common.{arith, nat_le, refl, ap, ◌∙◌, sym, slice_get, length, take, drop, cond, inl, inr, set}
 use Rattle.std.proofs.lemmas.Bool.{cases_lt}
 use Rattle.std.proofs.lemmas.Bool.Decides.{nat_tests}
 use Rattle.std.proofs.lemmas.List.Edits.{length-remove}
@@ -65,6 +65,23 @@ placed_is sent (f ∷ fs) (suc index) within below next =
     ap (λ (b : Bool). cond b (sent ∷ f ∷ fs) (f ∷ placed sent fs)) test
     ∙ ap (λ (t : List Flight). f ∷ t) (placed_is sent fs index (omega (arith, within))
     (λ i g before other. below (suc i) g (omega (arith, before)) other) next)
+
+-- If the requests stay in order, a request that replaces another one has its index.
+pub replaced_is : (sent : Flight) (fs : List Flight) (index : ℕ) → index < length fs → AreBelow fs index sent.first →
+    ((f : Flight) → slice_get fs (index + 1) ≡ Some f → sent.first ≤ f.first) →
+    placed sent (remove fs index) ≡ set fs index sent
+replaced_is sent [] index within below next = absurd (omega (arith, within))
+replaced_is sent (f ∷ []) zero within below next = refl
+replaced_is sent (f ∷ g ∷ fs) zero within below next =
+    let test : nat_le sent.first g.first ≡ true = grind (arith, nat_tests, next g refl) in
+    ap (λ (b : Bool). cond b (sent ∷ g ∷ fs) (g ∷ placed sent fs)) test
+replaced_is sent (f ∷ fs) (suc index) within below next =
+    let test : nat_le sent.first f.first ≡ false = grind (arith, nat_tests, below 0 f (omega arith) refl) in
+    let after : suc index + 1 ≡ suc (index + 1) = omega arith in
+    ap (λ (b : Bool). cond b (sent ∷ f ∷ remove fs index) (f ∷ placed sent (remove fs index))) test
+    ∙ ap (λ (t : List Flight). f ∷ t) (replaced_is sent fs index (omega (arith, within))
+    (λ i g before other. below (suc i) g (omega (arith, before)) other)
+    (λ g there. next g (ap (slice_get (f ∷ fs)) after ∙ there)))
 
 pub placed_ascending : (low : ℕ) (sent : Flight) (fs : List Flight) → is_ascending low fs ≡ true → low ≤ sent.first →
     is_ascending low (placed sent fs) ≡ true

@@ -1,14 +1,14 @@
 //! The places of the table: which request leaves it, and where a new one enters.
 
 ghost use Rattle.std.specs.Prelude.{◌≡◌, ◌<◌, ◌≤◌, true, false, find, IfNone, IfSome, None};
-ghost use Rattle.std.specs.Prelude.{vec_capacity, vec_len};
+ghost use Rattle.std.specs.Prelude.{◌+◌, Some, length, slice_get, vec_capacity, vec_len};
 ghost use Rattle.std.specs.List.{list_all, list_any};
 ghost use Rattle.mold_pacing.specs.Flight.{ends_below, is_ascending, is_over, is_stale, waits_until};
-ghost use Rattle.mold_pacing.specs.Table.{IsFound, IsOverAt, IsPlace, has_room, placed, without};
+ghost use Rattle.mold_pacing.specs.Table.{AreBelow, IsFound, IsOverAt, IsPlace, has_room, placed, without};
 
 use crate::bounds::Bounds;
 use crate::flight::Flight;
-use crate::table::count_below;
+use crate::table::{begin_at, count_below};
 
 /// The place for a new request: the index of the request that leaves the table, if one has to, and the last request for
 /// the same number.
@@ -121,7 +121,21 @@ fn put(flights: &mut Vec<Flight>, sent: Flight)
     let _ = flights.insert(index, sent);
 }
 
-/// Removes the request that leaves, if one does, and inserts the new one.
+// Returns whether the requests stay in order if one that begins with this number replaces the one at this index.
+fn stays_in_order(flights: &[Flight], index: usize, first: u64) -> bool
+    requires there { index < length flights.now }
+    requires sorted { is_ascending 0 flights.now ≡ true }
+    ensures below { result ≡ true → AreBelow flights.now index first }
+    ensures next { result ≡ true → (f : Flight) → slice_get flights.now (index + 1) ≡ Some f → first ≤ f.first }
+{
+    if index > 0 && flights[index - 1].first >= first {
+        return false;
+    }
+    first <= begin_at(flights, index + 1)
+}
+
+/// Removes the request that leaves, if one does, and inserts the new one. If the new one has the same index, no other
+/// request moves.
 pub(crate) fn replace(flights: &mut Vec<Flight>, leaves: Option<usize>, sent: Flight)
     requires there { IfSome leaves (λ index. index < vec_len flights.old) }
     requires room { leaves ≡ None → vec_len flights.old < vec_capacity flights.old }
@@ -130,6 +144,10 @@ pub(crate) fn replace(flights: &mut Vec<Flight>, leaves: Option<usize>, sent: Fl
     ensures capacity { vec_capacity flights.new ≡ vec_capacity flights.old }
 {
     if let Some(index) = leaves {
+        if stays_in_order(flights, index, sent.first) {
+            flights[index] = sent;
+            return;
+        }
         let _ = flights.remove(index);
         put(flights, sent);
         return;

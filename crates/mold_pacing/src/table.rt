@@ -67,9 +67,9 @@ pub(crate) fn pass_flights(flights: &[Flight], now: u64, from: Cursor) -> Passed
     }
 }
 
-// Returns the first number of the request at this index, or `u64::MAX` if there is none.
+/// Returns the first number of the request at this index, or `u64::MAX` if there is none.
 #[inline(always)]
-fn begin_at(flights: &[Flight], index: usize) -> u64
+pub(crate) fn begin_at(flights: &[Flight], index: usize) -> u64
     requires sorted { is_ascending 0 flights.now ≡ true }
     ensures low { (i : ℕ) (f : Flight) → index ≤ i → slice_get flights.now i ≡ Some f → result ≤ f.first }
     ensures above { (number : ℕ) → BeginAbove flights.now index number →
