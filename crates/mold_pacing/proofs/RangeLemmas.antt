@@ -11,7 +11,7 @@ use Rattle.mold_pacing.proofs.EndLemmas.{all_both, all_first, all_map, all_rest,
 use Rattle.mold_pacing.proofs.TableLemmas.{any_none, ascending_at}
 use Rattle.mold_pacing.specs.Deadline.{can_send}
 use Rattle.mold_pacing.specs.declared.pacer.Pacer.{Pacer}
-use Rattle.mold_pacing.specs.Flight.{ArePassed, are_apart, ends_below, flies_from, is_ascending, is_over, is_stale, waits_until}
+use Rattle.mold_pacing.specs.Flight.{ArePassed, are_apart, covers, ends_below, flies_from, is_ascending, is_over, is_stale, waits_until}
 use Rattle.mold_pacing.specs.Table.{AreBelow}
 use Rattle.mold_pacing.specs.Most.{ends_request}
 use Rattle.mold_pacing.specs.Responses.{after_arrival, after_response, has_come, is_response_to}
@@ -148,6 +148,10 @@ not_stale_before now number time f before waits = grind (arith, nat_tests, befor
 pub not_stale_past : (now number end : ℕ) (f : Flight) → end ≤ number → ends_below end f ≡ true →
     is_stale now number f ≡ false
 not_stale_past now number end f past ends = grind (arith, nat_tests, past, ends)
+
+pub not_covers_end : (now number end : ℕ) (f : Flight) → end ≤ number → ends_below end f ≡ true →
+    covers now number f ≡ false
+not_covers_end now number end f past ends = grind (arith, nat_tests, past, ends)
 
 pub all_waiting : (time : ℕ) (fs : List Flight) →
     ((i : ℕ) (f : Flight) → slice_get fs i ≡ Some f → time ≤ f.until) → list_all (waits_until time) fs ≡ true

@@ -231,7 +231,7 @@ impl Pacer {
         ensures bound { result ≤ self.now.state.now + max self.now.options.ceiling self.now.options.interval }
     {
         let opens = self.state.opens.saturating_sub(self.options.tolerance);
-        let free = free_from(&self.flights, number);
+        let free = self.free_from(number);
         self.state.now.max(opens).max(free).max(self.room_from())
     }
 
@@ -366,6 +366,17 @@ impl Pacer {
             Some(flight) => flight.attempts,
             None => 0,
         }
+    }
+
+    // Returns the time from which on the number is not in flight.
+    fn free_from(&self, number: u64) -> u64
+        ensures free { (time : ℕ) → result ≤ time → in_flight time number self.now.flights.items ≡ false }
+        ensures least { (time : ℕ) → time < result → in_flight time number self.now.flights.items ≡ true }
+    {
+        if self.bounds.end <= number {
+            return 0;
+        }
+        free_from(&self.flights, number)
     }
 
     // Returns the time from which on the table has room.

@@ -1,6 +1,5 @@
-use Rattle.std.proofs.Common.{◌+◌, ◌≤◌, ◌∙◌, ap, arith, inl, inr, sym}
+use Rattle.std.proofs.Common.{◌+◌, ◌≤◌, ◌∙◌, arith, inl, inr, sym}
 use Rattle.std.proofs.lemmas.Bool.{cases_lt}
-use Rattle.mold_pacing.specs.Flight.{in_flight}
 use Rattle.mold_pacing.proofs.EndLemmas.{none_in_flight, room_when_over, true_is_false}
 use Rattle.mold_pacing.proofs.pacer.Pacer.deadline.Goals as goal
 
@@ -14,7 +13,7 @@ returns-clause-bound c =
     elim (cases_lt last c.free_from-free.result) [
       | inl before ↦
           absurd (true_is_false (sym (c.free_from-free.ensures.least last before)
-          ∙ ap (in_flight last number) c.deref.ensures.value ∙ none_in_flight last number fs old.ends))
+          ∙ none_in_flight last number fs old.ends))
       | inr past ↦ past
     ] in
     let room : c.room_from.result ≤ last =
