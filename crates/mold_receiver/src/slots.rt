@@ -96,6 +96,9 @@ impl Slots {
     }
 
     /// Returns how many of the packet's messages have an empty slot, or none. `first` is the slot of the first message.
+    // For the optimizer: see `Receiver::drop_messages`.
+    #[cold]
+    #[inline(never)]
     pub(crate) fn count_absent(&self, first: u64, blocks: &Blocks<'_>) -> u32
         requires numbered { first + length blocks.now < 2 ^ 64 }
         requires few { length blocks.now < END_OF_SESSION }
