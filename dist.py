@@ -8,8 +8,9 @@ and completions, the library as an archive and as a shared library, its headers 
 Python, the examples, the documents and the licences. SHA256SUMS has the checksum of each file. PROVED has the version
 of the prover, and the crates of which it has proved every function. The version of a release is that of the library.
 
-The programs are those that ./mold and library/build build. If they are out of date, that takes minutes and needs the
-toolchain. The same files make the same release, byte for byte. The script prints the path, the size and the checksum of
+The program is the one that ./mold runs, and the library the one that library/build provides. If they were not built from
+the present sources, they are proved and built first, which may take an hour and needs the toolchain. The same files make
+the same release, byte for byte. The script prints the path, the size and the checksum of
 the release.
 
 The check hides this repository and the folder of the toolchain, if the system lets it mount an empty folder over each
@@ -107,11 +108,18 @@ def crates():
     return sorted(found)
 
 
+def prover():
+    """The version of the prover: that of the prebuilt files, if they were built from the present sources."""
+    if subprocess.run(["sh", f"{TOP}/prebuilt/find", "mold"], stdout=subprocess.DEVNULL).returncode == 0:
+        return re.search("^prover: (.*)$", read(f"{TOP}/prebuilt/linux-x86_64/PROVED"), re.M)[1]
+    return run("rt", "version").strip()
+
+
 def proved():
     """The text of the file PROVED."""
     commit = run("git", "-C", TOP, "rev-parse", "HEAD").strip()
     head = (f"The program and the library consist of the crates below. The prover has proved every function of them.\n"
-            f"prover: {run('rt', 'version').strip()}\ncommit: {commit}\n")
+            f"prover: {prover()}\ncommit: {commit}\n")
     return head + "".join(f"crate: {name}\n" for name in crates())
 
 

@@ -7,9 +7,10 @@
 # With --library it also installs the library for programs in C, C++ and Rust: libmold.a, libmold.so, mold.h,
 # mold.hpp, and mold.pc for pkg-config.
 #
-# The program mold is the one that ./mold runs. If it is not built yet, ./mold builds it first, which takes
-# minutes and needs the toolchain. In the same way library/build builds the library. The installed programs do
-# not need this repository. mold-join needs Python 3.8 or later.
+# The program mold is the one that ./mold runs, and the library the one that library/build provides: the prebuilt
+# ones, if they were built from the present sources. Otherwise both scripts prove and build first, which may take
+# an hour and needs the toolchain. The installed programs do not need this repository. mold-join needs Python 3.8
+# or later.
 #
 # A line is printed for each file that is installed or removed. The file share/doc/mold/installed below DIR
 # lists the installed files. An existing file that is not on that list is never replaced, because a linker
@@ -33,8 +34,8 @@ print_usage() {
 # Prints for each file its mode, its path in the repository, and its path below the prefix. A symbolic link has the mode
 # `link`, and its target in place of the path in the repository.
 files() {
-    cat <<'END'
-755 out/mold bin/mold
+    cat <<END
+755 $program bin/mold
 755 mold-join bin/mold-join
 644 docs/mold.1 share/man/man1/mold.1
 644 docs/mold-join.1 share/man/man1/mold-join.1
@@ -121,6 +122,8 @@ install_files() {
 
 install_all() {
     "$top/mold" --version >/dev/null || fail 'the program could not be built'
+    # Without it the launcher could not write to out/, and runs the prebuilt program.
+    [ -x "$top/$program" ] || program=prebuilt/linux-x86_64/mold
     version=$(sed -n 's/^#define MOLD_LIBRARY_VERSION_TEXT "\(.*\)"$/\1/p' "$top/library/mold.h")
     [ "$library" = no ] || sh "$top/library/build" >/dev/null || fail 'the library could not be built'
     mkdir -p -- "$prefix" || fail "the folder $prefix could not be made"
@@ -148,6 +151,7 @@ remove_all() {
     return 0
 }
 
+program=out/mold
 prefix=/usr/local
 task=install_all
 library=no

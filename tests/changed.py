@@ -14,6 +14,8 @@ import parts
 
 # The folders of a crate that contain its edits.
 WRONG, MUST_FAIL = "wrong/", "must-fail/"
+# What builds each root crate, if it is affected.
+ROOTS = ((parts.BUILD, parts.PROGRAM), (parts.BUILD_DRIVER, parts.DRIVER), (parts.BUILD_LIBRARY, parts.LIBRARY))
 
 
 def git(*arguments):
@@ -99,7 +101,7 @@ def edits(with_must_fail, with_wrong):
 
 def narrowed(part, names):
     """The part, limited to the tests of affected crates, since the test programs of the others may not be built."""
-    if part.script() != "tests/out-of-memory":
+    if not part.command.startswith("tests/out-of-memory --only tests"):
         return part
     tests = ",".join(name for name in names if name.startswith("test_")) or "none"
     return dataclasses.replace(part, command=f"{part.command} --test-crates {tests}")
@@ -148,10 +150,10 @@ def plan(crates, paths, lines):
 
     return Plan(
         list(proofs(names, in_order(crates, {*with_wrong, *with_must_fail}))),
-        [parts.BUILD] if parts.PROGRAM in names else [],
+        [it for it, root in ROOTS if root in names],
         list(edits(with_must_fail, with_wrong)),
-        needed(parts.WITHOUT_PROGRAM),
-        [lane for lane in map(needed, parts.LANES) if lane],
+        needed((parts.CHECKSUMS, *parts.WITHOUT_PROGRAM)),
+        [lane for lane in map(needed, (*parts.LANES, parts.AFTER_PROOFS)) if lane],
         [path for path in paths if is_unread(crates, path)],
     )
 

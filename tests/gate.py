@@ -1,10 +1,18 @@
 """Runs the gate, or the part of it that the changes since a commit affect. tests/run calls this script.
 
-    sh tests/run [--since COMMIT [--plan]]
+    sh tests/run [--no-proofs | --complete]
+    sh tests/run --since COMMIT [--plan]
 
-Without options everything runs: `rt ci`, the edits, and the parts in tests/parts.py. With --since only those parts run
-that the changes since COMMIT affect, with kept proofs. tests/changed.py makes that plan, which does not replace the
-gate. --plan prints the plan and runs nothing. The last line is 'N passed, M failed' over all parts, and the status is 0
+Without options everything runs. First the checksums of the prebuilt files are compared; if one is wrong, nothing more
+runs. Then the parts in tests/parts.py run over the prebuilt files. Then `rt ci` proves everything, what it builds is
+compared with the prebuilt files, and the edits are tried. Without the toolchain, or with --no-proofs, the parts that
+need it are skipped. With --complete a missing toolchain is a failure, and so is another one than that of the prebuilt
+files.
+
+With --since only those parts run that the changes since COMMIT affect, over what is built with kept proofs.
+tests/changed.py makes that plan, which does not replace the gate. --plan prints the plan and runs nothing.
+
+The last line is 'N passed, M failed' over all parts, followed by ', K skipped' if K parts were skipped. The status is 0
 if nothing failed.
 """
 import argparse
@@ -20,9 +28,10 @@ from concurrent.futures import ThreadPoolExecutor
 
 import changed
 import parts
+import prebuilt_files
 
 COUNTS = re.compile(r"(\d+) passed, (\d+) failed")
-# The program that `rt` builds, and the one that the launcher `mold` runs.
+# The program that `rt` builds, and the one that the launcher runs. With --since the first is copied to the second.
 BUILT = os.path.join(parts.TOP, "crates", parts.PROGRAM, "out", parts.PROGRAM)
 PROGRAM = os.path.join(parts.TOP, "out", "mold")
 
@@ -42,7 +51,7 @@ class Gate:
     """Runs parts and adds up their counts."""
 
     def __init__(self):
-        self.passed = self.failed = 0
+        self.passed = self.failed = self.skipped = 0
         self.lock = threading.Lock()
         # The time at which the run began, by the clock of the file system, for comparison with the times of files.
         with tempfile.NamedTemporaryFile() as mark:
@@ -85,10 +94,14 @@ class Gate:
 
     def run_lane(self, lane):
         for part in lane:
-            if part.is_possible():
-                self.run(part, is_parallel=True)
+            if part.why_skipped():
+                self.skip(part, part.why_skipped())
             else:
-                self.say(f"skipped: {part.described()}, because there is no C compiler")
+                self.run(part, is_parallel=True)
+
+    def skip(self, part, why):
+        self.skipped += 1
+        self.say(f"skipped: {part.described()}, because {why}")
 
     def fail(self, why):
         with self.lock:
@@ -112,7 +125,9 @@ class Gate:
         Does nothing if a source was edited meanwhile. The copy gets the time at which this run began."""
         if not self.is_edited():
             os.makedirs(os.path.dirname(PROGRAM), exist_ok=True)
-            shutil.copy(BUILT, f"{PROGRAM}.new")
+            with open(f"{PROGRAM}.new", "wb") as file:
+                file.write(prebuilt_files.stripped(prebuilt_files.read(BUILT)))
+            os.chmod(f"{PROGRAM}.new", 0o755)
             os.utime(f"{PROGRAM}.new", ns=(self.began, self.began))
             os.replace(f"{PROGRAM}.new", PROGRAM)
 
@@ -124,21 +139,45 @@ class Gate:
         self.fail("the program could not be built")
         return False
 
-    def run_gate(self):
-        self.run(parts.RT_CI)
-        if os.path.exists(BUILT) and os.stat(BUILT).st_mtime_ns > self.began:
-            self.keep_program()
-        self.run_lanes([[parts.BUILD_LIBRARY], parts.WITHOUT_PROGRAM])
-        self.run(parts.EDITS)
-        if self.has_program():
+    def run_gate(self, order):
+        if not self.run(parts.CHECKSUMS):
+            self.say("The rest does not run, because the prebuilt files are not those of the sources.")
+            return
+        if self.has_program() and self.run(parts.LIBRARIES):
+            self.run_lanes([parts.WITHOUT_PROGRAM])
             self.run_lanes(parts.LANES)
+        if order.no_proofs or not shutil.which("rt"):
+            self.skip_proofs(order)
+        else:
+            self.run_proofs(order)
+
+    def run_proofs(self, order):
+        """Proves everything, compares the prebuilt files with what is built, and tries the edits."""
+        is_proved, why = self.run(parts.RT_CI), prebuilt_files.why_not_comparable()
+        if why:
+            self.skip(parts.COMPARE, f"nothing can be compared: {why}")
+            if order.complete:
+                self.fail(f"not compared: {why}")
+        if self.run(parts.BUILD_AGAIN) and is_proved and not why:
+            self.run(parts.COMPARE)
+        self.run_lanes([parts.AFTER_PROOFS])
+        self.run(parts.EDITS)
+
+    def skip_proofs(self, order):
+        """Skips the parts that need the toolchain."""
+        why = "--no-proofs was given" if order.no_proofs else "the toolchain's rt is not on the PATH"
+        for part in (parts.RT_CI, parts.BUILD_AGAIN, parts.COMPARE, *parts.AFTER_PROOFS, parts.EDITS):
+            self.skip(part, why)
+        if order.complete:
+            self.fail(f"nothing was proved or compared, because {why}")
+        self.say(f"Nothing was proved, because {why}: the other parts ran over the prebuilt files.")
 
     def run_plan(self, plan):
         """Runs a plan of tests/changed.py. If a proof or a test fails, the rest is skipped."""
         if not all(self.run(part) for part in (*plan.proofs, *plan.build)):
             self.say("skipped: the rest of the plan, because a proof or a test failed")
             return
-        if plan.build:
+        if parts.BUILD in plan.build:
             self.keep_program()
         self.run_all([*plan.edits, *plan.without_program])
         if not plan.runs_program() or self.has_program():
@@ -148,7 +187,10 @@ class Gate:
 def main():
     parser = argparse.ArgumentParser(prog="sh tests/run", description=__doc__,
                                      formatter_class=argparse.RawDescriptionHelpFormatter)
-    parser.add_argument("--since", metavar="COMMIT")
+    what = parser.add_mutually_exclusive_group()
+    what.add_argument("--since", metavar="COMMIT")
+    what.add_argument("--no-proofs", action="store_true")
+    what.add_argument("--complete", action="store_true")
     parser.add_argument("--plan", action="store_true")
     order = parser.parse_args()
     if order.plan and not order.since:
@@ -163,13 +205,13 @@ def main():
             return 0
         gate.run_plan(plan)
     else:
-        gate.run_gate()
+        gate.run_gate(order)
     used = os.times()
     print(f"total: {time.monotonic() - began:.0f} s, "
           f"{used.children_user + used.children_system:.0f} processor seconds")
     if order.since:
         print("This is not the whole gate. Run `sh tests/run` for that.")
-    print(f"{gate.passed} passed, {gate.failed} failed")
+    print(f"{gate.passed} passed, {gate.failed} failed{f', {gate.skipped} skipped' if gate.skipped else ''}")
     return 0 if gate.failed == 0 else 1
 
 

@@ -1,4 +1,4 @@
-"""The crates of a repository, their built libraries, and commands of `rattle` over these; for tests/edits and
+"""The crates of a repository, their built libraries, and commands of `rattle` over these; for prove.py, tests/edits and
 tests/build-library.
 
 `rt ci` leaves the built libraries of the crates in their folders out/rlib. `rt` itself does not use them again, and
@@ -39,15 +39,24 @@ def is_built(top, crates, crate):
     return os.path.isdir(built) and max(map(os.path.getmtime, files)) < os.path.getmtime(built)
 
 
-def rattle(verb, top, crates, crate, jobs):
-    """The words of a command of `rattle` that proves a crate, in the crate's folder or a copy of it. It reads the built
-    libraries of the repository, and keeps what it proves in out/incremental for later commands."""
+def words(verb, top, crates, crate, library_of):
+    """The words of a command of `rattle` that proves a crate, in the crate's folder or a copy of it. `library_of` returns
+    the path of the built library of a crate."""
     root = "src/main.rt" if os.path.isfile(f"{top}/crates/{crate}/src/main.rt") else "src/lib.rt"
-    words = [f"{KIT}/bin/rattle", verb, "--crate-name", crate, root, "--links", f"{crate}=", "--jobs", str(jobs)]
+    found = [f"{KIT}/bin/rattle", verb, "--crate-name", crate, root, "--links", f"{crate}="]
     for name in ["std", *crates[crate]]:
-        built = f"{top}/crates/{name}/out/rlib" if name in crates else f"{KIT}/rlibs"
-        words += ["--extern", f"{name}={built}/{name}.rlib"]
-    for name in below(crates, crate):
-        words += ["-L", f"dependency={top}/crates/{name}/out/rlib"]
-    words += ["-L", f"dependency={KIT}/rlibs", "--antt-project", f"{KIT}/rattle/logic/antt-project.json"]
-    return [*words, "--logic-built", f"{KIT}/logic_built", "--incremental", "out/incremental"]
+        built = library_of(name) if name in crates else f"{KIT}/rlibs/{name}.rlib"
+        found += ["--extern", f"{name}={built}"]
+    for folder in dict.fromkeys(os.path.dirname(library_of(name)) for name in below(crates, crate)):
+        found += ["-L", f"dependency={folder}"]
+    found += ["-L", f"dependency={KIT}/rlibs", "--antt-project", f"{KIT}/rattle/logic/antt-project.json"]
+    return [*found, "--logic-built", f"{KIT}/logic_built"]
+
+
+def rattle(verb, top, crates, crate, jobs):
+    """The words of such a command over the libraries that `rt ci` has built. It keeps what it proves in out/incremental
+    for later commands."""
+    def library_of(name):
+        return f"{top}/crates/{name}/out/rlib/{name}.rlib"
+
+    return [*words(verb, top, crates, crate, library_of), "--jobs", str(jobs), "--incremental", "out/incremental"]

@@ -1,10 +1,10 @@
 """The list of the parts of the gate, for tests/gate.py and tests/changed.py."""
+import dataclasses
 import fnmatch
 import os
 import re
 import shlex
 import shutil
-from dataclasses import dataclass
 
 TOP = os.path.dirname(os.path.dirname(os.path.realpath(__file__)))
 # The documents whose command lines tests/documents runs.
@@ -14,7 +14,7 @@ PROGRAM, LIBRARY, DRIVER = "mold_cmd", "mold_ffi", "drive_tests"
 COMPILERS = ("cc", "gcc", "clang")
 
 
-@dataclass(frozen=True)
+@dataclasses.dataclass(frozen=True)
 class Part:
     """A command of the gate, which runs at the top of the repository or in one of its folders."""
 
@@ -26,6 +26,8 @@ class Part:
     # Whether it runs the program out/mold, which has to be built first.
     runs_program: bool = False
     needs_compiler: bool = False
+    # Whether it needs the toolchain's `rt`.
+    needs_rt: bool = False
     folder: str = "."
     # Whether its last line is 'N passed, M failed'. Otherwise the part counts as one check, by its status.
     is_counted: bool = True
@@ -40,30 +42,49 @@ class Part:
         """The script in tests/ that it runs, if any."""
         return next((it for it in self.arguments() if it.startswith("tests/")), "")
 
-    def is_possible(self):
-        return not self.needs_compiler or any(map(shutil.which, COMPILERS))
+    def why_skipped(self):
+        """What is missing for the part, or None."""
+        if self.needs_compiler and not any(map(shutil.which, COMPILERS)):
+            return "there is no C compiler"
+        return None
 
 
-def over_program(command, *reads, crate=PROGRAM, needs_compiler=False):
-    return Part(command, reads, crate, True, needs_compiler)
+def over_program(command, *reads, crate=PROGRAM, **needs):
+    return Part(command, reads, crate, True, **needs)
 
 
-RT_CI = Part("rt ci")
-# Builds the program with the kept proofs, and runs it on empty input.
+# Compares the checksums of the prebuilt files, before anything else.
+CHECKSUMS = Part("tests/prebuilt --checksums", ("prebuilt/*",))
+# Copies the prebuilt libraries.
+LIBRARIES = Part("sh library/build", is_counted=False)
+RT_CI = Part("rt ci", needs_rt=True)
+# Build a program with the kept proofs, and run it on empty input.
 BUILD = Part("rt run -- show", folder=f"crates/{PROGRAM}", is_counted=False)
-# Builds the library from what `rt ci` has built, before the edits, which start with what this proves.
-BUILD_LIBRARY = Part("tests/build-library", ("library/build", "library/alloc.c"), LIBRARY, is_counted=False)
-EDITS = Part("tests/edits --proved")
+BUILD_DRIVER = Part("rt run", folder=f"crates/{DRIVER}", is_counted=False)
+# Builds the library over what `rt ci` has built, before the edits, which start with what this proves.
+BUILD_LIBRARY = Part("tests/build-library", ("library/build", "library/alloc.c"), LIBRARY, needs_rt=True,
+                     is_counted=False)
+# The same in another folder than the one that has the prebuilt libraries.
+BUILT = "out/built"
+BUILD_AGAIN = dataclasses.replace(BUILD_LIBRARY, command=f"{BUILD_LIBRARY.command} {BUILT}")
+COMPARE = Part(f"tests/prebuilt {BUILT}", needs_rt=True)
+EDITS = Part("tests/edits --proved", needs_rt=True)
+# Parts that need what `rt ci` has built, or `rt` itself.
+AFTER_PROOFS = (
+    Part("tests/edits-test", ("tests/edits", "tests/edit_files.py", "tests/libraries.py"), needs_rt=True),
+    over_program("tests/out-of-memory --only tests", "tests/inject_faults.c", needs_rt=True),
+    over_program("tests/program-checks try", "try", "tests/checks.sh", needs_rt=True),
+)
 # Parts that do not need the program. They run one after the other.
 WITHOUT_PROGRAM = (
     Part("tests/changed-test", ("tests/run",)),
+    Part("tests/prove-test", ("prove", "prove.py", "prebuilt/find", "tests/libraries.py")),
     Part("tests/links", ("*.md",)),
     Part("tests/prose", ("*.md", "docs/*.1", "library/mold.h*", "library/rust/src/*", "crates/*/specs/*",
                          "tests/prose-allowed")),
     Part("tests/contracts --check", ("docs/CONTRACTS.md", "crates.txt", "crates/*/src/*", "crates/*/specs/*",
                                      "crates/*/wrong/*", "crates/*/must-fail/*")),
     Part("tests/join", ("mold-join", "crates/mold_words/src/command.rt")),
-    Part("tests/edits-test", ("tests/edits", "tests/edit_files.py", "tests/libraries.py")),
     # Longer runs with other seeds are not part of the gate.
     Part("tests/repair-network gate 200", (), DRIVER),
     # Kills at random moments, a thousand of them, are not part of the gate.
@@ -73,7 +94,7 @@ WITHOUT_PROGRAM = (
 # wait. In the second lane, and in tests/repair, each process has a separate loopback address.
 LANES = (
     (
-        over_program("tests/program-checks", "try", "mold", "examples/*", "tests/checks.sh", "tests/table*",
+        over_program("tests/program-checks", "mold", "examples/*", "tests/checks.sh", "tests/table*",
                      "tests/udp-sessions", "tests/model.py"),
         over_program("tests/library", "library/*", "docs/LIBRARY.md", "install.sh", "mold-join", "tests/udp-sessions",
                      "tests/model.py", crate=LIBRARY, needs_compiler=True),
@@ -84,7 +105,7 @@ LANES = (
     ),
     (
         over_program("tests/command-cases", "tests/cases*"),
-        over_program("tests/out-of-memory", "examples/*", "tests/inject_faults.c"),
+        over_program("tests/out-of-memory --only calls", "examples/*", "tests/inject_faults.c", needs_compiler=True),
         over_program("tests/io-errors", "examples/*", "tests/inject_faults.c", needs_compiler=True),
         over_program("tests/descriptors", "examples/*"),
         over_program("tests/mutations", "examples/packets.*", "tests/table*"),
@@ -94,7 +115,7 @@ LANES = (
         over_program("tests/captures"),
     ),
     (
-        Part("sh tests/launcher", ("mold", "tests/checks.sh")),
+        Part("sh tests/launcher", ("mold", "prebuilt/find", "tests/checks.sh")),
         over_program("tests/manual", "docs/*.1", "mold-join", "completions/*"),
         over_program("tests/dist", "dist", "dist.py", "install.sh", "mold-join", "library/*", crate=LIBRARY),
         over_program("tests/install", "install.sh", "mold", "mold-join", "docs/*.1", "completions/*", "LICENSE*",
@@ -113,7 +134,8 @@ LANES = (
 
 def parts():
     """All parts except the proofs and the edits, in their order."""
-    return [BUILD_LIBRARY, *WITHOUT_PROGRAM, *(part for lane in LANES for part in lane)]
+    over_prebuilt = [CHECKSUMS, *WITHOUT_PROGRAM, *(part for lane in LANES for part in lane)]
+    return [*over_prebuilt, BUILD_LIBRARY, COMPARE, *AFTER_PROOFS]
 
 
 def files_read(script):

@@ -13,11 +13,24 @@ fn folders_beside() -> [PathBuf; 2] {
     ["out", "lib"].map(|name| folder.with_file_name(name))
 }
 
+/// The path that a command prints, if it succeeds.
+fn printed_path(command: &mut Command) -> Option<PathBuf> {
+    let done = command.output().ok()?;
+    let path = String::from_utf8(done.stdout).ok()?;
+    (done.status.success() && !path.trim().is_empty()).then(|| PathBuf::from(path.trim()))
+}
+
+/// The folder of the repository's prebuilt archive, if that was built from the present sources.
+fn prebuilt_folder() -> Option<PathBuf> {
+    let crate_folder = env::var_os("CARGO_MANIFEST_DIR").map(PathBuf::from)?;
+    let script = crate_folder.parent()?.with_file_name("prebuilt").join("find");
+    let archive = printed_path(Command::new("sh").arg(script).arg(ARCHIVE))?;
+    archive.parent().map(PathBuf::from)
+}
+
 /// The folder that `pkg-config` returns for an installed library.
 fn installed_folder() -> Option<PathBuf> {
-    let done = Command::new("pkg-config").args(["--variable=libdir", "mold"]).output().ok()?;
-    let folder = String::from_utf8(done.stdout).ok()?;
-    (done.status.success() && !folder.trim().is_empty()).then(|| PathBuf::from(folder.trim()))
+    printed_path(Command::new("pkg-config").args(["--variable=libdir", "mold"]))
 }
 
 /// The first folder that has the archive, or why there is none.
@@ -30,11 +43,13 @@ fn archive_folder() -> Result<PathBuf, String> {
         };
     }
     let [built, released] = folders_beside();
-    let mut folders = [built.clone(), released].into_iter().chain(installed_folder());
+    let beside = [built.clone(), released].into_iter();
+    let mut folders = beside.chain(prebuilt_folder()).chain(installed_folder());
     folders.find(|folder| folder.join(ARCHIVE).is_file()).ok_or_else(|| {
         format!(
-            "{ARCHIVE} was not found in {}, nor by `pkg-config --variable=libdir mold`. Build it with `sh \
-             library/build`, install it with `sh install.sh --library`, or set {VARIABLE} to its folder",
+            "{ARCHIVE} was not found in {}, nor by `pkg-config --variable=libdir mold`, and there is no prebuilt one for \
+             these sources. Build it with `sh library/build`, install it with `sh install.sh --library`, or set \
+             {VARIABLE} to its folder",
             built.display()
         )
     })

@@ -15,8 +15,9 @@ A refusal raises MoldError, and a failed allocation MemoryError. A number that d
             print(number, message.hex())
 
 The library is the file that the environment variable MOLD_LIBRARY names. Otherwise it is `libmold.so` in the folder of
-this package, in the folder that contains the package, in `library/out` of the repository, or in `lib` of a release, and
-otherwise the one that the system finds. If there is none, the import raises ImportError.
+this package, in the folder that contains the package, in `library/out` of the repository, or in `lib` of a release.
+Otherwise it is the prebuilt one of the repository, if that was built from the present sources, and otherwise the one that
+the system finds. If there is none, the import raises ImportError.
 """
 from .capture import Address, Capture, CaptureError, Datagram, read_capture
 from .checker import Checker, Verdict

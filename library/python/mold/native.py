@@ -9,6 +9,7 @@ import ctypes
 import ctypes.util
 import operator
 import os
+import subprocess
 from ctypes import c_bool, c_char_p, c_size_t, c_ubyte, c_uint16, c_uint32, c_uint64, c_void_p
 from typing import Iterator, Union
 
@@ -151,6 +152,14 @@ SIGNATURES = {
 }
 
 
+def _prebuilt(script: str) -> Iterator[str]:
+    """The prebuilt library of the repository with this script, if it was built from the present sources."""
+    if os.path.isfile(script):
+        done = subprocess.run(["sh", script, FILE_NAME], stdin=subprocess.DEVNULL, stdout=subprocess.PIPE, text=True)
+        if done.returncode == 0:
+            yield done.stdout.rstrip("\n")
+
+
 def _candidates() -> Iterator[str]:
     """The files that may be the library, in the order in which they are tried."""
     package = os.path.dirname(os.path.abspath(__file__))
@@ -160,6 +169,7 @@ def _candidates() -> Iterator[str]:
         path = os.path.join(folder, FILE_NAME)
         if os.path.isfile(path):
             yield path
+    yield from _prebuilt(os.path.join(os.path.dirname(above), "prebuilt", "find"))
     found = ctypes.util.find_library("mold")
     if found:
         yield found

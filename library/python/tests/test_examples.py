@@ -173,6 +173,20 @@ class Importing(unittest.TestCase):
             done = self.imported(MOLD_LIBRARY="", PYTHONPATH=folder)
             self.assertEqual((done.returncode, done.stderr), (0, ""))
 
+    def test_the_prebuilt_library(self):
+        with tempfile.TemporaryDirectory() as folder:
+            package, find = os.path.join(folder, "library", "python"), os.path.join(folder, "prebuilt", "find")
+            for path in (package, os.path.dirname(find)):
+                os.makedirs(path)
+            os.symlink(os.path.join(TOP, "mold"), os.path.join(package, "mold"))
+            # With other sources the script ends with status 1.
+            for status, path in ((0, os.path.realpath(mold.native.library._name)), (1, "no-such-file")):
+                with open(find, "w", encoding="ascii") as file:
+                    file.write(f"[ \"$1\" = libmold.so ] && printf '%s\\n' '{path}' && exit {status}\n")
+                done = self.imported(MOLD_LIBRARY="", PYTHONPATH=package)
+                self.assertNotIn("no-such-file", done.stderr)
+                self.assertTrue(done.returncode == 0 or status == 1, done.stderr)
+
     def test_no_library(self):
         with tempfile.TemporaryDirectory() as folder:
             os.symlink(os.path.join(TOP, "mold"), os.path.join(folder, "mold"))
