@@ -64,7 +64,7 @@ class Gate:
         folder, title = os.path.join(parts.TOP, part.folder), f"== {part.described()}\n"
         print("" if is_parallel else title, end="", flush=True)
         try:
-            process = subprocess.Popen(part.arguments(), cwd=folder, text=True, errors="replace", **streams)
+            process = subprocess.Popen(part.isolated(), cwd=folder, text=True, errors="replace", **streams)
         except OSError as why:
             self.fail(f"{part.described()}: {why}")
             return False

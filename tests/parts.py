@@ -1,10 +1,12 @@
 """The list of the parts of the gate, for tests/gate.py and tests/changed.py."""
 import dataclasses
 import fnmatch
+import functools
 import os
 import re
 import shlex
 import shutil
+import subprocess
 
 TOP = os.path.dirname(os.path.dirname(os.path.realpath(__file__)))
 # The documents whose command lines tests/documents runs.
@@ -12,6 +14,9 @@ DOCUMENTS = ("README.md", "docs/HEADLINE.md", "docs/USING.md", "docs/TROUBLESHOO
 # The root crates of the program, of the library, and of the program of tests/repair-network and tests/durable.
 PROGRAM, LIBRARY, DRIVER = "mold_cmd", "mold_ffi", "drive_tests"
 COMPILERS = ("cc", "gcc", "clang")
+# Runs a command in a separate network, in which the system assigns only ports above those that the parts use.
+ISOLATED = ("unshare", "-rn", "sh", "-c", "ip link set lo up && "
+            "echo '50000 60999' >/proc/sys/net/ipv4/ip_local_port_range && exec \"$@\"", "sh")
 
 
 @dataclasses.dataclass(frozen=True)
@@ -28,12 +33,19 @@ class Part:
     needs_compiler: bool = False
     # Whether it needs the toolchain's `rt`.
     needs_rt: bool = False
+    # Whether it uses fixed ports, so that it should not share the network with other processes.
+    has_fixed_ports: bool = False
     folder: str = "."
     # Whether its last line is 'N passed, M failed'. Otherwise the part counts as one check, by its status.
     is_counted: bool = True
 
     def arguments(self):
         return shlex.split(self.command)
+
+    def isolated(self):
+        """The arguments, preceded by what isolates the part if it uses fixed ports and the system allows that."""
+        is_isolated = self.has_fixed_ports and can_isolate()
+        return [*ISOLATED, *self.arguments()] if is_isolated else self.arguments()
 
     def described(self):
         return self.command if self.folder == "." else f"{self.command}, in {self.folder}"
@@ -47,6 +59,15 @@ class Part:
         if self.needs_compiler and not any(map(shutil.which, COMPILERS)):
             return "there is no C compiler"
         return None
+
+
+@functools.cache
+def can_isolate():
+    """Whether the system lets this process make a network."""
+    try:
+        return subprocess.run([*ISOLATED, "true"], stderr=subprocess.DEVNULL).returncode == 0
+    except OSError:
+        return False
 
 
 def over_program(command, *reads, crate=PROGRAM, **needs):
@@ -95,13 +116,13 @@ WITHOUT_PROGRAM = (
 LANES = (
     (
         over_program("tests/program-checks", "mold", "examples/*", "tests/checks.sh", "tests/table*",
-                     "tests/udp-sessions", "tests/model.py"),
+                     "tests/udp-sessions", "tests/model.py", has_fixed_ports=True),
         over_program("tests/library", "library/*", "docs/LIBRARY.md", "install.sh", "mold-join", "tests/udp-sessions",
                      "tests/model.py", crate=LIBRARY, needs_compiler=True),
         Part("tests/python", ("library/build", "library/alloc.c", "library/mold.h", "library/python/*",
                               "library/bench/python", "docs/LIBRARY.md"), LIBRARY),
         over_program("tests/documents " + " ".join(DOCUMENTS), *DOCUMENTS, "examples/*", "library/*", "install.sh",
-                     "mold-join"),
+                     "mold-join", has_fixed_ports=True),
     ),
     (
         over_program("tests/command-cases", "tests/cases*"),
