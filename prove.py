@@ -11,7 +11,7 @@ proving it again.
 
 A separate process proves each crate, after the crates that it uses: up to N at a time, and as many as fit in the free
 memory, or in GB gigabytes. Standard output has a line for each proved crate. The status is 0 if all is proved and equal,
-1 if not, and 2 for invalid arguments. The files of another toolchain are not compared.
+1 if not, and 2 for invalid arguments. Files of another toolchain are not compared if this one makes other files.
 """
 import argparse
 import contextlib
@@ -252,10 +252,11 @@ def prove_all(order):
     if order.update:
         prebuilt_files.write(made)
         print(f"replaced: {' '.join(prebuilt_files.NAMES)}")
-    elif prebuilt_files.why_not_comparable():
-        print(f"not compared: {prebuilt_files.why_not_comparable()}")
+        return
+    why, differing = prebuilt_files.why_not_comparable(made), prebuilt_files.differences(made)
+    if why:
+        print(f"not compared: {why}")
     else:
-        differing = prebuilt_files.differences(made)
         for name, is_other in differing.items():
             print(f"{'different' if is_other else 'equal'}: {name}")
         if any(differing.values()):

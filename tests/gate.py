@@ -6,8 +6,7 @@
 Without options everything runs. First the checksums of the prebuilt files are compared; if one is wrong, nothing more
 runs. Then the parts in tests/parts.py run over the prebuilt files. Then `rt ci` proves everything, what it builds is
 compared with the prebuilt files, and the edits are tried. Without the toolchain, or with --no-proofs, the parts that
-need it are skipped. With --complete a missing toolchain is a failure, and so is another one than that of the prebuilt
-files.
+need it are skipped. With --complete a missing toolchain is a failure, and so is another one that makes other files.
 
 With --since only those parts run that the changes since COMMIT affect, over what is built with kept proofs.
 tests/changed.py makes that plan, which does not replace the gate. --plan prints the plan and runs nothing.
@@ -153,15 +152,21 @@ class Gate:
 
     def run_proofs(self, order):
         """Proves everything, compares the prebuilt files with what is built, and tries the edits."""
-        is_proved, why = self.run(parts.RT_CI), prebuilt_files.why_not_comparable()
-        if why:
-            self.skip(parts.COMPARE, f"nothing can be compared: {why}")
-            if order.complete:
-                self.fail(f"not compared: {why}")
-        if self.run(parts.BUILD_AGAIN) and is_proved and not why:
-            self.run(parts.COMPARE)
+        is_proved = self.run(parts.RT_CI)
+        if self.run(parts.BUILD_AGAIN) and is_proved:
+            self.compare(order)
         self.run_lanes([parts.AFTER_PROOFS])
         self.run(parts.EDITS)
+
+    def compare(self, order):
+        """Compares the prebuilt files with those that were built, unless another toolchain has made other ones."""
+        why = prebuilt_files.why_not_comparable(prebuilt_files.built_files(os.path.join(parts.TOP, parts.BUILT)))
+        if not why:
+            self.run(parts.COMPARE)
+            return
+        self.skip(parts.COMPARE, f"nothing can be compared: {why}")
+        if order.complete:
+            self.fail(f"not compared: {why}")
 
     def skip_proofs(self, order):
         """Skips the parts that need the toolchain."""

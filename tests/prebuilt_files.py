@@ -80,6 +80,13 @@ def least_glibc(files):
     return max(found, key=lambda it: [int(part) for part in it.split(b".")]).decode()
 
 
+def built_files(folder):
+    """The files that `rt ci` has built of the sources, with the libraries in a folder."""
+    programs = {name: os.path.join(TOP, "crates", it, "out", it) for name, it in PROGRAMS.items()}
+    made = {name: stripped(read(path)) for name, path in programs.items()}
+    return made | {name: read(os.path.join(folder, name)) for name in LIBRARIES}
+
+
 def text_of_proved(files):
     prover = subprocess.run(["rt", "version"], stdout=subprocess.PIPE, text=True, check=True).stdout.strip()
     lines = [*HEAD, f"prover: {prover}", f"toolchain: {toolchain()}", f"glibc: {least_glibc(files)}"]
@@ -120,10 +127,11 @@ def differences(files):
     return {name: kept(name) != files[name] for name in NAMES}
 
 
-def why_not_comparable():
-    """Why the prebuilt files cannot be compared with what this toolchain builds, or None. Another toolchain may build
-    other files from the same sources."""
+def why_not_comparable(made):
+    """Why the prebuilt files cannot be compared with those that this toolchain has made, or None. Another toolchain may
+    make other files from the same sources. If it has made the same files, they can be compared."""
     words, files = stated()
     if not files:
         return "there are no prebuilt files"
-    return None if words.get("toolchain") == toolchain() else "other toolchain"
+    is_other = words.get("toolchain") != toolchain()
+    return "other toolchain" if is_other and any(differences(made).values()) else None
