@@ -44,7 +44,7 @@
  * CODES. A call that can be refused returns a code. The code is MOLD_DONE, 0, if the call succeeded. Otherwise it is
  * that of the first reason that applies, in the order in which the call lists them, and its name begins with MOLD_E_.
  * After such a code the handle holds what it held before, except that a line's report counts a refused datagram, that
- * mold_listener_hear empties the batch, and that a repairer learns the time. If a call has an output for a number, it
+ * mold_listener_hear may empty the batch, and that a repairer learns the time. If a call has an output for a number, it
  * then writes the number that goes with the refusal, or 0 if there is none. All other outputs keep their values. A call
  * that returns MOLD_E_BROKEN, MOLD_E_LINE or MOLD_E_TIME writes nothing at all. Other codes of which this is true are
  * listed with "writes nothing".
@@ -294,7 +294,7 @@ typedef struct mold_delivery {
 /* What was received on a line. Both counts stop at 18446744073709551615. */
 typedef struct mold_report {
     uint64_t datagrams; /* the number of datagrams that were taken */
-    uint64_t refused;   /* the number of datagrams that were refused, except with MOLD_E_MEMORY */
+    uint64_t refused;   /* the number of datagrams that were refused, except with MOLD_E_MEMORY or MOLD_E_BATCH */
     uint64_t front;     /* the greatest top of a packet that was taken, or the first number of the listener if that is
                            greater. A packet's top is its sequence number plus its number of messages */
 } mold_report;
@@ -357,15 +357,23 @@ uint32_t mold_listener_take(mold_listener *listener, uint32_t line, const uint8_
  * Then it gets the stored messages that are delivered after those of the datagram. The number of the first delivered
  * message is what mold_listener_next returned before the call.
  *
- * The codes are those of mold_listener_take, with `delivery->detail` as the number. MOLD_E_MEMORY is only possible if
- * messages have to be stored, or stored ones delivered. After a refusal the batch is empty, and otherwise the listener
- * is as after a refusal of mold_listener_take. With MOLD_E_BROKEN and MOLD_E_LINE nothing is written, and the batch
- * keeps its messages. */
+ * Only messages that an earlier mold_listener_hear left in the batch are discarded. The codes are those of
+ * mold_listener_take, with `delivery->detail` as the number, and these come first:
+ *
+ *   MOLD_E_BROKEN  the handle does not hold a listener.
+ *   MOLD_E_LINE    line is not MOLD_LINE_A, MOLD_LINE_B or MOLD_ANSWER.
+ *   MOLD_E_BATCH   the batch has messages of mold_listener_take or mold_listener_skip: read them, and call
+ *                  mold_listener_clear.
+ *
+ * After these three nothing has changed: the datagram is not counted, and the batch has its messages. After any other
+ * refusal the batch is empty, and otherwise the listener is as after a refusal of mold_listener_take. MOLD_E_MEMORY is
+ * only possible if messages have to be stored, or stored ones delivered. */
 uint32_t mold_listener_hear(mold_listener *listener, uint32_t line, const uint8_t *bytes, size_t length,
                             mold_delivery *delivery);
 
 /* The batch: the messages that were delivered since the last mold_listener_clear, in order. Read it after each datagram
- * or after many. It is in the listener's memory, and grows until it is cleared. mold_listener_hear empties it too. */
+ * or after many. It is in the listener's memory, and grows until it is cleared. mold_listener_hear discards the
+ * messages that it left there before. */
 
 /* Returns the number of messages of the batch. */
 size_t mold_listener_count(const mold_listener *listener);

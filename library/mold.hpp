@@ -369,6 +369,7 @@ public:
     /// Takes a datagram as `take` does, but copies none of the messages that the datagram itself delivers. Calls
     /// `deliver` with each delivered message as `Bytes`, in order: first those of the datagram, and then stored ones.
     /// The function must not call this listener. The first message has the number that `next` returned before the call.
+    /// If the batch has messages of `take` or `skip`, the code is `Batch`, and nothing changes: `clear` it before.
     template <class Deliver>
     [[nodiscard]] Code hear(Line line, Bytes datagram, mold_delivery &delivery, Deliver &&deliver) {
         const auto from = static_cast<std::uint32_t>(line);

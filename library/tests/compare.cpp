@@ -94,10 +94,82 @@ Bytes draw(Chance &chance, std::uint64_t next, std::uint64_t messages) {
     }
 }
 
-/// A listener and a plain receiver that receive the same session. A second listener copies no messages.
+/// A listener that receives a session by both calls, and a list of what its batch has to have.
+class Mixed {
+public:
+    Mixed(std::uint64_t next, std::uint32_t window) {
+        check(listener_.open(*mold::Session::of("COMPARE"), next, window) == mold::Code::Done,
+              "a listener cannot be made", 0);
+    }
+
+    /// Passes a datagram to one of the calls, or to both if the first one has to be refused because the batch is not
+    /// cleared. `taken`, `wanted` and `batch` are what the plain receiver returned and delivered.
+    void pass(std::uint32_t line, const Bytes &bytes, const mold_taken &taken, std::uint32_t wanted,
+              const plain::Batch &batch, unsigned long place) {
+        const std::uint64_t drawn = place * 0x9e3779b97f4a7c15 >> 60;
+        if (drawn % 2 == 0 || !hears(line, bytes, taken, wanted, batch, place))
+            takes(line, bytes, taken, wanted, batch, place);
+        check(listener_.count() == batch_.size(), "the batch after both calls differs", place);
+        std::size_t i = 0;
+        for (const mold::Bytes message : listener_.batch()) {
+            check(i < batch_.size() && std::equal(message.begin(), message.end(), batch_[i].begin(), batch_[i].end()),
+                  "a message of both calls differs", place);
+            i++;
+        }
+        if (drawn >= 10) {
+            check(listener_.clear() == mold::Code::Done, "the batch cannot be cleared", place);
+            batch_.clear();
+            is_owed_ = false;
+        }
+    }
+
+    const mold_listener &listener() const { return *listener_.get(); }
+
+private:
+    /// Whether the datagram was taken, or refused by the receiving rule.
+    bool hears(std::uint32_t line, const Bytes &bytes, const mold_taken &taken, std::uint32_t wanted,
+               const plain::Batch &batch, unsigned long place) {
+        mold_delivery delivery{9, 9, 9, 9, 9, 9};
+        const std::uint32_t code =
+            mold_listener_hear(listener_.get(), line, bytes.data(), bytes.size(), &delivery);
+        if (is_owed_) {
+            check(code == MOLD_E_BATCH && delivery.detail == 0 && delivery.own == 0 && delivery.stored == 0,
+                  "a batch that is not cleared was discarded", place);
+            return false;
+        }
+        check(code == wanted && delivery.detail == taken.detail && delivery.own + delivery.stored == taken.delivered,
+              "the result after both calls differs", place);
+        batch_.clear();
+        join(batch, delivery.own);
+        return true;
+    }
+
+    void takes(std::uint32_t line, const Bytes &bytes, const mold_taken &taken, std::uint32_t wanted,
+               const plain::Batch &batch, unsigned long place) {
+        mold_taken found{};
+        const mold::Code code = listener_.take(static_cast<mold::Line>(line), bytes, found);
+        check(code == static_cast<mold::Code>(wanted) && found.delivered == taken.delivered,
+              "the result after both calls differs", place);
+        join(batch, 0);
+        is_owed_ = is_owed_ || batch.size() > 0;
+    }
+
+    void join(const plain::Batch &batch, std::size_t first) {
+        for (std::size_t i = first; i < batch.size(); i++)
+            batch_.emplace_back(batch[i].at, batch[i].at + batch[i].length);
+    }
+
+    mold::Listener listener_;
+    std::vector<Bytes> batch_;
+    /// Whether the batch has messages that only a clear may discard.
+    bool is_owed_ = false;
+};
+
+/// A listener and a plain receiver that receive the same session. A second listener copies no messages, and a third one
+/// copies those of some datagrams.
 class Pair {
 public:
-    Pair(std::uint64_t next, std::uint32_t window) : plain_(session, next, window) {
+    Pair(std::uint64_t next, std::uint32_t window) : plain_(session, next, window), mixed_(next, window) {
         check(mold_listener_new(&listener_, session, next, window) == MOLD_DONE, "a listener cannot be made", 0);
         check(hearing_.open(*mold::Session::of("COMPARE"), next, window) == mold::Code::Done,
               "a listener cannot be made", 0);
@@ -123,6 +195,8 @@ public:
         compare_batch(batch, first, place);
         compare_state(listener_, place);
         compare_state(*hearing_.get(), place);
+        mixed_.pass(line, bytes, taken, code, batch, place);
+        compare_state(mixed_.listener(), place);
     }
 
     std::uint64_t next() const { return mold_listener_next(&listener_); }
@@ -175,6 +249,7 @@ private:
     mold_listener listener_ = MOLD_EMPTY;
     mold::Listener hearing_;
     plain::Receiver<true> plain_;
+    Mixed mixed_;
 };
 
 } // namespace

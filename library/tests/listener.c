@@ -225,6 +225,7 @@ static void messages_are_not_copied(void) {
     mold_delivery delivery = {9, 9, 9, 9, 9, 9};
     CODE(take(&listener, MOLD_LINE_A, packet_of(1, 1, 5), &taken), MOLD_DONE);
     CHECK(mold_listener_count(&listener) == 1);
+    CODE(mold_listener_clear(&listener), MOLD_DONE);
     CODE(hear(&listener, MOLD_LINE_A, packet_of(2, 0, 0), &delivery), MOLD_DONE);
     CHECK(is_delivery(&delivery, 20, 0, 0, 0, 0) && mold_listener_count(&listener) == 0);
     CODE(hear(&listener, MOLD_LINE_A, packet_of(2, 2, 3), &delivery), MOLD_DONE);
@@ -245,18 +246,90 @@ static void messages_are_not_copied(void) {
     mold_free(&listener);
 }
 
-/* The datagrams that are refused when they are not copied. Each refusal empties the batch. */
-static void datagrams_are_not_heard(void) {
-    mold_listener listener = listener_at(1, 4);
+/* Whether all fields are 0. */
+static bool is_undelivered(const mold_delivery *delivery) {
+    return is_delivery(delivery, 0, 0, 0, 0, 0);
+}
+
+/* Nothing is received as long as the batch has messages that a call other than mold_listener_hear delivered. Those that
+ * mold_listener_hear left in the batch are emptied by the next call. */
+static void the_batch_is_cleared_before(void) {
+    mold_listener listener = listener_at(1, 16);
     mold_taken taken = {0, 0, 0, 0, 0};
     mold_delivery delivery = {9, 9, 9, 9, 9, 9};
+    CODE(take(&listener, MOLD_LINE_A, packet_of(1, 1, 5), &taken), MOLD_DONE);
+    CODE(hear(&listener, MOLD_LINE_A, packet_of(2, 1, 5), &delivery), MOLD_E_BATCH);
+    CHECK(is_undelivered(&delivery) && mold_listener_count(&listener) == 1 && is_message(&listener, 0, 1, 5));
+    delivery.detail = 9;
+    CODE(hear(&listener, MOLD_LINE_B, of_length(3), &delivery), MOLD_E_BATCH);
+    CHECK(is_undelivered(&delivery) && mold_listener_count(&listener) == 1);
+    CODE(hear(&listener, MOLD_ANSWER, packet_of(3, 1, 5), &delivery), MOLD_E_BATCH);
+    CODE(hear(&listener, 3, packet_of(2, 1, 5), &delivery), MOLD_E_LINE);
+    CHECK(mold_listener_next(&listener) == 2 && mold_listener_known(&listener) == 2);
+    CHECK(is_report(&listener, MOLD_LINE_A, 1, 0, 2) && is_report(&listener, MOLD_LINE_B, 0, 0, 1));
+    /* Messages that are stored, or known, are not in the batch. */
+    CODE(mold_listener_clear(&listener), MOLD_DONE);
+    CODE(take(&listener, MOLD_LINE_A, packet_of(3, 2, 5), &taken), MOLD_DONE);
+    CODE(take(&listener, MOLD_LINE_A, packet_of(1, 1, 5), &taken), MOLD_DONE);
+    CODE(hear(&listener, MOLD_LINE_A, packet_of(2, 1, 5), &delivery), MOLD_DONE);
+    CHECK(is_delivery(&delivery, 20, 1, 2, 0, 0) && mold_listener_count(&listener) == 2);
+    /* A datagram that delivers nothing leaves the batch as it is. One that delivers a message adds it. */
+    CODE(take(&listener, MOLD_LINE_B, packet_of(2, 1, 5), &taken), MOLD_DONE);
+    CODE(take(&listener, MOLD_LINE_B, of_length(3), &taken), MOLD_E_SHORT);
+    CHECK(mold_listener_count(&listener) == 2);
+    CODE(hear(&listener, MOLD_LINE_A, packet_of(6, 1, 5), &delivery), MOLD_DONE);
+    CHECK(is_delivery(&delivery, 27, 0, 0, 1, 0) && mold_listener_count(&listener) == 0);
+    CODE(hear(&listener, MOLD_LINE_A, packet_of(5, 1, 5), &delivery), MOLD_DONE);
+    CHECK(is_delivery(&delivery, 20, 1, 1, 0, 0) && mold_listener_count(&listener) == 1);
+    CODE(take(&listener, MOLD_LINE_A, packet_of(7, 1, 5), &taken), MOLD_DONE);
+    CODE(hear(&listener, MOLD_LINE_A, packet_of(8, 1, 5), &delivery), MOLD_E_BATCH);
+    CHECK(mold_listener_count(&listener) == 2 && is_message(&listener, 0, 6, 5) && is_message(&listener, 1, 7, 5));
+    CODE(mold_listener_clear(&listener), MOLD_DONE);
+    /* Messages that were given up leave stored ones in the batch, or none. */
+    CODE(hear(&listener, MOLD_LINE_A, packet_of(10, 1, 5), &delivery), MOLD_DONE);
+    CODE(mold_listener_skip(&listener, 9), MOLD_DONE);
+    CODE(hear(&listener, MOLD_LINE_A, packet_of(12, 1, 5), &delivery), MOLD_DONE);
+    CODE(mold_listener_skip(&listener, 10), MOLD_DONE);
+    CODE(hear(&listener, MOLD_LINE_A, packet_of(11, 1, 5), &delivery), MOLD_E_BATCH);
+    CHECK(is_undelivered(&delivery) && mold_listener_next(&listener) == 11 && is_message(&listener, 0, 10, 5));
+    CODE(mold_listener_clear(&listener), MOLD_DONE);
+    CODE(hear(&listener, MOLD_LINE_A, packet_of(11, 1, 5), &delivery), MOLD_DONE);
+    CHECK(is_delivery(&delivery, 20, 1, 1, 0, 0) && mold_listener_next(&listener) == 13);
+    mold_free(&listener);
+}
+
+/* Each second datagram arrives first, and the batch is never cleared. */
+static void gaps_without_a_clear(void) {
+    mold_listener listener = listener_at(1, 16);
+    mold_taken taken = {0, 0, 0, 0, 0};
+    mold_delivery delivery = {9, 9, 9, 9, 9, 9};
+    for (uint64_t number = 1; number < 1000; number += 2) {
+        CODE(hear(&listener, MOLD_LINE_A, packet_of(number + 1, 1, 3), &delivery), MOLD_DONE);
+        CHECK(is_delivery(&delivery, 25, 0, 0, 1, 0) && mold_listener_count(&listener) == 0);
+        CODE(hear(&listener, MOLD_LINE_B, packet_of(number, 1, 3), &delivery), MOLD_DONE);
+        CHECK(is_delivery(&delivery, 20, 1, 1, 0, 0) && mold_listener_count(&listener) == 1);
+    }
+    CODE(take(&listener, MOLD_LINE_A, packet_of(1001, 1, 3), &taken), MOLD_DONE);
+    CODE(hear(&listener, MOLD_LINE_A, packet_of(1002, 1, 3), &delivery), MOLD_E_BATCH);
+    CHECK(mold_listener_count(&listener) == 2 && mold_listener_next(&listener) == 1002);
+    mold_free(&listener);
+}
+
+/* The datagrams that are refused when they are not copied. A refusal by the receiving rule empties the batch. */
+static void datagrams_are_not_heard(void) {
+    mold_listener listener = listener_at(1, 4);
+    mold_delivery delivery = {9, 9, 9, 9, 9, 9};
     datagram other = packet_of(2, 1, 1);
-    CODE(take(&listener, MOLD_LINE_A, packet_of(1, 1, 1), &taken), MOLD_DONE);
     CODE(hear(&listener, 3, packet_of(2, 1, 1), &delivery), MOLD_E_LINE);
     CODE(hear(&listener, UINT32_MAX, of_length(3), &delivery), MOLD_E_LINE);
-    CHECK(delivery.detail == 9 && delivery.offset == 9 && delivery.own == 9 && mold_listener_count(&listener) == 1);
+    CHECK(delivery.detail == 9 && delivery.offset == 9 && delivery.own == 9 && mold_listener_known(&listener) == 1);
+    CODE(hear(&listener, MOLD_LINE_A, packet_of(2, 1, 1), &delivery), MOLD_DONE);
+    CODE(hear(&listener, MOLD_ANSWER, packet_of(1, 1, 1), &delivery), MOLD_DONE);
+    CHECK(is_delivery(&delivery, 20, 1, 1, 0, 0) && mold_listener_count(&listener) == 1);
+    CODE(hear(&listener, 3, packet_of(3, 1, 1), &delivery), MOLD_E_LINE);
+    CHECK(mold_listener_count(&listener) == 1);
     CODE(mold_listener_hear(&listener, MOLD_LINE_A, NULL, 0, &delivery), MOLD_E_SHORT);
-    CHECK(is_delivery(&delivery, 0, 0, 0, 0, 0) && mold_listener_count(&listener) == 0);
+    CHECK(is_undelivered(&delivery) && mold_listener_count(&listener) == 0);
     CODE(hear(&listener, MOLD_ANSWER, of_length(19), &delivery), MOLD_E_SHORT);
     CHECK(delivery.detail == 19 && delivery.offset == 0);
     CODE(mold_listener_hear(&listener, MOLD_LINE_A, other.at, 22, &delivery), MOLD_E_BLOCK_CUT);
@@ -266,17 +339,17 @@ static void datagrams_are_not_heard(void) {
     CODE(hear(&listener, MOLD_LINE_A, other, &delivery), MOLD_E_WRONG_SESSION);
     CODE(hear(&listener, MOLD_LINE_A, packet_of(0, 1, 1), &delivery), MOLD_E_SEQUENCE_ZERO);
     CODE(hear(&listener, MOLD_LINE_A, packet_of(UINT64_MAX, 1, 1), &delivery), MOLD_E_PAST_LAST);
-    CODE(hear(&listener, MOLD_LINE_A, packet_of(3, 1, 1), &delivery), MOLD_DONE);
-    CODE(hear(&listener, MOLD_LINE_B, packet_of(3, 1, 2), &delivery), MOLD_E_CONFLICT);
-    CHECK(delivery.detail == 3 && delivery.own == 0 && mold_listener_next(&listener) == 2);
-    CODE(hear(&listener, MOLD_LINE_B, end_of(3), &delivery), MOLD_E_END_BELOW);
-    CHECK(delivery.detail == 4);
-    CODE(hear(&listener, MOLD_LINE_B, end_of(4), &delivery), MOLD_DONE);
-    CODE(hear(&listener, MOLD_LINE_B, end_of(5), &delivery), MOLD_E_END_CONFLICT);
-    CODE(hear(&listener, MOLD_LINE_B, packet_of(2, 3, 1), &delivery), MOLD_E_PAST_END);
-    CODE(hear(&listener, MOLD_ANSWER, packet_of(2, 1, 1), &delivery), MOLD_DONE);
+    CODE(hear(&listener, MOLD_LINE_A, packet_of(4, 1, 1), &delivery), MOLD_DONE);
+    CODE(hear(&listener, MOLD_LINE_B, packet_of(4, 1, 2), &delivery), MOLD_E_CONFLICT);
+    CHECK(delivery.detail == 4 && delivery.own == 0 && mold_listener_next(&listener) == 3);
+    CODE(hear(&listener, MOLD_LINE_B, end_of(4), &delivery), MOLD_E_END_BELOW);
+    CHECK(delivery.detail == 5);
+    CODE(hear(&listener, MOLD_LINE_B, end_of(5), &delivery), MOLD_DONE);
+    CODE(hear(&listener, MOLD_LINE_B, end_of(6), &delivery), MOLD_E_END_CONFLICT);
+    CODE(hear(&listener, MOLD_LINE_B, packet_of(3, 3, 1), &delivery), MOLD_E_PAST_END);
+    CODE(hear(&listener, MOLD_ANSWER, packet_of(3, 1, 1), &delivery), MOLD_DONE);
     CHECK(is_delivery(&delivery, 20, 1, 1, 0, 0) && mold_listener_finished(&listener));
-    CHECK(is_report(&listener, MOLD_LINE_A, 2, 6, 4) && is_report(&listener, MOLD_LINE_B, 1, 4, 4));
+    CHECK(is_report(&listener, MOLD_LINE_A, 2, 6, 5) && is_report(&listener, MOLD_LINE_B, 1, 4, 5));
     mold_free(&listener);
 }
 
@@ -384,6 +457,8 @@ void test_listener(void) {
     ends_are_taken_and_refused();
     another_message_is_refused();
     messages_are_not_copied();
+    the_batch_is_cleared_before();
+    gaps_without_a_clear();
     datagrams_are_not_heard();
     gaps_are_written();
     gaps_are_given_up();

@@ -54,7 +54,7 @@ static void packets(void) {
 static void listeners(void) {
     mold_listener listener = listener_at(1, 4);
     mold_taken taken, refused;
-    mold_delivery delivery, not_delivered;
+    mold_delivery delivery, not_delivered, not_cleared;
     mold_report report, no_report;
     mold_bytes message, absent, all[4];
     mold_range ranges[2];
@@ -72,6 +72,8 @@ static void listeners(void) {
     CHECK(is_delivery(&not_delivered, 0, 0, 0, 0, 0));
     CODE(hear(&listener, 9, packet_of(1, 1, 2), &not_delivered), MOLD_E_LINE);
     CODE(take(&listener, MOLD_ANSWER, packet_of(2, 1, 2), &taken), MOLD_DONE);
+    CODE(hear(&listener, MOLD_LINE_B, packet_of(5, 1, 2), &not_cleared), MOLD_E_BATCH);
+    CHECK(is_delivery(&not_cleared, 0, 0, 0, 0, 0));
     CODE(mold_listener_message(&listener, 2, &message), MOLD_DONE);
     CHECK(message.length == 2 && message.at[1] == 4);
     CODE(mold_listener_message(&listener, 3, &absent), MOLD_E_ABSENT);

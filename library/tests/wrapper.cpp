@@ -134,6 +134,20 @@ void a_listener_copies_nothing() {
     CHECK(delivered.size() == 4 && listener.count() == 0);
 }
 
+void the_batch_is_cleared_before() {
+    mold::Publisher publisher;
+    const std::vector<Datagram> sent = session_of(publisher, {"first", "", "third and longest of them all", "fourth"});
+    mold::Listener listener;
+    mold_taken taken{};
+    mold_delivery delivery{};
+    std::size_t delivered = 0;
+    const auto deliver = [&delivered](mold::Bytes) { delivered++; };
+    CHECK(listener.open(name) == Code::Done && listener.take(Line::A, sent[0], taken) == Code::Done);
+    CHECK(listener.hear(Line::A, sent[1], delivery, deliver) == Code::Batch && delivered == 0);
+    CHECK(listener.count() == taken.delivered && listener.first() == 1 && listener.clear() == Code::Done);
+    CHECK(listener.hear(Line::A, sent[1], delivery, deliver) == Code::Done && taken.delivered + delivered == 4);
+}
+
 void a_repairer_repairs() {
     mold::Publisher publisher;
     const std::vector<Datagram> sent = session_of(publisher, {"first", "", "third and longest of them all", "fourth"});
@@ -309,6 +323,7 @@ int main() {
     a_listener_gives_up();
     a_listener_has_a_bounded_store();
     a_listener_copies_nothing();
+    the_batch_is_cleared_before();
     a_repairer_repairs();
     servers_serve();
     a_journal_is_kept();

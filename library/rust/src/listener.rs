@@ -122,10 +122,15 @@ impl Listener {
     /// delivers. It returns all messages that the datagram delivers. First the batch is emptied. Then it gets the
     /// stored messages that are delivered after those of the datagram. This is the fastest way to take a datagram.
     ///
+    /// Only messages that an earlier `hear` left in the batch are discarded. If it has messages of
+    /// [`take`](Self::take) or [`skip`](Self::skip), read them and call [`clear`](Self::clear) before.
+    ///
     /// # Errors
     ///
-    /// Those of [`take`](Self::take). [`Memory`](Error::Memory) is only possible if messages have to be stored, or
-    /// stored ones delivered. After a refusal the batch is empty, except after [`Line`](Error::Line).
+    /// [`Line`](Error::Line), if the origin is a server other than server 0. [`Batch`](Error::Batch), if the batch has
+    /// messages of `take` or `skip`. After these two nothing has changed. Then those of [`take`](Self::take), after
+    /// which the batch is empty. [`Memory`](Error::Memory) is only possible if messages have to be stored, or stored
+    /// ones delivered.
     ///
     /// ```
     /// # use mold::{Listener, Origin, Session};

@@ -5,7 +5,8 @@
 pub struct Report {
     /// The number of datagrams that were taken.
     pub datagrams: u64,
-    /// The number of datagrams that were refused, except with [`Error::Memory`](crate::Error::Memory).
+    /// The number of datagrams that were refused, except with [`Error::Memory`](crate::Error::Memory) or
+    /// [`Error::Batch`](crate::Error::Batch).
     pub refused: u64,
     /// The greatest top of a packet that was taken, or the first number of the listener if that is greater. A packet's
     /// top is its sequence number plus its number of messages. The lag of a line is

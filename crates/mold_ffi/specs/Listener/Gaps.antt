@@ -23,6 +23,7 @@ abbrev pub skipped_to : BatchedArbitration → ℕ → BatchedArbitration
 skipped_to old to = record {
   arbitration = record { view = skipped old.arbitration.view to; reports = old.arbitration.reports };
   batch = followed_by old.batch to (skipped_run old.arbitration.view to);
+  from_hear = 0;
 }
 
 -- The messages below `to` were given up; or the call was refused, for the first reason that applies, and nothing

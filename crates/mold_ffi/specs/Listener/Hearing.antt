@@ -11,9 +11,10 @@ use Rattle.mold_rule.specs.declared.refusal.Refusal.TheVariants.{Memory}
 use Rattle.mold_wire.specs.Block.{blocks}
 use Rattle.mold_wire.specs.Reading.{reading}
 use Rattle.mold_ffi.specs.Code.Refusal.{refusal_code}
-use Rattle.mold_ffi.specs.Listener.BatchedArbiter.{BatchedArbitration, cleared}
+use Rattle.mold_ffi.specs.Listener.BatchedArbiter.{BatchedArbitration, IsOwed, cleared}
 use Rattle.mold_ffi.specs.Listener.Taking.{taking_code}
-use Rattle.mold_ffi.specs.Listener.MoldDelivery.{hearing_fields, unheard_fields}
+use Rattle.mold_ffi.specs.Listener.MoldDelivery.{hearing_fields, refused_fields, unheard_fields}
+use Rattle.mold_ffi.specs.declared.code.TheConstants as codes
 use Rattle.mold_ffi.specs.declared.handle.held.Held.{Held}
 use Rattle.mold_ffi.specs.declared.handle.held.Held.TheVariants.{Listener}
 use Rattle.mold_ffi.specs.declared.listener.mold_delivery.MoldDelivery.{MoldDelivery}
@@ -30,10 +31,12 @@ received_own origin bytes old (Ok reception) = record {
   batch =
       handed_from (old.arbitration.view.next + length (own_in old bytes))
       (drop (length (own_in old bytes)) reception.handed);
+  from_hear = length (drop (length (own_in old bytes)) reception.handed);
 }
 received_own origin bytes old (Err refusal) = record {
   arbitration = arbitrated (line_of origin) bytes old.arbitration (Err refusal);
   batch = record { first = 0; messages = [] };
+  from_hear = 0;
 }
 
 -- The code, the fields and the listener are those of the result `answer` of the receiving rule. If the datagram was
@@ -54,8 +57,15 @@ pub record LacksRoom (bytes : List ℕ) (old : BatchedArbitration) (code : ℕ) 
   pub copied : IsCopiedBehind old.arbitration.view bytes
   pub held : new ≡ Some (Listener (cleared old))
 
--- A listener took a datagram without copying its messages, refused it, or lacked memory for it.
-abbrev pub Hears : Origin → List ℕ → BatchedArbitration → ℕ → MoldDelivery → Option Held → Type 0
-Hears origin bytes old code fields new =
+-- A listener whose batch may be emptied took a datagram, refused it by the receiving rule, or lacked memory for it.
+abbrev pub HearsOwn : Origin → List ℕ → BatchedArbitration → ℕ → MoldDelivery → Option Held → Type 0
+HearsOwn origin bytes old code fields new =
     HasHeardOwn origin bytes old (receive old.arbitration.view bytes) code fields new
     ⊎ LacksRoom bytes old code fields new
+
+-- A listener took a datagram without copying its messages, refused it, or lacked memory for it. If its batch has
+-- messages that only a clear may discard, the call is refused, whatever the bytes are, and nothing changes.
+pub record Hears (origin : Origin) (bytes : List ℕ) (old : BatchedArbitration) (code : ℕ) (fields : MoldDelivery)
+    (new : Option Held) : Type 0 where
+  pub owed : IsOwed old → (code ≡ codes.BATCH) × (fields ≡ refused_fields 0) × (new ≡ Some (Listener old))
+  pub hears : (IsOwed old → ⊥) → HearsOwn origin bytes old code fields new

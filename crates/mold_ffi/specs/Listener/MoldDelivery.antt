@@ -23,10 +23,13 @@ own_fields len own taken = record {
   dropped = taken.beyond;
 }
 
--- The fields for a refusal: the number that goes with it.
+-- The fields of a call that was refused: the number that goes with the refusal.
+abbrev pub refused_fields : ℕ → MoldDelivery
+refused_fields number = record { detail = number; offset = 0; own = 0; stored = 0; kept = 0; dropped = 0 }
+
+-- The fields for a refusal by the receiving rule.
 abbrev pub unheard_fields : Refusal → MoldDelivery
-unheard_fields refusal =
-    record { detail = refusal_number refusal; offset = 0; own = 0; stored = 0; kept = 0; dropped = 0 }
+unheard_fields refusal = refused_fields (refusal_number refusal)
 
 -- The fields of a result of the receiving rule.
 abbrev pub hearing_fields : View → List ℕ → Result Reception Refusal → MoldDelivery

@@ -27,9 +27,9 @@ use Rattle.mold_ffi.specs.Repairer.MoldRepairOptions.{options_of}
 use Rattle.mold_ffi.specs.declared.repairer.batched_repairer.BatchedRepairer.{BatchedRepairer}
 use Rattle.mold_ffi.specs.declared.repairer.mold_repair_options.MoldRepairOptions.{MoldRepairOptions}
 
--- The listener that a repairer is made of: its arbiter and its batch.
+-- The listener that a repairer is made of: its arbiter and its batch. `mold_listener_hear` does not accept a repairer.
 abbrev pub batched_of : BatchedRepairer → BatchedArbitration
-batched_of timed = record { arbitration = timed.repairer.arbiter; batch = timed.batch }
+batched_of timed = record { arbitration = timed.repairer.arbiter; batch = timed.batch; from_hear = 0 }
 
 -- A repairer with these options, before it was passed a time. It received nothing, and delivered nothing.
 pub record IsFresh (session : Session) (fields : MoldRepairOptions) (timed : BatchedRepairer) : Type 0 where

@@ -1,7 +1,9 @@
 //! What a listener is made of: an arbiter, and the batch of the messages that it delivered.
 
 ghost use Rattle.std.specs.Prelude.{◌≡◌, ◌↔◌, ◌<◌, [], IfErr, IfNone, IfOk, IfSome, IsTrue, Ok, OnErr, OnOk, Some};
-ghost use Rattle.mold_ffi.specs.Listener.BatchedArbiter.{HasReceived, begun_within, cleared};
+ghost use Rattle.std.specs.Prelude.{length};
+ghost use Rattle.std.specs.Option.{OnSome};
+ghost use Rattle.mold_ffi.specs.Listener.BatchedArbiter.{HasReceived, IsOwed, begun_within, cleared};
 ghost use Rattle.mold_ffi.specs.Listener.Gaps.{MaySkip, Skips};
 ghost use Rattle.mold_ffi.specs.declared.handle.held.Held.TheVariants.{Listener as AListener};
 ghost use Rattle.mold_receiver.specs.Origin.{line_of};
@@ -22,6 +24,8 @@ use std::marker::Model;
 pub(crate) struct BatchedArbiter {
     arbiter: Arbiter,
     batch: Batch,
+    // How many messages of the batch `hear` left there. They are its first ones.
+    from_hear: usize,
 }
 
 impl Model for BatchedArbiter {
@@ -31,9 +35,10 @@ impl Model for BatchedArbiter {
 
     ghost coded = { batched_code };
 
-    ghost view = { λ b. record { arbitration = b.arbiter; batch = b.batch } };
+    ghost view = { λ b. record { arbitration = b.arbiter; batch = b.batch; from_hear = b.from_hear } };
 
-    ghost invariant = { λ b. IsFollowed (record { arbitration = b.arbiter; batch = b.batch }) };
+    ghost invariant = { λ b.
+        IsFollowed (record { arbitration = b.arbiter; batch = b.batch; from_hear = b.from_hear }) };
 }
 
 impl BatchedArbiter {
@@ -57,11 +62,12 @@ impl BatchedArbiter {
         Ok(BatchedArbiter {
             arbiter: Arbiter::new(receiver),
             batch: Batch::new(alloc),
+            from_hear: 0,
         })
     }
 
     /// Takes a datagram. The messages that are delivered join the batch.
-    #[tactic(auto, using(crate::proofs::ListenerLemmas::datagram_received))]
+    #[tactic(auto, using(crate::proofs::ListenerLemmas::datagram_received, crate::proofs::ListenerLemmas::still_has))]
     pub(crate) fn take(&mut self, origin: Origin, bytes: &[u8]) -> Result<Taken, Refusal>
         ensures { HasReceived origin bytes.now self.old self.new result }
     {
@@ -83,7 +89,7 @@ impl BatchedArbiter {
     /// the result is `None`, and nothing changes.
     // Inlined for the same reason as `Arbiter::take_quickly`.
     #[inline(always)]
-    #[tactic(auto, using(crate::proofs::ListenerLemmas::quickly_received))]
+    #[tactic(auto, using(crate::proofs::ListenerLemmas::quickly_received, crate::proofs::ListenerLemmas::quickly_has))]
     pub(crate) fn take_quickly(&mut self, line: Line, bytes: &[u8]) -> Option<Taken>
         ensures taken { IfSome result (λ taken.
             HasReceived (AnOrigin.Line line) bytes.now self.old self.new (Ok taken)) }
@@ -94,6 +100,13 @@ impl BatchedArbiter {
         self.arbiter.take_quickly(line, bytes, &mut self.batch)
     }
 
+    /// Whether the batch has messages that `hear` did not leave there.
+    pub(crate) fn is_owed(&self) -> bool
+        ensures { IsTrue result ↔ IsOwed self.now }
+    {
+        self.from_hear < self.batch.len()
+    }
+
     /// Takes a datagram without copying the messages that it delivers itself. The batch is emptied first, and gets the
     /// stored messages that follow them.
     pub(crate) fn hear<'a>(&mut self, origin: Origin, bytes: &'a [u8]) -> Result<Heard<'a>, Refusal>
@@ -102,22 +115,35 @@ impl BatchedArbiter {
         ensures refused { IfErr result (λ refused. HasRefusedOwn (line_of origin) self.old.arbitration bytes.now
             self.new.arbitration refused) }
         ensures batch { OnErr result (self.new.batch ≡ record { first = 0; messages = [] }) }
+        ensures from_hear { self.new.from_hear ≡ length self.new.batch.messages }
     {
         taken_law();
-        self.arbiter.hear(origin, bytes, &mut self.batch)
+        let heard = self.arbiter.hear(origin, bytes, &mut self.batch);
+        self.from_hear = self.batch.len();
+        heard
     }
 
-    /// Takes a usual datagram of a line as `hear` does, but faster. For other datagrams the result is `None`, and
-    /// nothing changes.
+    /// Takes a usual datagram of a line as `hear` does, but faster, if the batch is empty. For other datagrams the
+    /// result is `None`, and nothing changes.
     // Inlined for the same reason as `Arbiter::hear_quickly`.
     #[inline(always)]
     pub(crate) fn hear_quickly<'a>(&mut self, line: Line, bytes: &'a [u8]) -> Option<Heard<'a>>
         ensures heard { IfSome result (λ heard. HasArbitratedOwn (Some line) self.old.arbitration bytes.now
             self.new.arbitration heard.own self.new.batch heard.taken) }
+        ensures from_hear { OnSome result (self.new.from_hear ≡ length self.new.batch.messages) }
+        ensures empty { OnSome result (self.old.batch.messages ≡ []) }
         ensures same { IfNone result (self.new ≡ self.old) }
     {
         taken_law();
-        self.arbiter.hear_quickly(line, bytes, &mut self.batch)
+        if self.batch.len() > 0 {
+            return None;
+        }
+        let heard = self.arbiter.hear_quickly(line, bytes, &mut self.batch);
+        // For the optimizer: the batch stays empty. No clause of the arbiter states it, but the compiler omits this.
+        if self.batch.len() > 0 {
+            self.from_hear = self.batch.len();
+        }
+        heard
     }
 
     /// The arbiter.
@@ -168,5 +194,6 @@ impl BatchedArbiter {
         ensures { self.new ≡ cleared self.old }
     {
         self.batch.clear();
+        self.from_hear = 0;
     }
 }

@@ -9,7 +9,7 @@ ghost use Rattle.mold_ffi.specs.declared.code.TheConstants as codes;
 ghost use Rattle.mold_ffi.specs.declared.handle.held.Held.TheVariants.{Listener as AListener};
 ghost use Rattle.mold_receiver.specs.declared.origin.Origin.{Origin as AnOrigin};
 
-use crate::code::{BROKEN, DONE, LINE};
+use crate::code::{BATCH, BROKEN, DONE, LINE};
 use crate::handle::held::Held;
 use crate::handle::mold_handle::MoldHandle;
 use crate::listener::batched_arbiter::BatchedArbiter;
@@ -34,6 +34,10 @@ fn hear_slowly(
     let Some(origin) = origin_of(line) else {
         return LINE;
     };
+    if held.is_owed() {
+        *delivery = MoldDelivery::refused(0);
+        return BATCH;
+    }
     match held.hear(origin, bytes) {
         Ok(found) => {
             delivery.write_heard(bytes.len(), &found);
@@ -65,7 +69,8 @@ fn hear(held: &mut BatchedArbiter, line: u32, bytes: &[u8], delivery: &mut MoldD
 
 /// Takes a datagram as `mold_listener_take` does, but copies none of the messages that it delivers itself. They are in
 /// the datagram, from the offset on that is written. The batch is emptied first, and gets the stored messages that
-/// follow them.
+/// follow them. If the batch has messages that another call delivered, the datagram is not taken: they have to be
+/// cleared before.
 #[unsafe(no_mangle)]
 pub extern "C" fn mold_listener_hear(
     listener: &mut MoldHandle,

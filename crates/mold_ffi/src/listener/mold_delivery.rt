@@ -2,7 +2,7 @@
 
 ghost use Rattle.std.specs.Prelude.{◌≡◌, ◌≤◌, length};
 ghost use Rattle.mold_ffi.specs.Code.Refusal.{refusal_code};
-ghost use Rattle.mold_ffi.specs.Listener.MoldDelivery.{own_fields, unheard_fields};
+ghost use Rattle.mold_ffi.specs.Listener.MoldDelivery.{own_fields, refused_fields, unheard_fields};
 ghost use Rattle.mold_wire.specs.Block.{blocks};
 
 use crate::code::refusal::code_of_refusal;
@@ -51,14 +51,21 @@ impl MoldDelivery {
         ensures fields { self.new ≡ unheard_fields refused }
     {
         let (code, detail) = code_of_refusal(refused);
-        *self = MoldDelivery {
+        *self = MoldDelivery::refused(detail);
+        code
+    }
+
+    /// The fields of a call that was refused. `detail` is the number that goes with the refusal.
+    pub(crate) fn refused(detail: u64) -> MoldDelivery
+        ensures { result ≡ refused_fields detail }
+    {
+        MoldDelivery {
             detail,
             offset: 0,
             own: 0,
             stored: 0,
             kept: 0,
             dropped: 0,
-        };
-        code
+        }
     }
 }

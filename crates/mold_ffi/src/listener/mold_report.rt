@@ -11,7 +11,8 @@ use mold_receiver::LineReport;
 pub struct MoldReport {
     /// The number of datagrams that were taken.
     pub datagrams: u64,
-    /// The number of datagrams that were refused, except those for which an allocation failed.
+    /// The number of datagrams that were refused, except those for which an allocation failed, and those that were not
+    /// read because the batch was not cleared.
     pub refused: u64,
     /// The greatest top of a packet that was taken, and at least the first sequence number of the listener.
     pub front: u64,

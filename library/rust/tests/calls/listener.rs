@@ -40,6 +40,25 @@ fn messages_are_delivered_without_a_copy() {
     assert_eq!(listener.batch().len(), 0);
 }
 
+/// Messages that `take` or `skip` delivered are not lost: `hear` is refused until they are cleared.
+#[test]
+fn the_batch_is_cleared_before_hear() {
+    let mut listener = listener();
+    listener.take(Origin::LineA, &packet(1, &[b"one"])).unwrap();
+    assert_eq!(listener.hear(Origin::LineA, &packet(2, &[b"two"])).map(|_| ()), Err(Error::Batch));
+    assert_eq!(listener.hear(Origin::LineA, b"").map(|_| ()), Err(Error::Batch));
+    assert_eq!(listener.hear(Origin::Server(1), b"").map(|_| ()), Err(Error::Line));
+    assert!(listener.batch().eq([(1, &b"one"[..])]));
+    assert_eq!((listener.next(), listener.report(Origin::LineA).unwrap().refused), (2, 0));
+    listener.clear();
+    assert_eq!(listener.hear(Origin::LineA, &packet(4, &[b"four"])).unwrap().kept(), 1);
+    listener.skip(4).unwrap();
+    assert_eq!(listener.hear(Origin::LineA, &packet(5, &[b"five"])).map(|_| ()), Err(Error::Batch));
+    assert!(listener.batch().eq([(4, &b"four"[..])]));
+    listener.clear();
+    assert!(listener.hear(Origin::LineA, &packet(5, &[b"five"])).unwrap().eq([(5, &b"five"[..])]));
+}
+
 #[test]
 fn datagrams_are_refused() {
     let mut listener = listener();
