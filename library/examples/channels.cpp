@@ -63,7 +63,7 @@ class Latency {
 public:
     void add(std::uint64_t began, std::uint64_t ended) {
         const std::uint64_t time = ended > began ? ended - began : 0;
-        const int shift = std::bit_width(time | 127) - 7;
+        const int shift = static_cast<int>(std::bit_width(time | 127)) - 7;
         buckets_[static_cast<std::size_t>(shift) * 64 + (time >> shift)]++;
         count_++;
         worst_ = std::max(worst_, time);
