@@ -2,6 +2,7 @@
 
 use crate::error::{done, Error};
 use crate::sys;
+use crate::version;
 use std::fmt;
 
 /// A handle of any kind, which is freed when it is dropped.
@@ -14,8 +15,9 @@ pub(crate) struct Handle(sys::Handle);
 
 impl Handle {
     /// Makes a handle. `fill` passes the empty handle to a call that fills it, and returns the code and the number of
-    /// that call.
+    /// that call. Panics if the linked library has another version than this crate.
     pub(crate) fn filled(fill: impl FnOnce(*mut sys::Handle) -> (u32, u64)) -> Result<Self, Error> {
+        version::check();
         let mut made = Self(sys::Handle { at: std::ptr::null_mut(), live: false });
         let (code, number) = fill(made.as_mut_ptr());
         done(code, number)?;

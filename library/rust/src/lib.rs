@@ -46,6 +46,10 @@
 //! # The archive
 //!
 //! The build script links `libmold.a`. `docs/LIBRARY.md` states where it looks for the archive.
+//!
+//! The archive has to have the version of this crate, except for the patch number. Otherwise each function that makes a
+//! [`Listener`], a [`Repairer`], a [`Publisher`], a [`Server`] or a [`Checker`] panics, with a message that has both
+//! versions.
 
 mod batch;
 mod checker;
@@ -73,6 +77,7 @@ mod taken;
 mod time;
 mod vector;
 mod verdict;
+mod version;
 mod written;
 
 pub use batch::Batch;
