@@ -69,8 +69,8 @@ extern "C" {
 
 /* The version of this header: the major number times 1,000,000, plus the minor number times 1,000, plus the patch
  * number. */
-#define MOLD_LIBRARY_VERSION 2000
-#define MOLD_LIBRARY_VERSION_TEXT "0.2.0"
+#define MOLD_LIBRARY_VERSION 3000
+#define MOLD_LIBRARY_VERSION_TEXT "0.3.0"
 
 /* Returns the version of the linked library. It equals MOLD_LIBRARY_VERSION if the header belongs to the library. */
 uint32_t mold_library_version(void);
@@ -826,7 +826,7 @@ uint32_t mold_checker_ranges(const mold_checker *checker, mold_range *ranges, si
 }
 #endif
 
-/* ---- The names of version 0.1, which the next version removes. MOLD_NO_OLD_NAMES removes them now ---- */
+/* ---- The names of version 0.1, which a later version removes. MOLD_NO_OLD_NAMES removes them now ---- */
 
 #ifndef MOLD_NO_OLD_NAMES
 

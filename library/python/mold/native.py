@@ -18,7 +18,7 @@ Buffer = Union[bytes, bytearray, memoryview]
 
 # The version of mold.h that has these declarations, as `mold_library_version` returns it. The patch number, its last
 # three digits, may differ.
-LIBRARY_VERSION = 2000
+LIBRARY_VERSION = 3000
 PATCHES = 1000
 VARIABLE = "MOLD_LIBRARY"
 FILE_NAME = "libmold.so"

@@ -104,7 +104,7 @@ pub use taken::Taken;
 pub use verdict::Verdict;
 
 /// Returns the version of the linked library: the major number times 1,000,000, plus the minor number times 1,000,
-/// plus the patch number. Version 0.2.0 is 2000.
+/// plus the patch number. Version 0.3.0 is 3000.
 pub fn library_version() -> u32 {
     // SAFETY: The call has no argument.
     unsafe { sys::mold_library_version() }
