@@ -32,8 +32,8 @@
  * that the library allocates. A handle begins as MOLD_EMPTY and is then empty. mold_.._new fills it. mold_free frees
  * its memory and makes it empty again. A filled handle must be freed before it is filled again, and before it goes out
  * of scope. If a handle does not hold what a call needs, the call returns MOLD_E_BROKEN and does nothing. A call that
- * returns no code then returns 0 or false. A call that takes a const handle changes neither the handle nor what it
- * holds.
+ * returns no code then returns 0 or false. A call that takes a const handle changes neither the handle nor anything
+ * that a call returns: mold_server_answer and mold_server_plan only count requests, and no call returns that count.
  *
  * SLICES. A mold_bytes that a listener or a repairer returns is a slice of its memory. It is valid until the next call
  * on that handle, except for calls that take a const handle. The caller never frees it. If its length is 0, its address
@@ -44,11 +44,13 @@
  * CODES. A call that can be refused returns a code. The code is MOLD_DONE, 0, if the call succeeded. Otherwise it is
  * that of the first reason that applies, in the order in which the call lists them, and its name begins with MOLD_E_.
  * After such a code the handle holds what it held before, except that a line's report counts a refused datagram, that
- * mold_listener_hear may empty the batch, and that a repairer learns the time. If a call has an output for a number, it
- * then writes the number that goes with the refusal, or 0 if there is none. All other outputs keep their values. A call
- * that returns MOLD_E_BROKEN, MOLD_E_LINE or MOLD_E_TIME writes nothing at all. Other codes of which this is true are
- * listed with "writes nothing".
- * The meaning of a code never changes.
+ * mold_listener_hear empties the batch, and that a repairer learns the time. After MOLD_E_BROKEN, MOLD_E_LINE,
+ * MOLD_E_TIME and MOLD_E_BATCH it holds exactly what it held before.
+ *
+ * If a call has an output for a number, it then writes the number that goes with the refusal, or 0 if there is none. It
+ * writes 0 to the counts of a mold_taken and to the other fields of a mold_delivery. All other outputs keep their
+ * values. A call that returns MOLD_E_BROKEN, MOLD_E_LINE or MOLD_E_TIME writes nothing at all. Other codes of which
+ * this is true are listed with "writes nothing". The meaning of a code never changes.
  *
  * MOLD_E_MEMORY means that an allocation failed. The same call may succeed later.
  *
@@ -481,10 +483,11 @@ void mold_repair_options_default(mold_repair_options *options);
 /* Makes a repairer for a session. Later, only messages need memory.
  *
  *   MOLD_E_BROKEN     the handle is not empty.
- *   MOLD_E_OPTIONS    the size is not that of this version, or an option other than `next` and `window` is outside its
- *                     range.
+ *   MOLD_E_OPTIONS    the size is not that of this version, or an option other than `next`, `window` and `store` is
+ *                     outside its range.
  *   MOLD_E_NEXT_ZERO  `next` is 0.
  *   MOLD_E_WINDOW     `window` is not 1 to 1,048,576.
+ *   MOLD_E_OPTIONS    `store` is 1 to 65,506.
  *   MOLD_E_MEMORY     an allocation failed; the handle is empty. */
 uint32_t mold_repairer_new(mold_repairer *repairer, const uint8_t session[10], const mold_repair_options *options);
 

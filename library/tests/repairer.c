@@ -44,13 +44,13 @@ static void repairers_that_cannot_be(void) {
     options.size = sizeof options - 8;
     CODE(mold_repairer_new(&repairer, session, &options), MOLD_E_OPTIONS);
     options.size = sizeof options;
+    options.store = 65506;
     CODE(mold_repairer_new(&repairer, session, &options), MOLD_E_NEXT_ZERO);
     options.next = 1;
     CODE(mold_repairer_new(&repairer, session, &options), MOLD_E_WINDOW);
     options.window = 1048577;
     CODE(mold_repairer_new(&repairer, session, &options), MOLD_E_WINDOW);
     options.window = 1048576;
-    options.store = 65506;
     CODE(mold_repairer_new(&repairer, session, &options), MOLD_E_OPTIONS);
     CHECK(repairer.at == NULL && !repairer.live);
     options.store = 65507;

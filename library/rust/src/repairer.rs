@@ -51,9 +51,9 @@ impl Repairer {
     ///
     /// # Errors
     ///
-    /// [`Options`](Error::Options), if an option other than `next` and `window` is outside its range.
+    /// [`Options`](Error::Options), if an option other than `next`, `window` and `store` is outside its range.
     /// [`NextZero`](Error::NextZero), if `next` is 0. [`Window`](Error::Window), if `window` is not 1 to 1,048,576.
-    /// [`Memory`](Error::Memory).
+    /// [`Options`](Error::Options), if `store` is 1 to 65,506. [`Memory`](Error::Memory).
     pub fn new(session: Session, options: &RepairOptions) -> Result<Self, Error> {
         let options = options.to_sys();
         // SAFETY: The handle is empty.
