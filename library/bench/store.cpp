@@ -6,8 +6,15 @@
 //   refused    all messages of the window but the first are stored; the first is refused, since there is no memory to
 //              deliver them
 //
+// A second table has the times of a datagram with one empty message, if every second message of the window is stored in
+// a random order: the least of several rounds, and the first round, which takes its memory from the system. The ratios are
+// to as many datagrams in order.
+//
 //     c++ -O2 -std=c++17 library/bench/store.cpp library/out/libmold.a -o store && ./store
 #include "bench.hpp"
+
+#include <random>
+#include <utility>
 
 /// The most bytes that an allocation may have.
 static std::size_t most = SIZE_MAX;
@@ -83,9 +90,9 @@ double least(std::uint32_t window, const Datagrams &first, const Datagrams &time
     return best / static_cast<double>(timed.size());
 }
 
-double in_order(std::uint32_t window) {
+double in_order(std::uint32_t window, std::uint64_t count = at_once) {
     Datagrams timed;
-    for (std::uint64_t i = 0; i < at_once; i++)
+    for (std::uint64_t i = 0; i < count; i++)
         timed.push_back(datagram(1 + i, 1, 0));
     return least(window, {}, timed);
 }
@@ -119,6 +126,29 @@ double refused(std::uint32_t window) {
     return best / at_once;
 }
 
+/// The least time of a datagram and that of the first round, if every second message of the window is stored in a random
+/// order.
+std::pair<double, double> scattered(std::uint32_t window) {
+    std::vector<std::uint64_t> numbers;
+    for (std::uint64_t n = 2; n <= window; n += 2)
+        numbers.push_back(n);
+    std::shuffle(numbers.begin(), numbers.end(), std::mt19937_64(1));
+    Datagrams timed;
+    for (const std::uint64_t n : numbers)
+        timed.push_back(datagram(n, 1, 0));
+    double best = 1e18, first = 0;
+    for (int round = 0; round < rounds; round++) {
+        Listener listener(window);
+        const Clock::time_point began = Clock::now();
+        for (const std::vector<std::uint8_t> &bytes : timed)
+            listener.take(bytes);
+        const double time = since(began) / static_cast<double>(timed.size());
+        best = std::min(best, time);
+        first = round == 0 ? time : first;
+    }
+    return {best, first};
+}
+
 } // namespace
 
 int main() {
@@ -126,6 +156,13 @@ int main() {
     for (std::uint32_t window : {1024u, 65536u, 1048576u}) {
         const double plain = in_order(window), gaps = with_gaps(window), no = refused(window);
         std::printf("%-12u %10.1f %10.1f %10.1f %10.2f %10.2f\n", window, plain, gaps, no, gaps / plain, no / plain);
+    }
+    std::printf("\n%-12s %10s %10s %10s %10s %10s\n", "window", "in order", "scattered", "first", "ratio", "ratio");
+    for (std::uint32_t window : {1024u, 65536u, 1048576u}) {
+        const double plain = in_order(window, window / 2);
+        const auto [least, first] = scattered(window);
+        std::printf("%-12u %10.1f %10.1f %10.1f %10.2f %10.2f\n", window, plain, least, first, least / plain,
+                    first / plain);
     }
     return 0;
 }
