@@ -259,12 +259,12 @@ class Exchange:
     def requests(self):
         return sorted((request for port in self.servers for request in port.requests), key=lambda it: it.time)
 
-    def most_in_a_second(self):
-        """The most requests of a second."""
+    def most_in(self, seconds=1):
+        """The most requests of a second, or of another time."""
         times = [it.time for it in self.requests()]
         low, most = 0, 0
         for high, at in enumerate(times):
-            while times[low] <= at - 1:
+            while times[low] <= at - seconds:
                 low += 1
             most = max(most, high - low + 1)
         return most

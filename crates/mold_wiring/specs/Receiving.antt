@@ -1,17 +1,18 @@
 -- The repairer that an order of `receive` asks for.
-use Rattle.std.specs.Prelude.{◌≡◌, ℕ, ◌+◌, ◌-◌, ◌*◌, ◌/◌, [], length, min, Some}
+use Rattle.std.specs.Prelude.{◌≡◌, ℕ, ◌+◌, ◌-◌, ◌*◌, ◌/◌, [], length, max, min, Some}
 use Rattle.mold_receiver.specs.Fresh.{fresh_arbitration_within}
 use Rattle.mold_repair.specs.declared.options.RepairOptions.{RepairOptions}
 use Rattle.mold_repair.specs.declared.repairer.Repairer.{Repairer}
 use Rattle.mold_wire.specs.declared.session.Session.{Session}
-use Rattle.mold_wiring.specs.declared.receiving.TheConstants.{BYTES_PER_MIB, MOST_AT_ONCE, NANOS_PER_MICRO}
-use Rattle.mold_wiring.specs.declared.receiving.TheConstants.{NANOS_PER_MILLI}
-use Rattle.mold_wiring.specs.declared.receiving.TheConstants.{NANOS_PER_SECOND, SETTLE}
+use Rattle.mold_wiring.specs.declared.receiving.TheConstants.{AT_ONCE_PART, BYTES_PER_MIB, MOST_AT_ONCE}
+use Rattle.mold_wiring.specs.declared.receiving.TheConstants.{NANOS_PER_MICRO, NANOS_PER_MILLI, NANOS_PER_SECOND}
+use Rattle.mold_wiring.specs.declared.receiving.TheConstants.{SETTLE}
 use Rattle.mold_words.specs.declared.receive_order.ReceiveOrder.{ReceiveOrder}
 
--- How many requests may be sent at once, if this number may be sent in a second.
+-- How many requests may be sent at once, if this number may be sent in a second: an eighth of it, rounded down, but at
+-- most 32 and at least 1.
 abbrev pub request_bucket : ℕ → ℕ
-request_bucket requests = min requests MOST_AT_ONCE
+request_bucket requests = max (min (requests / AT_ONCE_PART) MOST_AT_ONCE) 1
 
 -- The number of requests in a second that are not sent at once.
 abbrev pub other_requests : ℕ → ℕ

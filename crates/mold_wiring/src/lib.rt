@@ -5,6 +5,7 @@
 mod addresses;
 mod ending;
 mod explaining;
+pub mod laws;
 mod limits;
 mod listening;
 mod opening;

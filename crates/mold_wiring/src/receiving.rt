@@ -18,8 +18,11 @@ const NANOS_PER_MICRO: u64 = 1000;
 
 const BYTES_PER_MIB: u64 = 1_048_576;
 
-/// The most requests that are sent at once.
+/// The most requests that may be sent at once, whatever the order allows in a second.
 const MOST_AT_ONCE: u32 = 32;
+
+/// Of the requests that the order allows in a second, one in this many may be sent at once.
+const AT_ONCE_PART: u32 = 8;
 
 /// How long a request stays in flight after a response that did not bring all of its numbers, in nanoseconds.
 const SETTLE: u64 = 2 * NANOS_PER_MILLI;
@@ -28,7 +31,7 @@ const SETTLE: u64 = 2 * NANOS_PER_MILLI;
 fn request_bucket(requests: u32) -> u32
     ensures { result ≡ request_bucket requests }
 {
-    requests.min(MOST_AT_ONCE)
+    (requests / AT_ONCE_PART).min(MOST_AT_ONCE).max(1)
 }
 
 // Returns the time after which another request may be sent, in nanoseconds, rounded up.
