@@ -6,7 +6,7 @@
 A release is a folder that works wherever it is unpacked. It has the programs mold and mold-join with their man pages
 and completions, the library as an archive and as a shared library, its headers and mold.pc, the bindings for Rust and
 Python, the examples, the documents and the licences. SHA256SUMS has the checksum of each file. PROVED has the version
-of the prover, and the crates of which it has proved every function. The version of a release is that of the library.
+of the prover, and the crates of which it has proved every function. The version of a release is that of the program and the library.
 
 The program is the one that ./mold runs, and the library the one that library/build provides. If they were not built from
 the present sources, they are proved and built first, which may take an hour and needs the toolchain. The same files make
@@ -237,11 +237,13 @@ def no_toolchain(release):
 
 
 def program(release):
-    """`mold` prints a packet, and mold-join becomes `mold`."""
+    """`mold` prints a packet and the version of the release, and mold-join becomes `mold`."""
     shown = passed_through("53455353494f4e30303100000000000000010000\n", f"{release}/bin/mold", "show")
     need(shown == b"heartbeat 53455353494f4e303031 1\n", f"mold show printed {shown}")
     joined = run(f"{release}/bin/mold-join", "--a", "239.192.1.1:26477", "--interface-a", HOST, "--", "--version")
-    need(joined == run(f"{release}/bin/mold", "--version"), f"mold-join printed {joined}")
+    printed = run(f"{release}/bin/mold", "--version")
+    need(joined == printed, f"mold-join printed {joined}")
+    need(os.path.basename(release).startswith(f"mold-{printed.split()[-1]}-"), f"{release} has {printed}")
 
 
 def free_ports(count):

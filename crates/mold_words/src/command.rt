@@ -15,8 +15,8 @@ use crate::table::{
 use clap::{Arg, ArgAction, Command};
 use std::alloc::{AllocError, Global};
 
-/// The version of the program.
-pub const VERSION: &str = "0.1.0";
+/// The version of the program, which is also that of the library.
+pub const VERSION: &str = "0.3.0";
 
 const ABOUT: &str = "Publish, serve, receive and check MoldUDP64 sessions";
 
