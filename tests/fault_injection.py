@@ -255,8 +255,9 @@ class Trial:
     own: list
     full: processes.Outcome = None
 
-    def run(self, environment):
-        """The outcome of the call, including its files and the datagrams that it sent."""
+    def run(self, environment, output=None):
+        """The outcome of the call, including its files and the datagrams that it sent. Its standard output is the given
+        one, if there is one."""
         call, folder = self.call, self.room.folder
         shutil.rmtree(folder, ignore_errors=True)
         os.mkdir(folder)
@@ -266,7 +267,7 @@ class Trial:
         arguments = [os.path.join(folder, it[1:]) if it.startswith("@") else it for it in call.arguments]
         for socket in self.own:
             udp_peers.arrived(socket)
-        with processes.running([self.mold, *arguments], call.given, environment) as process:
+        with processes.running([self.mold, *arguments], call.given, environment, output=output) as process:
             received = call.peer(process, self.own) if call.peer else []
             outcome = processes.finish(process)
         outcome.made = {name: processes.content_of(os.path.join(folder, name)) for name in (*call.files, *call.made)}

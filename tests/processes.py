@@ -44,15 +44,15 @@ def filled(file, some_bytes):
 
 
 @contextmanager
-def running(command, some_bytes=b"", environment=None, descriptors=(), folder=None):
+def running(command, some_bytes=b"", environment=None, descriptors=(), folder=None, output=None):
     """Runs a program with the files of this thread as its streams, and with these descriptors besides. It runs in the
-    folder, if one is given. A thread runs one program at a time. The program is killed when the context ends, or after
-    PATIENCE seconds."""
-    standard_input, output, errors = streams()
+    folder, if one is given, and writes to the output, if one is given. A thread runs one program at a time. The program
+    is killed when the context ends, or after PATIENCE seconds."""
+    standard_input, own_output, errors = streams()
     for file, content in zip(streams(), (some_bytes, b"", b"")):
         filled(file, content)
-    process = subprocess.Popen(command, stdin=standard_input, stdout=output, stderr=errors, env=environment,
-                               pass_fds=descriptors, cwd=folder)
+    process = subprocess.Popen(command, stdin=standard_input, stdout=own_output if output is None else output,
+                               stderr=errors, env=environment, pass_fds=descriptors, cwd=folder)
     watch = threading.Timer(PATIENCE, process.kill)
     watch.start()
     try:

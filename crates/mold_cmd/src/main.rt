@@ -3,6 +3,7 @@
 
 ghost use Rattle.mold_commands.specs.Command.{IsStreamed};
 
+mod broken_pipe;
 mod captures;
 mod checks;
 mod closed_streams;
@@ -10,6 +11,7 @@ mod input_check;
 mod progress;
 mod watched_lines;
 
+use broken_pipe::status_of;
 use captures::{check_captures, list_sessions, show_captures};
 use checks::{check_and_save, check_by_digest, check_each, run_extract};
 use closed_streams::ClosedStreams;
@@ -45,7 +47,7 @@ fn print_usage(rt: &HostRuntime, fault: UsageFault) -> ExitCode {
     match fault {
         UsageFault::Help { text } | UsageFault::Version { text } => match rt.print(text.as_str()) {
             Ok(()) => ExitCode::SUCCESS,
-            Err(_) => exit_code(&mut errors, Err(ProgramFault::Command(CommandFault::Write))),
+            Err(_) => status_of(&mut errors, Err(ProgramFault::Command(CommandFault::Write))),
         },
         UsageFault::Usage { text } => {
             let _ = rt.eprint(text.as_str());
@@ -225,5 +227,5 @@ fn main(rt: HostRuntime) -> ExitCode {
         Ok(order) => order,
         Err(fault) => return print_usage(&rt, fault),
     };
-    exit_code(&mut errors, run_unless_closed(&rt, &order, closed))
+    status_of(&mut errors, run_unless_closed(&rt, &order, closed))
 }
