@@ -22,12 +22,13 @@ _mold_options() {
     loop) printf '%s ' --session --limit --server-limit --window --burst --drop-a --drop-b --turns --report \
         --blocks --end-at-empty ;;
     upgrade) printf '%s ' --journal --to --close ;;
+    close) printf '%s ' --journal ;;
     dump) printf '%s ' --journal --follow --from --count --blocks --end-at-empty ;;
     esac
     printf '%s' --help
 }
 
-_mold_commands='show pack sim check extract sessions publish feed serve listen receive loop upgrade dump help'
+_mold_commands='show pack sim check extract sessions publish feed serve listen receive loop upgrade close dump help'
 
 # Completes a file name with -f, or the name of a folder with -d.
 _mold_files() {

@@ -137,6 +137,8 @@ def calls_of_files():
         Call("upgrade, a file with records", upgrade, files={"old": RECORDS}, made=("new",)),
         Call("upgrade over a file", upgrade, files={"old": OLD, "new": b"old content"}, made=("new",)),
         Call("upgrade, refused", upgrade, files={"old": OLD[:-1]}, made=("new",), status=2),
+        Call("close", ["close", "--journal", "@new"], files={"new": OPEN}, made=("new",)),
+        Call("close, refused", ["close", "--journal", "@new"], files={"new": RECORDS}, made=("new",), status=2),
         Call("dump", ["dump", "--journal", "@old"], files={"old": OLD}),
         Call("dump, a file with records", ["dump", "--journal", "@old"], files={"old": RECORDS}),
         Call("dump, refused", ["dump", "--journal", "@old"], files={"old": OLD[:-1]}, status=2),

@@ -151,6 +151,7 @@ COMMANDS = {
     "listen": "session next window a b server burst turns",
     "loop": "session limit server-limit window burst drop-a drop-b turns",
     "upgrade": "journal to",
+    "close": "journal",
     "dump": "journal from count",
 }
 
@@ -411,6 +412,21 @@ def upgrade(close, some_bytes):
     is_closed = close or journal.is_closed
     text = f"upgraded {len(journal.messages)} {'closed' if is_closed else 'open'}"
     return text_of([text]), 0, journal_file(journal.session, journal.messages, is_closed)
+
+
+def close(some_bytes):
+    """Also returns the file afterwards."""
+    try:
+        if len(some_bytes) >= 18 and not some_bytes.startswith(b"MOLDJNL3"):
+            raise Refused("BadMagic")
+        journal = journal_of(some_bytes)
+        if journal.is_closed:
+            raise Refused("Closed")
+    except Refused as why:
+        return text_of([f"refused {why}"]), 2, some_bytes
+    gate = 18 + sum(4 + len(it) for it in journal.messages)
+    closed = some_bytes[:gate] + b"\1\1\0" + some_bytes[gate + 3:]
+    return text_of([f"closed {len(journal.messages)}"]), 0, closed
 
 
 def messages_before(some_bytes):

@@ -144,7 +144,7 @@ LANES = (
         # Longer conditions of the network are not part of the gate.
         over_program("tests/repair"),
         over_program("tests/strangers"),
-        over_program("tests/feed"),
+        over_program("tests/feed", "tests/record_writes.c"),
         over_program("tests/long-lines"),
         over_program("tests/day"),
         over_program("tests/follow", "tests/durable", "tests/libraries.py", "tests/model.py",

@@ -112,7 +112,7 @@ fn needs_of(order: &Order) -> Needs {
             Judging::Save { journal: _ } => (reads_standard_input(&order.input), true, false),
             _ => (false, false, false),
         },
-        Order::Upgrade(_) => (false, true, false),
+        Order::Upgrade(_) | Order::Close(_) => (false, true, false),
         // All its text is printed on standard error.
         Order::Record(_) => (false, false, true),
         _ => (false, false, false),

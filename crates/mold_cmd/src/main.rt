@@ -20,7 +20,7 @@ use mold_commands::{
     DumpOptions, check_folder, dump_file, run_command, run_pack_journal, run_upgrade,
 };
 use mold_devices::{CommandFault, FromRead, IntoWrite};
-use mold_feed_command::run_feed;
+use mold_feed_command::{run_close, run_feed};
 use mold_loop::run_loop;
 use mold_sockets::{
     open_replaced, run_follow_dump, run_listen, run_publish, run_receive, run_record, run_serve,
@@ -201,6 +201,7 @@ fn run(rt: &HostRuntime, order: &Order) -> Result<u8, ProgramFault> {
         Order::Record(order) => run_record(rt, order),
         Order::Loop(order) => run_loop(rt, order),
         Order::Upgrade(files) => upgrade_files(rt, files),
+        Order::Close(order) => run_close(rt, order),
         Order::Dump(order) => Ok(run_dump(rt, order)?),
     }
 }

@@ -12,7 +12,7 @@ use Rattle.mold_words.specs.declared.sim_order.SimOrder.{SimOrder}
 use Rattle.mold_words.specs.declared.types.Order.{Order}
 use Rattle.mold_words.specs.declared.types.Order.TheVariants.{Show, Pack, PackJournal, Sim, Check, Extract}
 use Rattle.mold_words.specs.declared.types.Order.TheVariants.{Publish, Feed, Serve, Listen, Receive, Record, Loop}
-use Rattle.mold_words.specs.declared.types.Order.TheVariants.{Upgrade, Dump, ShowCaptures, Sessions}
+use Rattle.mold_words.specs.declared.types.Order.TheVariants.{Upgrade, Close, Dump, ShowCaptures, Sessions}
 
 -- The state of the simulation at the start of the order's script.
 abbrev pub sim_start : SimOrder → SimState
@@ -35,8 +35,8 @@ lines_status Lines (Whole false) input = check_status input
 lines_status _ _ input = 0
 
 -- The order reads lines or message blocks from a source and prints text: it is `show`, `pack` without a journal, `sim`
--- or `check -` without options. `pack` with a journal writes a file too. Other checks, an extraction, an upgrade, a dump
--- and the orders over captures read or write files, and the remaining orders use ports.
+-- or `check -` without options. `pack` with a journal writes a file too. Other checks, an extraction, an upgrade, a
+-- close, a dump and the orders over captures read or write files, and the remaining orders use ports.
 abbrev pub IsStreamed : Order → Type 0
 IsStreamed (Show requests) = ⊤
 IsStreamed (Pack order) = ⊤
@@ -54,6 +54,7 @@ IsStreamed (Receive order) = ⊥
 IsStreamed (Record order) = ⊥
 IsStreamed (Loop order) = ⊥
 IsStreamed (Upgrade order) = ⊥
+IsStreamed (Close order) = ⊥
 IsStreamed (Dump order) = ⊥
 
 -- The text that an order prints for the whole input. It is empty if the order is not `IsStreamed`.
@@ -74,6 +75,7 @@ text (Receive order) input = []
 text (Record order) input = []
 text (Loop order) input = []
 text (Upgrade order) input = []
+text (Close order) input = []
 text (Dump order) input = []
 
 -- The status of an order for the whole input: 0 if all is accepted, 2 if something is refused. For `check -` it is 1
@@ -95,4 +97,5 @@ status (Receive order) input = 0
 status (Record order) input = 0
 status (Loop order) input = 0
 status (Upgrade order) input = 0
+status (Close order) input = 0
 status (Dump order) input = 0

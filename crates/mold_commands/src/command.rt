@@ -65,6 +65,7 @@ pub fn run_command<S: Source, K: Sink>(
         | Order::Record(_)
         | Order::Loop(_)
         | Order::Upgrade(_)
+        | Order::Close(_)
         | Order::Dump(_) => unreachable!(),
     }
 }

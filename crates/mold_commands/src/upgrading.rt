@@ -1,4 +1,4 @@
-//! `mold upgrade`: writes a journal file again in the newest version of the format.
+//! `mold upgrade`: writes a journal file again in version 2 of the format.
 
 ghost use Rattle.std.specs.Prelude.{◌≡◌, ◌++◌, IfOk, Ok, OnOk, Result};
 ghost use Rattle.mold_commands.specs.Upgrade.{IsUpgradeOutcome, PrintsOutcome, PrintsUpgrade, fault_of, upgrade_status};

@@ -28,8 +28,12 @@ pub(crate) fn fault_of(rt: &HostRuntime, path: &str, error: JournalFileError) ->
     }
 }
 
-// Prints why the file is refused, and returns the status, unless a device or an allocation failed.
-fn refuse_file<K: Sink>(alloc: Global, error: FileError, sink: &mut K) -> Result<u8, CommandFault> {
+/// Prints why the file is refused, and returns the status, unless a device or an allocation failed.
+pub(crate) fn refuse_file<K: Sink>(
+    alloc: Global,
+    error: FileError,
+    sink: &mut K,
+) -> Result<u8, CommandFault> {
     match device_fault(error) {
         Some(fault) => Err(fault),
         None => print_file_refusal(alloc, error, sink),

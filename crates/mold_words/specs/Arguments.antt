@@ -24,7 +24,7 @@ use Rattle.mold_words.specs.declared.start_options.StartOptions.{StartOptions}
 use Rattle.mold_words.specs.declared.types.Order.{Order}
 use Rattle.mold_words.specs.declared.types.Order.TheVariants.{Show, Pack, PackJournal, Sim, Check, Extract}
 use Rattle.mold_words.specs.declared.types.Order.TheVariants.{Publish, Serve, Listen, Receive, Record, Loop}
-use Rattle.mold_words.specs.declared.types.Order.TheVariants.{Feed, Upgrade, Dump}
+use Rattle.mold_words.specs.declared.types.Order.TheVariants.{Feed, Upgrade, Close, Dump}
 use Rattle.mold_words.specs.declared.types.Order.TheVariants.{ShowCaptures, Sessions}
 
 -- The model of the options that `sim` and `loop` share.
@@ -340,7 +340,7 @@ pub record ExtractArguments : Type 0 where
 
 -- The model of an order: the command and the values of its options. `pack` has a session, the maximum datagram
 -- length, how its input encodes the messages, and the journal file if there is one. `upgrade` has the two files and
--- whether the journal is closed.
+-- whether the journal is closed, and `close` its file.
 pub data Arguments : Type 0 where
   show_wanted : Bool → Arguments
   pack_wanted : List ℕ → ℕ → MessageFormat → Arguments
@@ -358,6 +358,7 @@ pub data Arguments : Type 0 where
   record_wanted : RecordArguments → Arguments
   loop_wanted : LoopArguments → Arguments
   upgrade_wanted : Text → Text → Bool → Arguments
+  close_wanted : Text → Arguments
   dump_wanted : DumpArguments → Arguments
 
 -- The model of the options of `listen` apart from its addresses and its output, as the program reads them.
@@ -578,6 +579,7 @@ view (Loop order) = loop_wanted (record {
   format = order.format;
 })
 view (Upgrade order) = upgrade_wanted (string_bytes order.journal) (string_bytes order.to) order.close
+view (Close order) = close_wanted (string_bytes order.journal)
 view (Dump order) = dump_wanted (record {
   journal = string_bytes order.journal;
   follow = order.follow;

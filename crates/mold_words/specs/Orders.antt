@@ -17,7 +17,7 @@ use Rattle.mold_words.specs.Arguments.{ReceiveArguments, ReceiverValues, Request
 use Rattle.mold_words.specs.Arguments.{StartValues, TimeArguments}
 use Rattle.mold_words.specs.Arguments.{InputArguments, from_captures, from_folder, from_lines}
 use Rattle.mold_words.specs.Arguments.{JudgingArguments, each_judged, saved_judged, whole_judged}
-use Rattle.mold_words.specs.Arguments.{check_wanted, dump_wanted, extract_wanted, feed_wanted}
+use Rattle.mold_words.specs.Arguments.{check_wanted, close_wanted, dump_wanted, extract_wanted, feed_wanted}
 use Rattle.mold_words.specs.Arguments.{listen_wanted, loop_wanted, pack_journal_wanted, pack_wanted, publish_wanted}
 use Rattle.mold_words.specs.Arguments.{receive_wanted, record_wanted, serve_wanted, show_wanted, sim_wanted}
 use Rattle.mold_words.specs.Arguments.{upgrade_wanted, CaptureArguments, sessions_wanted}
@@ -691,6 +691,10 @@ upgrade_of rows =
     (first_of (codes "to") rows))
     (first_of (codes "journal") rows)
 
+-- What `close` asks for with these options.
+unfoldable pub close_of : List Row → Option Arguments
+close_of rows = option_and_then (λ journal. Some (close_wanted journal)) (first_of (codes "journal") rows)
+
 -- What `dump` asks for with these options, if their values are valid.
 unfoldable pub dump_of : List Row → Option Arguments
 dump_of rows =
@@ -731,6 +735,7 @@ order_at name rows =
     else if bytes_eq name (codes "extract") then extract_of rows
     else if bytes_eq name (codes "sessions") then sessions_of rows
     else if bytes_eq name (codes "upgrade") then upgrade_of rows
+    else if bytes_eq name (codes "close") then close_of rows
     else if bytes_eq name (codes "dump") then dump_of rows
     else port_order_at name rows
 

@@ -125,6 +125,10 @@ upgrade_command = (
   (codes "journal", Required) ∷ (codes "to", Required) ∷ (codes "close", Flag) ∷ [],
 )
 
+-- The command `close` with its option.
+abbrev pub close_command : Text × List (Text × Kind)
+close_command = (codes "close", (codes "journal", Required) ∷ [])
+
 -- The command `dump` with its options.
 abbrev pub dump_command : Text × List (Text × Kind)
 dump_command = (
@@ -137,7 +141,7 @@ dump_command = (
 abbrev pub commands : List (Text × List (Text × Kind))
 commands = show_command ∷ pack_command ∷ sim_command ∷ check_command ∷ extract_command ∷ sessions_command
     ∷ publish_command ∷ feed_command ∷ serve_command ∷ listen_command ∷ receive_command ∷ loop_command
-    ∷ upgrade_command ∷ dump_command ∷ []
+    ∷ upgrade_command ∷ close_command ∷ dump_command ∷ []
 
 -- Whether the text is the name of a command.
 abbrev pub is_command : Text → Bool

@@ -2,15 +2,16 @@
 ghost use Rattle.std.specs.Prelude.{◌≡◌, [], IfOk, Some, false, fold, map};
 ghost use Rattle.clap.specs.Words.{app_of, new_rule, rule_of};
 ghost use Rattle.clap.specs.declared.builder.Command.TheViews.{out-Command as fields_of};
-ghost use Rattle.mold_words.specs.Words.{bare_app, check_command, command_app, commands, dump_command, extract_command};
-ghost use Rattle.mold_words.specs.Words.{feed_command, listen_command, loop_command, mold_app, pack_command};
-ghost use Rattle.mold_words.specs.Words.{publish_command, receive_command, rule_for, serve_command, sessions_command};
-ghost use Rattle.mold_words.specs.Words.{show_command, sim_command, upgrade_command, with_command, with_option};
+ghost use Rattle.mold_words.specs.Words.{bare_app, check_command, close_command, command_app, commands, dump_command};
+ghost use Rattle.mold_words.specs.Words.{extract_command, feed_command, listen_command, loop_command, mold_app};
+ghost use Rattle.mold_words.specs.Words.{pack_command, publish_command, receive_command, rule_for, serve_command};
+ghost use Rattle.mold_words.specs.Words.{sessions_command, show_command, sim_command, upgrade_command, with_command};
+ghost use Rattle.mold_words.specs.Words.{with_option};
 ghost use Rattle.mold_words.specs.Table.{command_of, option_of};
 
 use crate::table::{
-    CHECK, CommandRow, DUMP, EXTRACT, FEED, Kind, LISTEN, LOOP, OptionRow, PACK, PUBLISH, RECEIVE,
-    SERVE, SESSIONS, SHOW, SIM, UPGRADE, value_name,
+    CHECK, CLOSE, CommandRow, DUMP, EXTRACT, FEED, Kind, LISTEN, LOOP, OptionRow, PACK, PUBLISH,
+    RECEIVE, SERVE, SESSIONS, SHOW, SIM, UPGRADE, value_name,
 };
 use clap::{Arg, ArgAction, Command};
 use std::alloc::{AllocError, Global};
@@ -205,6 +206,12 @@ fn upgrade_row() -> CommandRow
     UPGRADE
 }
 
+fn close_row() -> CommandRow
+    ensures { command_of result ≡ close_command }
+{
+    CLOSE
+}
+
 fn dump_row() -> CommandRow
     ensures { command_of result ≡ dump_command }
 {
@@ -212,7 +219,7 @@ fn dump_row() -> CommandRow
 }
 
 // Returns the rows of the table.
-fn command_rows() -> [CommandRow; 14]
+fn command_rows() -> [CommandRow; 15]
     ensures { map command_of result ≡ commands }
 {
     [
@@ -229,6 +236,7 @@ fn command_rows() -> [CommandRow; 14]
         receive_row(),
         loop_row(),
         upgrade_row(),
+        close_row(),
         dump_row(),
     ]
 }

@@ -10,7 +10,8 @@ ghost use Rattle.mold_input.specs.declared.message_format.MessageFormat.TheVaria
 ghost use Rattle.mold_words.specs.Orders.{AreTaken, Say, order_of};
 ghost use Rattle.mold_words.specs.declared.extract_form.ExtractForm.TheVariants.{Blocks as blocks_written};
 ghost use Rattle.mold_words.specs.declared.extract_form.ExtractForm.TheVariants.{Lines as lines_written};
-ghost use Rattle.mold_words.specs.Arguments.{check_wanted, dump_wanted, each_judged, extract_wanted, feed_wanted};
+ghost use Rattle.mold_words.specs.Arguments.{check_wanted, close_wanted, dump_wanted, each_judged, extract_wanted};
+ghost use Rattle.mold_words.specs.Arguments.{feed_wanted};
 ghost use Rattle.mold_words.specs.Arguments.{from_captures, from_folder, from_lines, saved_judged, whole_judged};
 ghost use Rattle.mold_words.specs.Arguments.{listen_wanted, loop_wanted, sessions_wanted, show_captures_wanted};
 ghost use Rattle.mold_words.specs.IpAddresses.{ipv6_of};
@@ -768,6 +769,11 @@ pub fn upgrade_taken_law()
         (upgrade_wanted (codes "A") (codes "B") true) }
     ensures same { order_of
         (codes "upgrade" ∷ codes "--journal" ∷ codes "A" ∷ codes "--to" ∷ codes "A" ∷ []) ≡ None }
+{}
+
+/// `close --journal J` is accepted, and asks to close the journal in `J`.
+pub fn close_taken_law()
+    ensures { Say (codes "close" ∷ codes "--journal" ∷ codes "J" ∷ []) (close_wanted (codes "J")) }
 {}
 
 /// `dump --journal J` is accepted, and asks to print all messages of the journal in `J` from message 1 on, as lines.

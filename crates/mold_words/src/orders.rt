@@ -3,7 +3,7 @@
 ghost use Rattle.std.specs.Prelude.{◌≡◌, ◌⊎◌, ◌≤◌, MatchResult, None, Some, false, length, map, not, true};
 ghost use Rattle.clap.specs.Words.{found_of, rows_of, subcommand_rows_of};
 ghost use Rattle.mold_words.specs.NoOrders.{LacksOrder, LacksValue, is_address};
-ghost use Rattle.mold_words.specs.Orders.{check_of, dump_of, excludes_journal, extract_of, feed_of, kept_in};
+ghost use Rattle.mold_words.specs.Orders.{check_of, close_of, dump_of, excludes_journal, extract_of, feed_of, kept_in};
 ghost use Rattle.mold_words.specs.Orders.{lacks_address, listen_in, listen_of, loop_of, order_at, order_in, pack_of};
 ghost use Rattle.mold_words.specs.Orders.{port_order_at, publish_of, receive_in, receive_of, received, serve_of};
 ghost use Rattle.mold_words.specs.Orders.{sessions_of, show_of, sim_of, upgrade_of};
@@ -15,6 +15,7 @@ use crate::address::Address;
 use crate::address_checks::check_addresses;
 use crate::capture_options::{captures_in, check_unfiltered, is_given};
 use crate::check_order::CheckOrder;
+use crate::close_order::CloseOrder;
 use crate::dump_order::DumpOrder;
 use crate::extract_order::ExtractOrder;
 use crate::feed_options::{address_or_none, feed_times_in, sent_lines_in};
@@ -99,6 +100,7 @@ fn order_at(alloc: Global, name: &str, options: &ArgMatches<'_>) -> Result<Order
         "extract" => extract_order(alloc, options),
         "sessions" => sessions_order(alloc, options),
         "upgrade" => upgrade_order(alloc, options),
+        "close" => close_order(alloc, options),
         "dump" => dump_order(alloc, options),
         _ => port_order_at(alloc, name, options),
     }
@@ -163,6 +165,16 @@ fn upgrade_order(alloc: Global, options: &ArgMatches<'_>) -> Result<Order, NoOrd
         to: String::from_str(alloc, to)?,
         close: flag_in(options, "close"),
     }))
+}
+
+#[tactic(auto, unfolding(crate::specs::Orders::close_of))]
+fn close_order(alloc: Global, options: &ArgMatches<'_>) -> Result<Order, NoOrder>
+    ensures { MatchResult result
+        (λ order. close_of (rows_of (found_of options.now)) ≡ Some (view order))
+        (LacksOrder (close_of (rows_of (found_of options.now)))) }
+{
+    let journal = journal_in(alloc, options)?;
+    Ok(Order::Close(CloseOrder { journal }))
 }
 
 #[tactic(auto, unfolding(crate::specs::Orders::dump_of))]

@@ -786,6 +786,18 @@ pub static UPGRADE: CommandRow = CommandRow {
     example: "Example:\n  mold upgrade --journal old.journal --to new.journal",
 };
 
+/// The command `close`.
+pub static CLOSE: CommandRow = CommandRow {
+    name: "close",
+    about: "Close a journal file of version 3",
+    options: &[OptionRow {
+        name: "journal",
+        kind: Kind::Required,
+        help: "The journal file",
+    }],
+    example: "Example:\n  mold close --journal day.journal",
+};
+
 /// The command `dump`.
 pub static DUMP: CommandRow = CommandRow {
     name: "dump",

@@ -2,6 +2,7 @@
 
 use crate::capture_order::CaptureOrder;
 use crate::check_order::CheckOrder;
+use crate::close_order::CloseOrder;
 use crate::dump_order::DumpOrder;
 use crate::extract_order::ExtractOrder;
 use crate::feed_order::FeedOrder;
@@ -54,8 +55,10 @@ pub enum Order {
     Record(RecordOrder),
     /// Publishes a session, whose messages are read from standard input, and receives it in the same process.
     Loop(LoopOrder),
-    /// Writes the journal of one file to another one, in the newest version of the format.
+    /// Writes the journal of one file to another one, in version 2 of the format.
     Upgrade(UpgradeOrder),
+    /// Closes the journal of a file of version 3.
+    Close(CloseOrder),
     /// Prints the messages of a journal file, each as a line of hexadecimal digits.
     Dump(DumpOrder),
 }
