@@ -601,6 +601,7 @@ def sessions_text(chosen, files):
         key = target_of(datagram), packet and packet.session
         found.setdefault(key, []).append(packet)
     output = [line_of_session(target, session, packets) for (target, session), packets in found.items()]
+    output.append(f"skipped {reading.skipped} partial {reading.partial} unread {reading.unread}")
     return model.text_of(output + reading.faults), 2 if reading.faults else 0
 
 

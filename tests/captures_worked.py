@@ -485,8 +485,13 @@ def add_times():
     show("times by the interface", file, shown("0.001500000", BEAT_TEXT) + shown("1.500000000", END_TEXT))
 
 
-def sessions(name, file, text, status=0, options=""):
-    add(f"sessions: {name}", f"sessions --capture f{options}", file, text, status)
+def others(skipped=0, partial=0, unread=0):
+    """The line of `sessions` for the frames that are not datagrams that pass."""
+    return f"skipped {skipped} partial {partial} unread {unread}\n"
+
+
+def sessions(name, file, text, counted=(), options=""):
+    add(f"sessions: {name}", f"sessions --capture f{options}", file, text + others(*counted))
 
 
 def line(target="239.1.1.1:26400", session=HEX, datagrams=1, numbers="none none", beats=0, end="none"):
@@ -504,16 +509,23 @@ def add_sessions():
     text += f"to [{address(1)}]:26400 session none refused 1\n"
     sessions("in the order of their appearance", captures.classic(frames), text)
     sessions("filters", captures.classic(frames), line(session=HEX_OTHER, end="9") +
-             "to 239.1.1.1:26400 session none refused 2\n" + line(end="2"), 0, " --port 26400 --group 239.1.1.1")
-    sessions("no datagrams", captures.classic([b""]), "")
+             "to 239.1.1.1:26400 session none refused 2\n" + line(end="2"), [3], " --port 26400 --group 239.1.1.1")
+    sessions("no datagrams", captures.classic([b""]), "", [1])
+    cut = [to_group(ONE)[:60], to_group(BEAT), to_group(OTHER_END, port=1)[:60]]
+    sessions("datagrams of which the capture has 60 bytes", captures.classic(cut), line(beats=1), [0, 2])
+    sessions("the same of one port", captures.classic(cut), line(beats=1), [1, 1], " --port 26400")
+    sessions("MPLS alone", captures.classic(3 * [ethernet(bytes(4) + ipv4(udp(ONE)), (), 0x8847)]), "", [3])
+    file = captures.section() + captures.interface(6) + captures.interface()
+    file += captures.enhanced(b"token ring") + captures.enhanced(to_group(END), number=1) + captures.enhanced(b"")
+    sessions("a link type that is not read", file, line(end="2"), [0, 0, 2])
     greatest = S + b"\xff" * 8 + b"\0\2\0\1A\0\0"
     sessions("numbers past 64 bits", of_payloads(greatest), line(numbers="18446744073709551615 18446744073709551616"))
     sessions("number 0", of_payloads(S + bytes(8) + b"\0\1\0\1A"), line(numbers="0 0"))
     sessions("contradicting datagrams", of_payloads(ONE, ONE[:-1] + b"B"), line(datagrams=2, numbers="1 1"))
     add("sessions: several files", "sessions --capture a --capture b --capture c",
         {"a": of_payloads(ONE)[:-1], "b": of_payloads(BEAT, ONE), "c": of_payloads(END) + b"x"},
-        line(datagrams=3, numbers="1 1", beats=1, end="2") + "capture a Cut 24\ncapture c Cut 102\n", 2)
-    add("sessions: standard input", "sessions --capture -", {"-": of_payloads(END)}, line(end="2"))
+        line(datagrams=3, numbers="1 1", beats=1, end="2") + others() + "capture a Cut 24\ncapture c Cut 102\n", 2)
+    add("sessions: standard input", "sessions --capture -", {"-": of_payloads(END)}, line(end="2") + others())
 
 
 # Arguments that are refused. The program's library words the texts that begin with `error: `.

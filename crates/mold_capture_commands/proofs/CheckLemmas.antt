@@ -21,7 +21,7 @@ use Rattle.mold_capture_commands.specs.Captures.{counts_of, faults_text, founds_
 use Rattle.mold_capture_commands.specs.Checking.{CaptureFile, CheckState, all_files_taken, all_taken, beginning, file_taken}
 use Rattle.mold_capture_commands.specs.Checking.{frames_of, founds, no_captures, taken, check_text, check_status}
 use Rattle.mold_capture_commands.specs.Captures.{captures_status, captures_text, each_captures_status, each_captures_text}
-use Rattle.mold_capture_commands.specs.Counts.{counts_text, is_partial, is_passed, is_skipped, is_unread, more_if}
+use Rattle.mold_capture_commands.specs.Counts.{counts_text, is_partial, is_passed, is_skipped, is_unread, more_if, no_counts}
 use Rattle.mold_capture_commands.specs.Faults.{fault_text}
 use Rattle.mold_capture_commands.specs.Filter.{Found, Passed, Skipped, Partial, Unread, found}
 use Rattle.mold_capture_commands.specs.declared.filter.CaptureFilter.{CaptureFilter}
@@ -93,7 +93,7 @@ taken_all judging filter start now (Some input) (Some xs) format fault so gives 
 -- ---- the law: a list of frames
 
 -- The number of frames of a kind, counted one by one.
-abbrev folded : (Found → Bool) → ℕ → List Found → ℕ
+abbrev pub folded : (Found → Bool) → ℕ → List Found → ℕ
 folded test count [] = count
 folded test count (found ∷ list) = folded test (more_if (test found) count) list
 
@@ -125,22 +125,18 @@ folded_all test list =
     ∙ ap (λ (n : ℕ). min n (2 ^ 64 - 1))
     (let e : 0 + length (filter test list) ≡ length (filter test list) = omega arith in e)
 
-counts_folded : {S : Type 0} (judging : Judging S) (s : FrameCheck S) (list : List Found) →
-    (all_taken judging s list).counts ≡ record {
-      datagrams = folded is_passed s.counts.datagrams list;
-      skipped = folded is_skipped s.counts.skipped list;
-      partial = folded is_partial s.counts.partial list;
-      unread = folded is_unread s.counts.unread list;
-    }
-unfolding all_taken
-counts_folded judging s [] = refl
-counts_folded judging s (first ∷ list) = counts_folded judging (taken judging s first) list
+-- The numbers of frames of each kind, counted one by one.
+abbrev pub all_folded : CaptureCounts → List Found → CaptureCounts
+all_folded counts list = record {
+  datagrams = folded is_passed counts.datagrams list;
+  skipped = folded is_skipped counts.skipped list;
+  partial = folded is_partial counts.partial list;
+  unread = folded is_unread counts.unread list;
+}
 
-counts_are : {S : Type 0} (judging : Judging S) (list : List Found) →
-    (all_taken judging (beginning judging.begins) list).counts ≡ counts_of list
-counts_are judging list =
-    counts_folded judging (beginning judging.begins) list
-    ∙ ap (λ (n : ℕ). record { datagrams = n; skipped = folded is_skipped 0 list; partial = folded is_partial 0 list; unread = folded is_unread 0 list })
+pub all_folded_are : (list : List Found) → all_folded no_counts list ≡ counts_of list
+all_folded_are list =
+    ap (λ (n : ℕ). record { datagrams = n; skipped = folded is_skipped 0 list; partial = folded is_partial 0 list; unread = folded is_unread 0 list })
     (folded_all is_passed list)
     ∙ ap (λ (n : ℕ). record { datagrams = number_of is_passed list; skipped = n; partial = folded is_partial 0 list; unread = folded is_unread 0 list })
     (folded_all is_skipped list)
@@ -148,6 +144,16 @@ counts_are judging list =
     (folded_all is_partial list)
     ∙ ap (λ (n : ℕ). record { datagrams = number_of is_passed list; skipped = number_of is_skipped list; partial = number_of is_partial list; unread = n })
     (folded_all is_unread list)
+
+counts_folded : {S : Type 0} (judging : Judging S) (s : FrameCheck S) (list : List Found) →
+    (all_taken judging s list).counts ≡ all_folded s.counts list
+unfolding all_taken
+counts_folded judging s [] = refl
+counts_folded judging s (first ∷ list) = counts_folded judging (taken judging s first) list
+
+counts_are : {S : Type 0} (judging : Judging S) (list : List Found) →
+    (all_taken judging (beginning judging.begins) list).counts ≡ counts_of list
+counts_are judging list = counts_folded judging (beginning judging.begins) list ∙ all_folded_are list
 
 judgement_is : (s : FrameCheck Judgement) (list : List Found) →
     (all_taken datagram_judging s list).judge ≡ all_added s.judge (one_more s.counts.datagrams) (payloads list)

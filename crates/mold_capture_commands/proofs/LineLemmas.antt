@@ -12,10 +12,11 @@ use Rattle.mold_wire.specs.declared.error.DecodeError.{DecodeError}
 use Rattle.mold_wire.specs.declared.packet.Packet.{Packet}
 use Rattle.mold_capture_commands.specs.Filter.{Found, Passed, Skipped, Partial, Unread}
 use Rattle.mold_capture_commands.specs.Pairs.{distinct, pair_of, readings_of, same_pair, tally_of}
-use Rattle.mold_capture_commands.specs.SessionState.{all_lines, lines_more, lines_text, lines_with, no_tally, tally_more}
+use Rattle.mold_capture_commands.specs.SessionState.{all_counted, frame_counted, lines_more, lines_text, no_tally, nothing_counted, tally_more}
 use Rattle.mold_capture_commands.specs.Sessions.{datagrams, pair_text, pairs_text}
 use Rattle.mold_capture_commands.specs.declared.pair.Pair.{Pair}
 use Rattle.mold_capture_commands.specs.declared.pair_tally.PairTally.{PairTally}
+use Rattle.mold_capture_commands.specs.declared.session_frames.SessionFrames.{SessionFrames}
 use Rattle.mold_capture_commands.proofs.PairLemmas.{pair_apart, pair_law, pair_equal, pair_same, tallied, tally_is}
 
 -- ---- filters
@@ -132,13 +133,13 @@ line_in list pair = (pair, tallied no_tally (readings_of pair list))
 abbrev lines_in : List Datagram → List (Pair × PairTally)
 lines_in list = map (line_in list) (distinct (map pair_of list))
 
-lines_are : (lines : List (Pair × PairTally)) (list : List Found) → all_lines lines list ≡ all_noted lines (datagrams list)
-unfolding all_lines datagrams
-lines_are lines [] = refl
-lines_are lines (Passed d ∷ list) = lines_are (lines_with lines (Passed d)) list
-lines_are lines (Skipped ∷ list) = lines_are lines list
-lines_are lines (Partial ∷ list) = lines_are lines list
-lines_are lines (Unread ∷ list) = lines_are lines list
+lines_are : (s : SessionFrames) (list : List Found) → (all_counted s list).lines ≡ all_noted s.lines (datagrams list)
+unfolding all_counted datagrams
+lines_are s [] = refl
+lines_are s (Passed d ∷ list) = lines_are (frame_counted s (Passed d)) list
+lines_are s (Skipped ∷ list) = lines_are (frame_counted s Skipped) list
+lines_are s (Partial ∷ list) = lines_are (frame_counted s Partial) list
+lines_are s (Unread ∷ list) = lines_are (frame_counted s Unread) list
 
 -- The first line counts its datagrams, and the others count the rest.
 abbrev IsFirstLine : Pair → PairTally → List (Pair × PairTally) → List Datagram → Type 0
@@ -225,9 +226,9 @@ text_in list [] = refl
 text_in list (pair ∷ pairs) =
     λ i. pair_text pair (tally_is (readings_of pair list) i) ++ text_in list pairs i
 
-pub pairs_are : (list : List Found) → lines_text (all_lines [] list) ≡ pairs_text (datagrams list)
+pub pairs_are : (list : List Found) → lines_text (all_counted nothing_counted list).lines ≡ pairs_text (datagrams list)
 pairs_are list =
-    ap lines_text (lines_are [] list ∙ noted_are (datagrams list))
+    ap lines_text (lines_are nothing_counted list ∙ noted_are (datagrams list))
     ∙ text_in (datagrams list) (distinct (map pair_of (datagrams list)))
 
 -- ---- one more datagram in the table

@@ -12,61 +12,62 @@ use Rattle.mold_pcap.specs.Reading.{GivesEnd, GivesFrame}
 use Rattle.mold_pcap.specs.declared.fault.CaptureFault.{CaptureFault}
 use Rattle.mold_capture_commands.specs.Captures.{faults_text, founds_of, has_fault}
 use Rattle.mold_capture_commands.specs.Checking.{CaptureFile, founds}
+use Rattle.mold_capture_commands.specs.Counts.{others_text}
 use Rattle.mold_capture_commands.specs.Faults.{fault_text}
 use Rattle.mold_capture_commands.specs.Filter.{Found, Passed, Skipped, Partial, found, passes, passes_target}
-use Rattle.mold_capture_commands.specs.SessionState.{HasTarget, SessionState, all_lines, all_sessions_taken, lines_text, lines_with}
-use Rattle.mold_capture_commands.specs.SessionState.{no_sessions, sessions_taken, state_status, state_text}
+use Rattle.mold_capture_commands.specs.SessionState.{HasTarget, SessionState, all_counted, all_sessions_taken, frame_counted, lines_text}
+use Rattle.mold_capture_commands.specs.SessionState.{no_sessions, nothing_counted, sessions_taken, state_status, state_text}
 use Rattle.mold_capture_commands.specs.Sessions.{sessions_status, sessions_text}
 use Rattle.mold_capture_commands.specs.declared.filter.CaptureFilter.{CaptureFilter}
-use Rattle.mold_capture_commands.specs.declared.pair.Pair.{Pair}
-use Rattle.mold_capture_commands.specs.declared.pair_tally.PairTally.{PairTally}
+use Rattle.mold_capture_commands.specs.declared.session_frames.SessionFrames.{SessionFrames}
+use Rattle.mold_capture_commands.proofs.CheckLemmas.{all_folded, all_folded_are}
 use Rattle.mold_capture_commands.proofs.LineLemmas.{pairs_are}
 
 -- ---- frames that were counted
 
 -- Of the known capture, some frames were counted. The remaining ones lead to the same lines as all frames do.
-abbrev pub CountedSoFar : CaptureFilter → List (Pair × PairTally) → List (Pair × PairTally) → Option (List ℕ) → FormatState → Option (List ℕ) → Type 0
+abbrev pub CountedSoFar : CaptureFilter → SessionFrames → SessionFrames → Option (List ℕ) → FormatState → Option (List ℕ) → Type 0
 CountedSoFar filter start now None format left = Unit {0}
 CountedSoFar filter start now (Some input) format None = ⊥
 CountedSoFar filter start now (Some input) format (Some left) =
-    (all_lines start (founds filter (capture_of input).frames) ≡ all_lines now (founds filter (captured format left).frames))
+    (all_counted start (founds filter (capture_of input).frames) ≡ all_counted now (founds filter (captured format left).frames))
     × ((capture_of input).fault ≡ (captured format left).fault)
 
 -- No frame was counted.
-pub counted_none : (filter : CaptureFilter) (start : List (Pair × PairTally)) (known : Option (List ℕ)) (format : FormatState)
+pub counted_none : (filter : CaptureFilter) (start : SessionFrames) (known : Option (List ℕ)) (format : FormatState)
     (rest : List ℕ) → format ≡ at_start → rest ≡ [] → CountedSoFar filter start start known format (prepend_known rest known)
 counted_none filter start None format rest is none = tt
 counted_none filter start (Some input) format rest is none = (
-  ap (λ (b : List ℕ). all_lines start (founds filter (captured at_start b).frames)) (ap (λ (r : List ℕ). r ++ input) (sym none))
-      ∙ ap (λ (f : FormatState). all_lines start (founds filter (captured f (rest ++ input)).frames)) (sym is),
+  ap (λ (b : List ℕ). all_counted start (founds filter (captured at_start b).frames)) (ap (λ (r : List ℕ). r ++ input) (sym none))
+      ∙ ap (λ (f : FormatState). all_counted start (founds filter (captured f (rest ++ input)).frames)) (sym is),
   ap (λ (b : List ℕ). (captured at_start b).fault) (ap (λ (r : List ℕ). r ++ input) (sym none))
       ∙ ap (λ (f : FormatState). (captured f (rest ++ input)).fault) (sym is),
 )
 
 -- One more frame was counted.
-pub counted_more : (filter : CaptureFilter) (start now next : List (Pair × PairTally)) (known left behind : Option (List ℕ))
+pub counted_more : (filter : CaptureFilter) (start now next : SessionFrames) (known left behind : Option (List ℕ))
     (format later : FormatState) (frame : Frame) → CountedSoFar filter start now known format left →
-    GivesFrame format left frame later behind → next ≡ lines_with now (found filter (carried frame.link frame.bytes)) →
+    GivesFrame format left frame later behind → next ≡ frame_counted now (found filter (carried frame.link frame.bytes)) →
     CountedSoFar filter start next known later behind
-unfolding all_lines
+unfolding all_counted
 counted_more filter start now next None left behind format later frame so gives is = tt
 counted_more filter start now next (Some input) None behind format later frame so gives is = absurd so
 counted_more filter start now next (Some input) (Some xs) None format later frame so gives is = absurd gives
 counted_more filter start now next (Some input) (Some xs) (Some ys) format later frame so gives is = (
-  so.0 ∙ ap (λ c. all_lines now (founds filter c.frames)) gives
-      ∙ ap (λ (l : List (Pair × PairTally)). all_lines l (founds filter (captured later ys).frames)) (sym is),
+  so.0 ∙ ap (λ c. all_counted now (founds filter c.frames)) gives
+      ∙ ap (λ (s : SessionFrames). all_counted s (founds filter (captured later ys).frames)) (sym is),
   so.1 ∙ ap (λ c. c.fault) gives,
 )
 
 -- All frames were counted.
-pub counted_all : (filter : CaptureFilter) (start now : List (Pair × PairTally)) (known left : Option (List ℕ)) (format : FormatState)
+pub counted_all : (filter : CaptureFilter) (start now : SessionFrames) (known left : Option (List ℕ)) (format : FormatState)
     (fault : Option CaptureFault) → CountedSoFar filter start now known format left → GivesEnd format left fault →
-    IfSome known (λ input. (now ≡ all_lines start (founds filter (capture_of input).frames)) × (fault ≡ (capture_of input).fault))
-unfolding all_lines
+    IfSome known (λ input. (now ≡ all_counted start (founds filter (capture_of input).frames)) × (fault ≡ (capture_of input).fault))
+unfolding all_counted
 counted_all filter start now None left format fault so gives = tt
 counted_all filter start now (Some input) None format fault so gives = absurd so
 counted_all filter start now (Some input) (Some xs) format fault so gives = (
-  sym (so.0 ∙ ap (λ c. all_lines now (founds filter c.frames)) gives),
+  sym (so.0 ∙ ap (λ c. all_counted now (founds filter c.frames)) gives),
   sym (so.1 ∙ ap (λ c. c.fault) gives),
 )
 
@@ -95,19 +96,24 @@ found_target filter UnreadLink has = tt
 
 -- ---- the law: a list of files
 
-lines_append : (lines : List (Pair × PairTally)) (list more : List Found) →
-    all_lines lines (list ++ more) ≡ all_lines (all_lines lines list) more
-unfolding all_lines
-lines_append lines [] more = refl
-lines_append lines (first ∷ list) more = lines_append (lines_with lines first) list more
+counted_append : (s : SessionFrames) (list more : List Found) →
+    all_counted s (list ++ more) ≡ all_counted (all_counted s list) more
+unfolding all_counted
+counted_append s [] more = refl
+counted_append s (first ∷ list) more = counted_append (frame_counted s first) list more
 
-lines_all : (filter : CaptureFilter) (s : SessionState) (files : List CaptureFile) →
-    (all_sessions_taken filter s files).lines ≡ all_lines s.lines (founds_of filter files)
-unfolding all_lines all_sessions_taken
-lines_all filter s [] = refl
-lines_all filter s (file ∷ files) =
-    lines_all filter (sessions_taken filter s file.name file.bytes) files
-    ∙ sym (lines_append s.lines (founds filter (capture_of file.bytes).frames) (founds_of filter files))
+frames_all : (filter : CaptureFilter) (s : SessionState) (files : List CaptureFile) →
+    (all_sessions_taken filter s files).frames ≡ all_counted s.frames (founds_of filter files)
+unfolding all_counted all_sessions_taken
+frames_all filter s [] = refl
+frames_all filter s (file ∷ files) =
+    frames_all filter (sessions_taken filter s file.name file.bytes) files
+    ∙ sym (counted_append s.frames (founds filter (capture_of file.bytes).frames) (founds_of filter files))
+
+counts_folded : (s : SessionFrames) (list : List Found) → (all_counted s list).counts ≡ all_folded s.counts list
+unfolding all_counted
+counts_folded s [] = refl
+counts_folded s (first ∷ list) = counts_folded (frame_counted s first) list
 
 faults_all : (filter : CaptureFilter) (s : SessionState) (files : List CaptureFile) →
     (all_sessions_taken filter s files).faults ≡ s.faults ++ faults_text files
@@ -136,9 +142,13 @@ at_fault_all filter s (file ∷ files) =
 pub text_is : (filter : CaptureFilter) (files : List CaptureFile) →
     state_text (all_sessions_taken filter no_sessions files) ≡ sessions_text filter files
 text_is filter files =
-    let lines = ap lines_text (lines_all filter no_sessions files) ∙ pairs_are (founds_of filter files) in
+    let list = founds_of filter files in
+    let frames = frames_all filter no_sessions files in
+    let lines = ap (λ (s : SessionFrames). lines_text s.lines) frames ∙ pairs_are list in
+    let others = ap (λ (s : SessionFrames). others_text s.counts) frames
+    ∙ ap others_text (counts_folded nothing_counted list ∙ all_folded_are list) in
     let faults = faults_all filter no_sessions files in
-    (λ i. lines i ++ faults i)
+    (λ i. lines i ++ (others i ++ faults i))
 
 pub status_is : (filter : CaptureFilter) (files : List CaptureFile) →
     state_status (all_sessions_taken filter no_sessions files) ≡ sessions_status files

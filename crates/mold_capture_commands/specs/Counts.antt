@@ -56,3 +56,9 @@ abbrev pub counts_text : CaptureCounts → List ℕ
 counts_text counts = line_of (
     codes "datagrams" ∷ decimal counts.datagrams ∷ codes "skipped" ∷ decimal counts.skipped
     ∷ codes "partial" ∷ decimal counts.partial ∷ codes "unread" ∷ decimal counts.unread ∷ [])
+
+-- The line of the other frames: those that are not datagrams that pass.
+abbrev pub others_text : CaptureCounts → List ℕ
+others_text counts = line_of (
+    codes "skipped" ∷ decimal counts.skipped ∷ codes "partial" ∷ decimal counts.partial
+    ∷ codes "unread" ∷ decimal counts.unread ∷ [])

@@ -9,7 +9,7 @@ use Rattle.mold_wire.specs.Reading.{reading}
 use Rattle.mold_wire.specs.declared.error.DecodeError.{DecodeError}
 use Rattle.mold_wire.specs.declared.packet.Packet.{Packet}
 use Rattle.mold_capture_commands.specs.Checking.{CaptureFile, founds}
-use Rattle.mold_capture_commands.specs.Counts.{more_if}
+use Rattle.mold_capture_commands.specs.Counts.{counted, more_if, no_counts, others_text}
 use Rattle.mold_capture_commands.specs.Faults.{fault_text}
 use Rattle.mold_capture_commands.specs.Filter.{Found, Passed, Skipped, Partial, Unread}
 use Rattle.mold_capture_commands.specs.Pairs.{carried_numbers, end_numbers, greatest, is_heartbeat, joint, last}
@@ -18,6 +18,7 @@ use Rattle.mold_capture_commands.specs.Sessions.{pair_text}
 use Rattle.mold_capture_commands.specs.declared.filter.CaptureFilter.{CaptureFilter}
 use Rattle.mold_capture_commands.specs.declared.pair.Pair.{Pair}
 use Rattle.mold_capture_commands.specs.declared.pair_tally.PairTally.{PairTally}
+use Rattle.mold_capture_commands.specs.declared.session_frames.SessionFrames.{SessionFrames}
 
 -- What is counted of no datagram.
 abbrev pub no_tally : PairTally
@@ -55,25 +56,33 @@ HasTarget Skipped = ⊤
 HasTarget Partial = ⊤
 HasTarget Unread = ⊤
 
--- The pairs after the frames.
-unfoldable pub all_lines : List (Pair × PairTally) → List Found → List (Pair × PairTally)
-all_lines lines [] = lines
-all_lines lines (found ∷ list) = all_lines (lines_with lines found) list
+-- Before the first frame.
+abbrev pub nothing_counted : SessionFrames
+nothing_counted = record { counts = no_counts; lines = [] }
 
--- The state of a `Sessions`: the pairs, and the lines of the files at fault.
+-- What is counted after one more frame.
+abbrev pub frame_counted : SessionFrames → Found → SessionFrames
+frame_counted s found = record { counts = counted s.counts found; lines = lines_with s.lines found }
+
+-- What is counted after the frames.
+unfoldable pub all_counted : SessionFrames → List Found → SessionFrames
+all_counted s [] = s
+all_counted s (found ∷ list) = all_counted (frame_counted s found) list
+
+-- The state of a `Sessions`: what is counted of the frames, and the lines of the files at fault.
 pub record SessionState : Type 0 where
-  pub lines : List (Pair × PairTally)
+  pub frames : SessionFrames
   pub faults : List ℕ
   pub at_fault : Bool
 
 -- Before the first file.
 abbrev pub no_sessions : SessionState
-no_sessions = record { lines = []; faults = []; at_fault = false }
+no_sessions = record { frames = nothing_counted; faults = []; at_fault = false }
 
--- The state after one more file, which leads to these pairs.
-abbrev pub sessions_with : SessionState → List (Pair × PairTally) → List ℕ → Capture → SessionState
-sessions_with s lines name capture = record {
-  lines = lines;
+-- The state after one more file, which leads to these counts and pairs.
+abbrev pub sessions_with : SessionState → SessionFrames → List ℕ → Capture → SessionState
+sessions_with s frames name capture = record {
+  frames = frames;
   faults = s.faults ++ fault_text name capture.fault;
   at_fault = s.at_fault || is_some capture.fault;
 }
@@ -81,7 +90,7 @@ sessions_with s lines name capture = record {
 -- The state after one more file, which has this name and these bytes.
 abbrev pub sessions_taken : CaptureFilter → SessionState → List ℕ → List ℕ → SessionState
 sessions_taken filter s name bytes =
-    sessions_with s (all_lines s.lines (founds filter (capture_of bytes).frames)) name (capture_of bytes)
+    sessions_with s (all_counted s.frames (founds filter (capture_of bytes).frames)) name (capture_of bytes)
 
 -- The state after the files.
 unfoldable pub all_sessions_taken : CaptureFilter → SessionState → List CaptureFile → SessionState
@@ -95,7 +104,7 @@ lines_text lines = flat_map (λ line. pair_text line.0 line.1) lines
 
 -- What is printed after the last file.
 abbrev pub state_text : SessionState → List ℕ
-state_text s = lines_text s.lines ++ s.faults
+state_text s = lines_text s.frames.lines ++ (others_text s.frames.counts ++ s.faults)
 
 -- The exit status after the last file.
 abbrev pub state_status : SessionState → ℕ

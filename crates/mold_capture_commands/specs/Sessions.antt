@@ -7,8 +7,9 @@ use Rattle.mold_frame.specs.IpAddress.{address_bytes}
 use Rattle.mold_text.specs.Line.{line_of}
 use Rattle.mold_wire.specs.declared.session.Session.{Session}
 use Rattle.mold_capture_commands.specs.Address.{endpoint_text}
-use Rattle.mold_capture_commands.specs.Captures.{faults_text, founds_of, has_fault}
+use Rattle.mold_capture_commands.specs.Captures.{counts_of, faults_text, founds_of, has_fault}
 use Rattle.mold_capture_commands.specs.Checking.{CaptureFile}
+use Rattle.mold_capture_commands.specs.Counts.{others_text}
 use Rattle.mold_capture_commands.specs.Filter.{Found, Passed, Skipped, Partial, Unread}
 use Rattle.mold_capture_commands.specs.Pairs.{distinct, pair_of, readings_of, tally_of}
 use Rattle.mold_capture_commands.specs.declared.filter.CaptureFilter.{CaptureFilter}
@@ -59,9 +60,12 @@ pair_text pair tally = line_of (
 abbrev pub pairs_text : List Datagram → List ℕ
 pairs_text list = flat_map (λ pair. pair_text pair (tally_of (readings_of pair list))) (distinct (map pair_of list))
 
--- What is printed for the files.
+-- What is printed for the files: the lines of the pairs, the counts of the other frames, and the lines of the files at
+-- fault.
 abbrev pub sessions_text : CaptureFilter → List CaptureFile → List ℕ
-sessions_text filter files = pairs_text (datagrams_of filter files) ++ faults_text files
+sessions_text filter files =
+    pairs_text (datagrams_of filter files)
+    ++ (others_text (counts_of (founds_of filter files)) ++ faults_text files)
 
 -- The exit status: 2 if a file is at fault, otherwise 0.
 abbrev pub sessions_status : List CaptureFile → ℕ

@@ -2,7 +2,7 @@
 
 ghost use Rattle.std.specs.Prelude.{◌≡◌, ◌++◌, OnOk};
 ghost use Rattle.mold_capture_commands.specs.Filter.{lent_found};
-ghost use Rattle.mold_capture_commands.specs.Counts.{counted, counts_text, no_counts};
+ghost use Rattle.mold_capture_commands.specs.Counts.{counted, counts_text, no_counts, others_text};
 
 use crate::found::Found;
 use mold_text::{Word, push_line};
@@ -57,6 +57,23 @@ pub(crate) fn push_counts(text: &mut Vec<u8>, counts: CaptureCounts) -> Result<(
         &[
             Word::Text(b"datagrams"),
             Word::Number(counts.datagrams),
+            Word::Text(b"skipped"),
+            Word::Number(counts.skipped),
+            Word::Text(b"partial"),
+            Word::Number(counts.partial),
+            Word::Text(b"unread"),
+            Word::Number(counts.unread),
+        ],
+    )
+}
+
+/// Appends the line of `sessions` that counts the other frames: those that are not datagrams that pass.
+pub(crate) fn push_others(text: &mut Vec<u8>, counts: CaptureCounts) -> Result<(), AllocError>
+    ensures { OnOk result (text.new.items ≡ text.old.items ++ others_text counts) }
+{
+    push_line(
+        text,
+        &[
             Word::Text(b"skipped"),
             Word::Number(counts.skipped),
             Word::Text(b"partial"),

@@ -28,8 +28,6 @@ pub(crate) struct PairLines {
     map: IndexMap<Pair, PairTally>,
     // The index of the pair of the last datagram.
     last: usize,
-    // The datagrams so far. It stays at `u64::MAX` once it is there.
-    datagrams: u64,
 }
 
 impl Model for PairLines {
@@ -50,13 +48,7 @@ impl PairLines {
         PairLines {
             map: IndexMap::new(alloc),
             last: 0,
-            datagrams: 0,
         }
-    }
-
-    /// Returns the number of the datagrams so far. It stays at `u64::MAX` once it is there.
-    pub(crate) fn datagrams(&self) -> u64 {
-        self.datagrams
     }
 
     // Returns the index of the pair, if it is there.
@@ -122,7 +114,6 @@ impl PairLines {
         let Found::Passed(datagram) = found else {
             return Ok(());
         };
-        self.datagrams = self.datagrams.saturating_add(1);
         let read = decode(datagram.payload);
         self.add(Pair::new(&datagram, &read), &read)
     }

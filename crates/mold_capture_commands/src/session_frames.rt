@@ -1,31 +1,63 @@
 //! Reads the frames of captures for their sessions.
 
-ghost use Rattle.std.specs.Prelude.{◌≡◌, IfOk, IfSome};
+ghost use Rattle.std.specs.Prelude.{◌≡◌, IfOk, IfSome, OnOk};
 ghost use Rattle.mold_capture_commands.specs.Checking.{founds};
-ghost use Rattle.mold_capture_commands.specs.SessionState.{all_lines};
+ghost use Rattle.mold_capture_commands.specs.Filter.{lent_found};
+ghost use Rattle.mold_capture_commands.specs.SessionState.{HasTarget, all_counted, frame_counted, nothing_counted};
 ghost use Rattle.mold_devices.specs.Faults.{CountsRead};
 ghost use Rattle.mold_pcap.specs.Captures.{capture_of};
 
+use crate::counts::CaptureCounts;
 use crate::filter::CaptureFilter;
+use crate::found::Found;
 use crate::pair_lines::PairLines;
 use crate::watch::Watch;
 use mold_devices::{ReadFault, Source};
 use mold_frame::laws::address_law;
 use mold_frame::read_frame;
 use mold_pcap::{CaptureError, CaptureFault, CaptureReader};
-use std::alloc::Global;
+use std::alloc::{AllocError, Global};
 
-/// Reads a capture and counts its datagrams that pass. Returns the fault of the capture, if it has one. The frames
-/// before the fault are counted.
+/// What is counted of the frames of captures.
+#[derive(Drop)]
+pub(crate) struct SessionFrames {
+    pub(crate) counts: CaptureCounts,
+    pub(crate) lines: PairLines,
+}
+
+impl SessionFrames {
+    /// Returns the counts of no frame. This allocates nothing.
+    pub(crate) fn new(alloc: Global) -> SessionFrames
+        ensures { result ≡ nothing_counted }
+    {
+        SessionFrames {
+            counts: CaptureCounts::new(),
+            lines: PairLines::new(alloc),
+        }
+    }
+
+    // Counts the next frame. It returns an error if an allocation fails.
+    #[inline(always)]
+    fn take(&mut self, found: Found<'_>) -> Result<(), AllocError>
+        requires { HasTarget (lent_found found) }
+        ensures { OnOk result (self.new ≡ frame_counted self.old (lent_found found.entry)) }
+    {
+        self.counts.add(&found);
+        self.lines.take(found)
+    }
+}
+
+/// Reads a capture and counts its frames. Returns the fault of the capture, if it has one. The frames before the fault
+/// are counted. `watch` is called after each frame.
 pub(crate) fn read_sessions<S: Source, W: Watch>(
     alloc: Global,
     filter: &CaptureFilter,
     source: &mut S,
     watch: &mut W,
-    lines: &mut PairLines,
+    sessions: &mut SessionFrames,
 ) -> Result<Option<CaptureFault>, ReadFault>
     ensures taken { IfOk result (λ fault. IfSome (S.left source.old) (λ bytes.
-        (lines.new ≡ all_lines lines.old (founds filter.now (capture_of bytes).frames))
+        (sessions.new ≡ all_counted sessions.old (founds filter.now (capture_of bytes).frames))
         × (fault ≡ (capture_of bytes).fault))) }
     ensures failures { CountsRead (S.failed source.old) (S.failed source.new) result }
 {
@@ -34,8 +66,8 @@ pub(crate) fn read_sessions<S: Source, W: Watch>(
     'frames: loop {
         match reader.advance(source) {
             Ok(true) => {
-                lines.take(filter.find(read_frame(reader.link(), reader.frame())))?;
-                watch.watch(reader.position(), lines.datagrams());
+                sessions.take(filter.find(read_frame(reader.link(), reader.frame())))?;
+                watch.watch(reader.position(), sessions.counts.datagrams);
             }
             Ok(false) => return Ok(None),
             Err(CaptureError::Fault(fault)) => return Ok(Some(fault)),

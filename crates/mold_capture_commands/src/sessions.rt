@@ -6,10 +6,10 @@ ghost use Rattle.mold_capture_commands.specs.SessionState.{no_sessions, sessions
 ghost use Rattle.mold_devices.specs.Devices.{AppendsPrefix};
 ghost use Rattle.mold_devices.specs.Faults.{CountsRead, CountsSink};
 
+use crate::counts::push_others;
 use crate::faults::push_fault;
 use crate::filter::CaptureFilter;
-use crate::pair_lines::PairLines;
-use crate::session_frames::read_sessions;
+use crate::session_frames::{SessionFrames, read_sessions};
 use crate::watch::Watch;
 use mold_devices::{CommandFault, ReadFault, Sink, Source, send};
 use std::alloc::Global;
@@ -18,10 +18,11 @@ use std::marker::Model;
 /// The command `sessions --capture`: the destinations and sessions of the datagrams of captures, which are read one
 /// after the other.
 ///
-/// It keeps what it prints of each pair of destination and session, and the lines of the files at fault.
+/// It keeps what it prints of each pair of destination and session, the counts of the frames, and the lines of the files
+/// at fault.
 #[derive(Drop)]
 pub struct Sessions {
-    lines: PairLines,
+    frames: SessionFrames,
     // The lines of the files at fault.
     faults: Vec<u8>,
     at_fault: bool,
@@ -33,7 +34,7 @@ impl Model for Sessions {
 
     ghost Value = { SessionState };
 
-    ghost view = { λ s. record { lines = s.lines; faults = s.faults.items; at_fault = s.at_fault } };
+    ghost view = { λ s. record { frames = s.frames; faults = s.faults.items; at_fault = s.at_fault } };
 }
 
 impl Sessions {
@@ -42,7 +43,7 @@ impl Sessions {
         ensures { result ≡ no_sessions }
     {
         Sessions {
-            lines: PairLines::new(alloc),
+            frames: SessionFrames::new(alloc),
             faults: Vec::new(alloc),
             at_fault: false,
             alloc,
@@ -68,16 +69,16 @@ impl Sessions {
             self.new ≡ sessions_taken filter.now self.old name.now bytes)) }
         ensures failures { CountsRead (S.failed source.old) (S.failed source.new) result }
     {
-        if let Some(fault) = read_sessions(self.alloc, filter, source, watch, &mut self.lines)? {
+        if let Some(fault) = read_sessions(self.alloc, filter, source, watch, &mut self.frames)? {
             self.at_fault = true;
             push_fault(&mut self.faults, name, fault)?;
         }
         Ok(())
     }
 
-    /// Writes a line for each pair of destination and session and the lines of the files at fault, in pieces of 65,536
-    /// bytes or more. Returns the exit status: 2 if a file is at fault, otherwise 0. After a fault, a prefix of the
-    /// text was written.
+    /// Writes a line for each pair of destination and session, the counts of the other frames and the lines of the files
+    /// at fault, in pieces of 65,536 bytes or more. Returns the exit status: 2 if a file is at fault, otherwise 0. After
+    /// a fault, a prefix of the text was written.
     ///
     /// `Write` is returned only if the sink failed, `Memory` only if an allocation failed, and `Read` never.
     pub fn print<K: Sink>(&self, sink: &mut K) -> Result<u8, CommandFault>
@@ -87,7 +88,8 @@ impl Sessions {
         ensures failures { CountsSink (K.failed sink.old) (K.failed sink.new) result }
     {
         let mut text = Vec::new(self.alloc);
-        self.lines.print(sink, &mut text)?;
+        self.frames.lines.print(sink, &mut text)?;
+        push_others(&mut text, self.frames.counts)?;
         text.extend_from_slice(self.faults.as_slice())?;
         send(sink, &mut text)?;
         Ok(if self.at_fault { 2 } else { 0 })

@@ -7,7 +7,7 @@ use Rattle.mold_capture_commands.proofs.session_frames.read_sessions.Given as go
 -- The frames so far were counted, and no device failed.
 abbrev pub invariant-frames : goal.invariant-frames
 invariant-frames g l = record {
-  taken : CountedSoFar l.fn.filter l.fn.lines l.lines (g.S.Source.left l.fn.source) l.reader.format
+  taken : CountedSoFar l.fn.filter l.fn.sessions l.sessions (g.S.Source.left l.fn.source) l.reader.format
       (prepend_known l.reader.rest (g.S.Source.left l.source));
   failed : g.S.Source.failed l.source ≡ g.S.Source.failed l.fn.source;
 }
