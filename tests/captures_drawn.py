@@ -266,7 +266,8 @@ def some_filter(chance, datagrams):
 
 
 def files_of(chance, datagrams, is_plain):
-    """Captures of these datagrams with their names. Some are damaged. If they are plain, no frame is."""
+    """Captures of these datagrams with their names. Some are damaged, and few are folders. If they are plain, no frame
+    is damaged."""
     files, parts = [], chance.choice([1, 1, 1, 2, 3])
     for number in range(parts):
         part = datagrams[len(datagrams) * number // parts : len(datagrams) * (number + 1) // parts]
@@ -275,6 +276,9 @@ def files_of(chance, datagrams, is_plain):
     if has(chance, 0.2):
         at = chance.randrange(parts)
         files[at] = ("-", files[at][1])
+    if has(chance, 0.05):
+        # A folder can be opened, and not read.
+        files.insert(chance.randint(0, parts), ("folder", None))
     return files
 
 

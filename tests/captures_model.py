@@ -175,6 +175,10 @@ class Fault(Exception):
     """Why a file is not read on, as it is printed after its name."""
 
 
+class Unread(bytes):
+    """The bytes of a file before a read that fails. A folder has none."""
+
+
 @dataclass(frozen=True)
 class Frame:
     link: int
@@ -482,14 +486,21 @@ class Reading:
 
 
 def read(chosen, files):
-    """The files are names with bytes."""
+    """The files are names with bytes, or with None for a folder."""
     reading = Reading()
     for name, content in files:
+        content = Unread() if content is None else content
+        why = None
         try:
             for frame in frames_of(content):
                 reading.add(chosen, frame)
         except Fault as fault:
-            reading.faults.append(f"capture {name} {fault}")
+            why = str(fault)
+        # More bytes are read only if those before have no other fault.
+        if isinstance(content, Unread) and (why is None or why.startswith("Cut ")):
+            why = f"Unread {len(content)}"
+        if why:
+            reading.faults.append(f"capture {name} {why}")
     return reading
 
 
@@ -548,10 +559,15 @@ def extract(chosen, files, form, first, count):
     return *check.extract(form, first, count), errors
 
 
+def by_digest(text):
+    """The text of a check with `--digest`, given the text without it."""
+    return re.sub(rb"^(whole \d+)$", rb"\1 by digest", text, flags=re.MULTILINE)
+
+
 def check_by_digest(chosen, files):
     """The same as `check_text`, for `check --digest`."""
     text, *others = check_text(chosen, files)
-    return re.sub(rb"^(whole \d+)$", rb"\1 by digest", text, flags=re.MULTILINE), *others
+    return by_digest(text), *others
 
 
 def check_each(chosen, files):

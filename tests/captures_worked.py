@@ -328,10 +328,31 @@ def add_files():
         counts(5) + "refused datagram 4 Malformed Short 1\n", 2)
     add("a refused datagram before a fault", "check --capture a --capture b", {"a": of_payloads(b""), "b": cut},
         counts(1) + "capture b Cut 24\nrefused datagram 1 Malformed Short 0\n", 2)
-    missing = {"f": of_payloads(ONE)}
-    for command in captures.COMMANDS:
-        add(f"{command}: no file", f"{command} --capture none", missing, "", 3, "fault Read\n")
-    add("check: no second file", "check --capture f --capture none", missing, "", 3, "fault Read\n")
+
+
+def add_unread():
+    unread = "capture none Unread 0\n"
+    for command, text in (("check", counts(0) + unread + NOTHING), ("show", unread), ("sessions", others() + unread)):
+        add(f"{command}: no file", f"{command} --capture none", {}, text, 2)
+    files = {"a": of_payloads(ONE), "b": of_payloads(END), "DIR": None, "cut": of_payloads(ONE)[:-1]}
+    add("check: no second file", "check --capture a --capture none --capture b", files,
+        counts(2) + unread + "whole 1\n", 2)
+    add("check --each: no second file", "check --each --capture a --capture none --capture b", files,
+        counts(2) + unread + f"session {HEX}\nwhole 1\n", 2)
+    add("check --digest: no second file", "check --digest --capture a --capture none --capture b", files,
+        counts(2) + unread + "whole 1 by digest\n", 2)
+    add("check --journal: no second file", "check --journal J --capture a --capture none --capture b", files,
+        counts(2) + unread + "whole 1\n", 2)
+    add("extract: no second file", "extract --lines --to M --capture a --capture none --capture b", files,
+        counts(2) + unread + "extracted 1\n", 2)
+    add("show: no second file", "show --capture a --capture none --capture b", files,
+        shown("1.000000000", ONE_TEXT) + shown("1.000000000", END_TEXT) + unread, 2)
+    add("sessions: no second file", "sessions --capture a --capture none --capture cut", files,
+        line(numbers="1 1") + others() + unread + "capture cut Cut 24\n", 2)
+    add("a folder as a capture", "check --capture DIR --capture a", files,
+        counts(1) + "capture DIR Unread 0\n" + NOTHING, 2)
+    add("no file, and a refused datagram", "check --capture none --capture f", {"f": of_payloads(b"")},
+        counts(1) + unread + "refused datagram 1 Malformed Short 0\n", 2)
 
 
 def add_filters():
@@ -582,8 +603,6 @@ def add_usage():
         for group in NO_ADDRESSES:
             add(f"usage: {command} --group {group}", f"{command} --capture f --group {group}", files, "", 3,
                 re.compile(r"error: invalid value for '--group <.*\nfault Address\n"))
-    # A folder is not a file.
-    add("a folder as a capture", "check --capture DIR", files, "", 3, "fault Read\n")
 
 
 def small(make):
@@ -616,6 +635,6 @@ FRAMES = {
     "BSD loopback": (captures.LOOP, linked(captures.LOOP, ipv4(udp(ONE)))),
 }
 for add_cases in (add_links, add_tags, add_ipv4, add_fragments, add_cut, add_udp, add_ipv6, add_formats, add_blocks,
-                  add_faults_of_records, add_faults_of_blocks, add_faults_of_interfaces, add_files, add_filters,
-                  add_hints, add_reasons, add_shown, add_times, add_sessions, add_usage):
+                  add_faults_of_records, add_faults_of_blocks, add_faults_of_interfaces, add_files, add_unread,
+                  add_filters, add_hints, add_reasons, add_shown, add_times, add_sessions, add_usage):
     add_cases()

@@ -21,6 +21,8 @@ MESSAGES = b"4142\n\n43\n"
 LINES = b"".join(b"%02d" % it * 20 + b"\n" for it in range(1, 6))
 # The exit status of a program that reports a fault.
 FAULT = 3
+# The options of commands over captures that change what they print or write.
+CAPTURE_OPTIONS = ("--each", "--digest", "--journal", "--lines", "--blocks")
 # How often a call over sockets is tried before it counts as failed, because a busy system may delay datagrams.
 TRIES = 3
 # A lock for each set of ports, because calls with the same ports run one after the other, and the sockets of those
@@ -47,6 +49,27 @@ class Call:
     devices: tuple = ("read", "write")
     # The kinds of system calls that the call does not always count if they fail.
     uncounted: tuple = ()
+
+
+    def captured(self, folder, unread):
+        """The outcome of a call that reads captures in this folder, by their model: the text, the status, the file that
+        it writes, and the text on standard error. Of each file in `unread`, only this many bytes can be read."""
+        options, files, chosen = list(zip(self.arguments, self.arguments[1:])), [], captures.Filter()
+        for option, value in options:
+            if option == "--capture":
+                name = os.path.join(folder, value[1:]) if value.startswith("@") else value
+                content = self.given if value == "-" else self.files[value[1:]]
+                files.append((name, captures.Unread(content[: unread[name]]) if name in unread else content))
+            elif option == "--port":
+                chosen.ports.append(int(value))
+            elif option == "--group":
+                chosen.groups.append(captures.address(value))
+            elif option == "--session":
+                chosen.session = model.padded(value)
+        own = [it for it in CAPTURE_OPTIONS if it in self.arguments]
+        numbers = (model.DEFAULTS["from"], model.DEFAULTS["count"]) if self.arguments[0] == "extract" else ()
+        text, *others = captures.run(self.arguments[0], chosen, files, own[0] if own else "", numbers)
+        return captures.by_digest(text) if "--digest" in own[1:] else text, *others
 
 
 @dataclass
@@ -171,7 +194,10 @@ def calls_of_captures():
         Call("show of captures, at fault", ["show", "--capture", "-", "--capture", "@a"], cut, {"a": file}, status=2),
         Call("sessions", ["sessions", *both], files=files),
         Call("sessions, at fault", ["sessions", "--capture", "@a", "--capture", "-"], cut, {"a": file}, status=2),
-        Call("a read fault of captures", ["sessions", "--capture", "@none"], status=FAULT, devices=()),
+        Call("sessions, no file", ["sessions", "--capture", "@none"], status=2, devices=("write",)),
+        # A line on standard error asks whether the folder is a capture.
+        Call("check of a capture as a folder", ["check", "@a"], files=files, status=FAULT, devices=()),
+        Call("check --each of a capture as a folder", ["check", "@a", "--each"], files=files, status=FAULT, devices=()),
     ]
 
 

@@ -1,11 +1,11 @@
 -- What `mold show --capture` prints for its files.
-use Rattle.std.specs.Prelude.{ℕ, ◌||◌, Bool, false, List, [], ◌∷◌, ◌++◌, is_some, if◌then◌else◌}
+use Rattle.std.specs.Prelude.{ℕ, ◌||◌, Bool, true, false, List, [], ◌∷◌, ◌++◌, is_some, if◌then◌else◌}
 use Rattle.std.specs.List.{flat_map, list_any}
 use Rattle.mold_frame.specs.Link.{carried}
 use Rattle.mold_pcap.specs.Captures.{Capture, Frame, capture_of}
 use Rattle.mold_capture_commands.specs.Captures.{faults_text, has_fault}
 use Rattle.mold_capture_commands.specs.Checking.{CaptureFile}
-use Rattle.mold_capture_commands.specs.Faults.{fault_text}
+use Rattle.mold_capture_commands.specs.Faults.{fault_text, unread_text}
 use Rattle.mold_capture_commands.specs.Filter.{found}
 use Rattle.mold_capture_commands.specs.Shown.{found_refused, found_text}
 use Rattle.mold_capture_commands.specs.declared.filter.CaptureFilter.{CaptureFilter}
@@ -50,6 +50,10 @@ capture_shown filter s name capture = record {
   faults = s.faults ++ fault_text name capture.fault;
   at_fault = s.at_fault || is_some capture.fault;
 }
+
+-- The state after a capture with this name, which can't be read from this byte on.
+abbrev pub capture_unread : ShowState → List ℕ → ℕ → ShowState
+capture_unread s name at = record { refused = s.refused; faults = s.faults ++ unread_text name at; at_fault = true }
 
 -- The state after the files.
 unfoldable pub all_files_shown : CaptureFilter → ShowState → List CaptureFile → ShowState

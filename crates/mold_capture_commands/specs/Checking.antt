@@ -1,12 +1,12 @@
 -- The state of a check of captures, whose datagrams are judged by any judge.
-use Rattle.std.specs.Prelude.{ℕ, ◌||◌, Bool, false, List, [], ◌∷◌, ◌++◌, map, codes, is_some, if◌then◌else◌}
+use Rattle.std.specs.Prelude.{ℕ, ◌||◌, Bool, true, false, List, [], ◌∷◌, ◌++◌, map, codes, is_some, if◌then◌else◌}
 use Rattle.mold_check.specs.Judge.{Judging}
 use Rattle.mold_check.specs.Naming.{counted as named_by}
 use Rattle.mold_devices.specs.Devices.{one_more}
 use Rattle.mold_frame.specs.Link.{carried}
 use Rattle.mold_pcap.specs.Captures.{Capture, Frame, capture_of}
 use Rattle.mold_capture_commands.specs.Counts.{counted, counts_text, no_counts}
-use Rattle.mold_capture_commands.specs.Faults.{fault_text}
+use Rattle.mold_capture_commands.specs.Faults.{fault_text, unread_text}
 use Rattle.mold_capture_commands.specs.Filter.{Found, Passed, Skipped, Partial, Unread, found}
 use Rattle.mold_capture_commands.specs.Targets.{TargetState, aimed, destination_of, no_targets}
 use Rattle.mold_capture_commands.specs.declared.counts.CaptureCounts.{CaptureCounts}
@@ -90,6 +90,16 @@ capture_taken s frames name capture = record {
 abbrev pub file_taken : {S : Type 0} → Judging S → CaptureFilter → CheckState S → List ℕ → List ℕ → CheckState S
 file_taken judging filter s name bytes =
     capture_taken s (all_taken judging (frames_of s) (founds filter (capture_of bytes).frames)) name (capture_of bytes)
+
+-- The state after a file with this name, which can't be read from this byte on. What was read of it counts before.
+abbrev pub file_unread : {S : Type 0} → CheckState S → List ℕ → ℕ → CheckState S
+file_unread s name at = record {
+  counts = s.counts;
+  judge = s.judge;
+  targets = s.targets;
+  faults = s.faults ++ unread_text name at;
+  at_fault = true;
+}
 
 -- A file: its name and its bytes.
 pub record CaptureFile : Type 0 where

@@ -8,6 +8,10 @@ use Rattle.mold_text.specs.Line.{line_of}
 abbrev pub at_text : List ℕ → List ℕ → ℕ → List ℕ
 at_text name fault at = line_of (codes "capture" ∷ name ∷ fault ∷ decimal at ∷ [])
 
+-- The line of the file with this name, which can't be read from this byte on.
+abbrev pub unread_text : List ℕ → ℕ → List ℕ
+unread_text name at = at_text name (codes "Unread") at
+
 -- The line of the file with this name, if it is at fault.
 abbrev pub fault_text : List ℕ → Option CaptureFault → List ℕ
 fault_text name None = []

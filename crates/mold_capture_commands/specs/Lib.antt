@@ -1,5 +1,6 @@
 pub mod Filter
 pub mod Counts
+pub mod CountedSource
 pub mod Targets
 pub mod Faults
 pub mod Checking

@@ -1,5 +1,5 @@
 -- The state of a `Sessions`.
-use Rattle.std.specs.Prelude.{ℕ, ◌||◌, Bool, false, min, max, List, [], ◌∷◌, ◌++◌, is_some, if◌then◌else◌}
+use Rattle.std.specs.Prelude.{ℕ, ◌||◌, Bool, true, false, min, max, List, [], ◌∷◌, ◌++◌, is_some, if◌then◌else◌}
 use Rattle.std.specs.Prelude.{None, Result, ⊤}
 use Rattle.std.specs.List.{flat_map}
 use Rattle.mold_devices.specs.Devices.{one_more}
@@ -10,7 +10,7 @@ use Rattle.mold_wire.specs.declared.error.DecodeError.{DecodeError}
 use Rattle.mold_wire.specs.declared.packet.Packet.{Packet}
 use Rattle.mold_capture_commands.specs.Checking.{CaptureFile, founds}
 use Rattle.mold_capture_commands.specs.Counts.{counted, more_if, no_counts, others_text}
-use Rattle.mold_capture_commands.specs.Faults.{fault_text}
+use Rattle.mold_capture_commands.specs.Faults.{fault_text, unread_text}
 use Rattle.mold_capture_commands.specs.Filter.{Found, Passed, Skipped, Partial, Unread}
 use Rattle.mold_capture_commands.specs.Pairs.{carried_numbers, end_numbers, greatest, is_heartbeat, joint, last}
 use Rattle.mold_capture_commands.specs.Pairs.{later, least, pair_of, same_pair}
@@ -91,6 +91,10 @@ sessions_with s frames name capture = record {
 abbrev pub sessions_taken : CaptureFilter → SessionState → List ℕ → List ℕ → SessionState
 sessions_taken filter s name bytes =
     sessions_with s (all_counted s.frames (founds filter (capture_of bytes).frames)) name (capture_of bytes)
+
+-- The state after a file with this name, which can't be read from this byte on. What was read of it counts before.
+abbrev pub sessions_unread : SessionState → List ℕ → ℕ → SessionState
+sessions_unread s name at = record { frames = s.frames; faults = s.faults ++ unread_text name at; at_fault = true }
 
 -- The state after the files.
 unfoldable pub all_sessions_taken : CaptureFilter → SessionState → List CaptureFile → SessionState

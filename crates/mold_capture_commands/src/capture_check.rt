@@ -2,20 +2,20 @@
 
 ghost use Rattle.std.specs.Prelude.{◌≡◌, ◌++◌, IfOk, IfSome, OnOk};
 ghost use Rattle.std.specs.Io.KnownBytes.{Appends};
-ghost use Rattle.mold_capture_commands.specs.Checking.{check_status, check_text, file_taken};
+ghost use Rattle.mold_capture_commands.specs.Checking.{check_status, check_text, file_taken, file_unread};
 ghost use Rattle.mold_capture_commands.specs.Checking.{no_captures, no_captures_over};
 ghost use Rattle.mold_capture_commands.specs.Counts.{counts_text};
 ghost use Rattle.mold_devices.specs.Devices.{AppendsPrefix};
 ghost use Rattle.mold_devices.specs.Faults.{CountsRead, CountsSink};
 
 use crate::counts::push_counts;
-use crate::faults::push_fault;
+use crate::faults::{push_fault, push_unread};
 use crate::filter::CaptureFilter;
 use crate::frame_check::{FrameCheck, read_frames};
 use crate::watch::Watch;
 use mold_check::{Counted, FreshJudge, Judge};
 use mold_devices::{CommandFault, ReadFault, Sink, Source, send};
-use std::alloc::Global;
+use std::alloc::{AllocError, Global};
 use std::marker::Model;
 
 /// The command `check --capture`: a check of the datagrams of captures, which are read one after the other. A judge finds
@@ -89,6 +89,16 @@ impl<J: Judge> CaptureCheck<J> {
             push_fault(&mut self.faults, name, fault)?;
         }
         Ok(())
+    }
+
+    /// Notes that the file with this name can't be read from this byte on, after `read` has returned `Read` for it or
+    /// without such a call. `print` reports the file. The datagrams that were read before count. It returns an error if
+    /// an allocation fails.
+    pub fn add_unread(&mut self, name: &[u8], at: u64) -> Result<(), AllocError>
+        ensures { OnOk result (self.new ≡ file_unread self.old name.now at) }
+    {
+        self.at_fault = true;
+        push_unread(&mut self.faults, name, at)
     }
 
     /// Returns whether the first refused datagram has another destination than the first accepted one: another address

@@ -2,16 +2,17 @@
 
 ghost use Rattle.std.specs.Prelude.{◌≡◌, IfOk, IfSome, OnOk};
 ghost use Rattle.std.specs.Io.KnownBytes.{Appends};
-ghost use Rattle.mold_capture_commands.specs.CaptureShow.{capture_shown, frames_text, nothing_shown, show_status};
+ghost use Rattle.mold_capture_commands.specs.CaptureShow.{capture_shown, capture_unread, frames_text};
+ghost use Rattle.mold_capture_commands.specs.CaptureShow.{nothing_shown, show_status};
 ghost use Rattle.mold_devices.specs.Devices.{AppendsPrefix};
 ghost use Rattle.mold_devices.specs.Faults.{CountsCommand, CountsSink};
 ghost use Rattle.mold_pcap.specs.Captures.{capture_of};
 
-use crate::faults::push_fault;
+use crate::faults::{push_fault, push_unread};
 use crate::filter::CaptureFilter;
 use crate::frame_show::print_frames;
 use mold_devices::{CommandFault, Sink, Source, write_all};
-use std::alloc::Global;
+use std::alloc::{AllocError, Global};
 use std::marker::Model;
 
 /// The command `show --capture`: prints the datagrams of captures, which are read one after the other.
@@ -76,6 +77,15 @@ impl CaptureShow {
             push_fault(&mut self.faults, name, fault)?;
         }
         Ok(())
+    }
+
+    /// Notes that the capture with this name can't be read from this byte on, after `read` has returned `Read` for it or
+    /// without such a call. `end` reports the capture. It returns an error if an allocation fails.
+    pub fn add_unread(&mut self, name: &[u8], at: u64) -> Result<(), AllocError>
+        ensures { OnOk result (self.new ≡ capture_unread self.old name.now at) }
+    {
+        self.at_fault = true;
+        push_unread(&mut self.faults, name, at)
     }
 
     /// Writes the lines of the files at fault, and returns the exit status: 2 if a datagram is refused or a file is at

@@ -1,7 +1,7 @@
 //! The lines of the files that are at fault.
 
 ghost use Rattle.std.specs.Prelude.{◌≡◌, ◌++◌, Some, length, take, OnErr, OnOk};
-ghost use Rattle.mold_capture_commands.specs.Faults.{at_text, fault_text};
+ghost use Rattle.mold_capture_commands.specs.Faults.{at_text, fault_text, unread_text};
 
 use mold_pcap::CaptureFault;
 use mold_text::{Word, push_line};
@@ -26,6 +26,14 @@ fn push_at<'a>(
             Word::Number(at),
         ],
     )
+}
+
+/// Appends the line of the file with this name, which can't be read from this byte on.
+pub(crate) fn push_unread(text: &mut Vec<u8>, name: &[u8], at: u64) -> Result<(), AllocError>
+    ensures line { OnOk result (text.new.items ≡ text.old.items ++ unread_text name.now at) }
+    ensures kept { OnErr result (take (length text.old.items) text.new.items ≡ text.old.items) }
+{
+    push_at(text, name, b"Unread", at)
 }
 
 /// Appends the line of the file with this name, which has this fault.

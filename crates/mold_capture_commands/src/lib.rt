@@ -4,6 +4,7 @@
 mod address;
 mod capture_check;
 mod capture_show;
+mod counted_source;
 mod counts;
 mod faults;
 mod filter;
@@ -24,6 +25,7 @@ mod watch;
 
 pub use capture_check::CaptureCheck;
 pub use capture_show::CaptureShow;
+pub use counted_source::CountedSource;
 pub use counts::CaptureCounts;
 pub use filter::CaptureFilter;
 pub use found::Found;

@@ -2,17 +2,18 @@
 
 ghost use Rattle.std.specs.Prelude.{◌≡◌, IfOk, IfSome, OnOk};
 ghost use Rattle.std.specs.Io.KnownBytes.{Appends};
-ghost use Rattle.mold_capture_commands.specs.SessionState.{no_sessions, sessions_taken, state_status, state_text};
+ghost use Rattle.mold_capture_commands.specs.SessionState.{no_sessions, sessions_taken, sessions_unread};
+ghost use Rattle.mold_capture_commands.specs.SessionState.{state_status, state_text};
 ghost use Rattle.mold_devices.specs.Devices.{AppendsPrefix};
 ghost use Rattle.mold_devices.specs.Faults.{CountsRead, CountsSink};
 
 use crate::counts::push_others;
-use crate::faults::push_fault;
+use crate::faults::{push_fault, push_unread};
 use crate::filter::CaptureFilter;
 use crate::session_frames::{SessionFrames, read_sessions};
 use crate::watch::Watch;
 use mold_devices::{CommandFault, ReadFault, Sink, Source, send};
-use std::alloc::Global;
+use std::alloc::{AllocError, Global};
 use std::marker::Model;
 
 /// The command `sessions --capture`: the destinations and sessions of the datagrams of captures, which are read one
@@ -74,6 +75,16 @@ impl Sessions {
             push_fault(&mut self.faults, name, fault)?;
         }
         Ok(())
+    }
+
+    /// Notes that the file with this name can't be read from this byte on, after `read` has returned `Read` for it or
+    /// without such a call. `print` reports the file. The datagrams that were read before count. It returns an error if
+    /// an allocation fails.
+    pub fn add_unread(&mut self, name: &[u8], at: u64) -> Result<(), AllocError>
+        ensures { OnOk result (self.new ≡ sessions_unread self.old name.now at) }
+    {
+        self.at_fault = true;
+        push_unread(&mut self.faults, name, at)
     }
 
     /// Writes a line for each pair of destination and session, the counts of the other frames and the lines of the files

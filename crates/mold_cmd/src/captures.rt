@@ -1,7 +1,7 @@
 //! Runs the orders over captures: opens the files, and reads standard input for `-`.
 
 use crate::progress::Progress;
-use mold_capture_commands::{CaptureCheck, CaptureFilter, CaptureShow, Sessions};
+use mold_capture_commands::{CaptureCheck, CaptureFilter, CaptureShow, CountedSource, Sessions};
 use mold_check::{DatagramCheck, FreshJudge, Judge};
 use mold_devices::{CommandFault, FromRead, IntoWrite, Source};
 use mold_wire::Session;
@@ -9,7 +9,7 @@ use mold_wiring::flushed;
 use mold_words::CaptureOrder;
 use std::alloc::{AllocError, Global};
 use std::fs::File;
-use std::io::{Stdout, Write};
+use std::io::{ErrorKind, Stdout, Write};
 
 const SEE_SESSIONS: &str = "see mold sessions\n";
 
@@ -23,6 +23,9 @@ trait CaptureCommand {
         source: &mut S,
         progress: &mut Progress<'_>,
     ) -> Result<(), CommandFault>;
+
+    /// Notes that the capture of this name can't be read from this byte on.
+    fn note_unread(&mut self, name: &str, at: u64) -> Result<(), AllocError>;
 }
 
 impl<J: Judge> CaptureCommand for CaptureCheck<J> {
@@ -35,6 +38,10 @@ impl<J: Judge> CaptureCommand for CaptureCheck<J> {
     ) -> Result<(), CommandFault> {
         Ok(self.read(name.as_bytes(), filter, source, progress)?)
     }
+
+    fn note_unread(&mut self, name: &str, at: u64) -> Result<(), AllocError> {
+        self.add_unread(name.as_bytes(), at)
+    }
 }
 
 impl CaptureCommand for Sessions {
@@ -46,6 +53,10 @@ impl CaptureCommand for Sessions {
         progress: &mut Progress<'_>,
     ) -> Result<(), CommandFault> {
         Ok(self.read(name.as_bytes(), filter, source, progress)?)
+    }
+
+    fn note_unread(&mut self, name: &str, at: u64) -> Result<(), AllocError> {
+        self.add_unread(name.as_bytes(), at)
     }
 }
 
@@ -68,6 +79,10 @@ impl CaptureCommand for Shown {
         self.show
             .read(name.as_bytes(), filter, source, &mut self.sink)
     }
+
+    fn note_unread(&mut self, name: &str, at: u64) -> Result<(), AllocError> {
+        self.show.add_unread(name.as_bytes(), at)
+    }
 }
 
 // Returns the filter of an order.
@@ -82,7 +97,23 @@ fn filter_of(alloc: Global, order: &CaptureOrder) -> Result<CaptureFilter, Alloc
     Ok(filter)
 }
 
-// Reads one capture. A name other than `-` is that of a file.
+// Reads the capture of this name from the source. If a read fails, what was read before counts, and the command notes
+// how many bytes that was.
+fn read_source<C: CaptureCommand, S: Source + Drop>(
+    name: &str,
+    filter: &CaptureFilter,
+    source: S,
+    command: &mut C,
+    progress: &mut Progress<'_>,
+) -> Result<(), CommandFault> {
+    let mut source = CountedSource::new(source);
+    match command.read_next(name, filter, &mut source, progress) {
+        Err(CommandFault::Read) => Ok(command.note_unread(name, source.count())?),
+        outcome => outcome,
+    }
+}
+
+// Reads one capture. A name other than `-` is that of a file. The command notes a file that can't be opened.
 fn read_capture<C: CaptureCommand>(
     rt: &HostRuntime,
     name: &str,
@@ -92,15 +123,17 @@ fn read_capture<C: CaptureCommand>(
 ) -> Result<(), CommandFault> {
     progress.begin();
     if name == "-" {
-        return command.read_next(name, filter, &mut FromRead::new(rt.stdin()), progress);
+        let source = FromRead::new(rt.stdin());
+        return read_source(name, filter, source, command, progress);
     }
     match File::open(rt, name) {
-        Ok(file) => command.read_next(name, filter, &mut FromRead::new(file), progress),
-        Err(_) => Err(CommandFault::Read),
+        Ok(file) => read_source(name, filter, FromRead::new(file), command, progress),
+        Err(error) if error.kind() == ErrorKind::OutOfMemory => Err(CommandFault::Memory),
+        Err(_) => Ok(command.note_unread(name, 0)?),
     }
 }
 
-// Reads the captures of the order one after the other.
+// Reads the captures of the order one after the other. One that can't be read does not end the command.
 fn read_captures<C: CaptureCommand>(
     rt: &HostRuntime,
     order: &CaptureOrder,
