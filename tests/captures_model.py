@@ -465,18 +465,21 @@ class Filter:
 
 @dataclass
 class Reading:
-    """What files have: the datagrams that pass, each with its time, the counts, and the lines of files at fault."""
+    """What files have: the datagrams that pass, each with its time, the name of the file and the number of the frame of
+    each, the counts, and the lines of files at fault."""
 
     datagrams: list = field(default_factory=list)
+    frames: list = field(default_factory=list)
     skipped: int = 0
     partial: int = 0
     unread: int = 0
     faults: list = field(default_factory=list)
 
-    def add(self, chosen, frame):
+    def add(self, chosen, frame, name, number):
         found = carried(frame)
         if isinstance(found, Datagram) and chosen.passes(found):
             self.datagrams.append((frame.time, found))
+            self.frames.append((name, number))
         elif isinstance(found, Part) and chosen.passes_target(found.target, found.target_port):
             self.partial += 1
         elif found == UNREAD:
@@ -492,8 +495,8 @@ def read(chosen, files):
         content = Unread() if content is None else content
         why = None
         try:
-            for frame in frames_of(content):
-                reading.add(chosen, frame)
+            for number, frame in enumerate(frames_of(content), 1):
+                reading.add(chosen, frame, name, number)
         except Fault as fault:
             why = str(fault)
         # More bytes are read only if those before have no other fault.
@@ -527,8 +530,27 @@ def first_lines(reading):
     return "\n".join([f"{counts} partial {reading.partial} unread {reading.unread}", *reading.faults])
 
 
+def sessions_of(reading):
+    """The sessions of the datagrams that encode packets."""
+    found = set()
+    for _, datagram in reading.datagrams:
+        try:
+            found.add(model.packet_of(datagram.payload).session)
+        except model.Refused:
+            pass
+    return found
+
+
+def place_of(reading, number):
+    """The line that states where a datagram is, by its number among those that pass."""
+    (time, datagram), (name, frame) = reading.datagrams[number - 1], reading.frames[number - 1]
+    where = f"at {time_text(time)} to {target_of(datagram)} of {name}"
+    return model.text_of([f"datagram {number} is frame {frame} {where}"])
+
+
 def check_of(chosen, files):
-    """The check of captures, and the text on standard error."""
+    """The check of captures, the text that explains a refusal on standard error, and the text there for several
+    sessions."""
     reading, taken = read(chosen, files), []
 
     def taking(datagram):
@@ -537,25 +559,29 @@ def check_of(chosen, files):
 
     captured = [(f"datagram {number}", lambda it=it: taking(it)) for number, (_, it) in enumerate(reading.datagrams, 1)]
     check = model.check_of(first_lines(reading), captured, bool(reading.faults))
-    is_other = check.refusal and target_of(taken[-1]) != target_of(taken[0])
-    return check, b"see mold sessions\n" if is_other else b""
+    is_several = len(sessions_of(reading)) > 1
+    several = b"the input has several sessions: add --each or --session SESSION\n" if is_several else b""
+    if not check.refusal:
+        return check, b"", several
+    is_other = target_of(taken[-1]) != target_of(taken[0])
+    return check, place_of(reading, len(taken)) + (b"see mold sessions\n" if is_other else b""), several
 
 
 def check_text(chosen, files):
     """The text, the status, no file, and the text on standard error."""
-    check, errors = check_of(chosen, files)
-    return *check.report(), None, errors
+    check, errors, several = check_of(chosen, files)
+    return *check.report(), None, errors + several
 
 
 def check_and_save(chosen, files):
     """The text and the status of `check --journal`, the journal, or None, and the text on standard error."""
-    check, errors = check_of(chosen, files)
-    return *check.save(), errors
+    check, errors, several = check_of(chosen, files)
+    return *check.save(), errors + several
 
 
 def extract(chosen, files, form, first, count):
     """The text and the status of `extract`, the file that it writes, or None, and the text on standard error."""
-    check, errors = check_of(chosen, files)
+    check, errors, _ = check_of(chosen, files)
     return *check.extract(form, first, count), errors
 
 

@@ -45,8 +45,20 @@ def add(name, call, files, text, status=0, errors=""):
     CASES.append(Case(name, call, files, text, status, errors))
 
 
-def check(name, file, text, status=1, options=""):
-    add(name, f"check --capture f{options}", file, text, status)
+def place(number, frame, name="f", target="239.1.1.1:26400"):
+    """The line on standard error for a refused datagram. In these captures each frame is at a second of its own."""
+    return f"datagram {number} is frame {frame} at {frame}.000000000 to {target} of {name}\n"
+
+
+SEE = "see mold sessions\n"
+SEVERAL = "the input has several sessions: add --each or --session SESSION\n"
+
+
+def check(name, file, text, status=1, options="", errors=None):
+    """If no text on standard error is given, a refused datagram is in the frame with its number, at the only group."""
+    refused = re.search(r"^refused datagram (\d+)", text, re.M)
+    own = place(refused[1], refused[1]) if refused else ""
+    add(name, f"check --capture f{options}", file, text, status, own if errors is None else errors)
 
 
 def counts(datagrams, skipped=0, partial=0, unread=0):
@@ -325,9 +337,9 @@ def add_files():
     add("forty files", "check" + 40 * " --capture f", {"f": of_payloads(ONE, END)}, counts(80) + "whole 1\n")
     add("a refused datagram of the second file", "check --capture a --capture b",
         {"a": of_payloads(ONE, BEAT), "b": of_payloads(ONE, b"x", TWO)},
-        counts(5) + "refused datagram 4 Malformed Short 1\n", 2)
+        counts(5) + "refused datagram 4 Malformed Short 1\n", 2, place(4, 2, "b"))
     add("a refused datagram before a fault", "check --capture a --capture b", {"a": of_payloads(b""), "b": cut},
-        counts(1) + "capture b Cut 24\nrefused datagram 1 Malformed Short 0\n", 2)
+        counts(1) + "capture b Cut 24\nrefused datagram 1 Malformed Short 0\n", 2, place(1, 1, "a"))
 
 
 def add_unread():
@@ -352,7 +364,7 @@ def add_unread():
     add("a folder as a capture", "check --capture DIR --capture a", files,
         counts(1) + "capture DIR Unread 0\n" + NOTHING, 2)
     add("no file, and a refused datagram", "check --capture none --capture f", {"f": of_payloads(b"")},
-        counts(1) + unread + "refused datagram 1 Malformed Short 0\n", 2)
+        counts(1) + unread + "refused datagram 1 Malformed Short 0\n", 2, place(1, 1))
 
 
 def add_filters():
@@ -360,12 +372,11 @@ def add_filters():
     frames += [ethernet(ipv6(udp(OTHER_END), target="ff02::1"))]
     file = captures.classic(frames)
     whole, all_others = counts(2, 3) + "whole 1\n", counts(0, 5) + NOTHING
-    check("no filter", file, counts(5) + "refused datagram 3 WrongSession\n", 2)
-    CASES[-1].errors = "see mold sessions\n"
+    refused = place(3, 3, target="239.1.1.2:26400") + SEE + SEVERAL
+    check("no filter", file, counts(5) + "refused datagram 3 WrongSession\n", 2, "", refused)
     check("a port and a group", file, whole, 0, " --port 26400 --group 239.1.1.1")
     check("two ports and two groups", file, counts(3, 2) + "refused datagram 3 WrongSession\n", 2,
-          " --port 26400 --group 239.1.1.1 --port 1 --group 239.1.1.2")
-    CASES[-1].errors = "see mold sessions\n"
+          " --port 26400 --group 239.1.1.1 --port 1 --group 239.1.1.2", refused)
     for group in ("ff02::1", "FF02:0:0:0:0:0:0:1", "ff02:0000:0000:0000:0000:0000:0000:0001", "ff02::0.0.0.1"):
         check(f"the group {group}", captures.classic([frames[4], to_group(END)]),
               counts(1, 1) + "incomplete end 9\nmissing 1 8\n", 1, f" --group {group}")
@@ -383,7 +394,7 @@ def add_filters():
     CASES[-1].call = "check --session=SESSION001 --group=239.1.1.1 --port=26400 --capture=f"
     short = of_payloads(S[:9], S, b"")
     check("payloads that are shorter than a name", short, counts(1, 2) + "refused datagram 1 Malformed Short 10\n", 2,
-          " --session SESSION001")
+          " --session SESSION001", place(1, 2))
     parts = captures.classic([to_group(OTHER_END)[:-1], ethernet(ipv4(udp(ONE)[:16], fragment=0x2000))])
     check("parts are not judged by their session", parts, counts(0, 0, 2) + NOTHING, 1, " --session SESSION001")
     check("ports of the sender", captures.classic([ethernet(ipv4(udp(ONE, (26400, 1))))]), counts(0, 1) + NOTHING, 1,
@@ -391,22 +402,57 @@ def add_filters():
 
 
 def add_hints():
-    def hint(name, frames, text, errors="see mold sessions\n", options=""):
-        add(f"hint: {name}", f"check --capture f{options}", captures.classic(frames), text, 2, errors)
+    def hint(name, frames, text, errors, options=""):
+        check(f"hint: {name}", captures.classic(frames), text, 2, options, errors)
 
     first, refused = to_group(ONE), counts(2) + "refused datagram 2 WrongSession\n"
-    hint("another port", [first, to_group(OTHER_END, port=1)], refused)
-    hint("another group", [first, to_group(OTHER_END, "239.1.1.2")], refused)
-    hint("another version of IP", [first, ethernet(ipv6(udp(OTHER_END)))], refused)
-    hint("the same destination", [first, to_group(OTHER_END)], refused, "")
-    hint("another sender", [first, ethernet(ipv4(udp(OTHER_END, (1, PORT)), "10.9.9.9"))], refused, "")
+    hint("another port", [first, to_group(OTHER_END, port=1)], refused,
+         place(2, 2, target="239.1.1.1:1") + SEE + SEVERAL)
+    hint("another group", [first, to_group(OTHER_END, "239.1.1.2")], refused,
+         place(2, 2, target="239.1.1.2:26400") + SEE + SEVERAL)
+    hint("another version of IP", [first, ethernet(ipv6(udp(OTHER_END), target="ff02::1"))], refused,
+         place(2, 2, target=f"[{address(1)}]:26400") + SEE + SEVERAL)
+    hint("the same destination", [first, to_group(OTHER_END)], refused, place(2, 2) + SEVERAL)
+    hint("another sender", [first, ethernet(ipv4(udp(OTHER_END, (1, PORT)), "10.9.9.9"))], refused,
+         place(2, 2) + SEVERAL)
     hint("the first datagram", [to_group(b"x"), to_group(ONE, port=1)],
-         counts(2) + "refused datagram 1 Malformed Short 1\n", "")
+         counts(2) + "refused datagram 1 Malformed Short 1\n", place(1, 1))
     # The datagram before the refused one is at its destination, and the first one is not.
     hint("the destination of the first datagram", [to_group(BEAT, port=1), first, to_group(b"x")],
-         counts(3) + "refused datagram 3 Malformed Short 1\n")
+         counts(3) + "refused datagram 3 Malformed Short 1\n", place(3, 3) + SEE)
     hint("among those that pass", [to_group(OTHER_END, port=1), first, to_group(b"x")],
-         counts(2, 1) + "refused datagram 2 Malformed Short 1\n", "", " --port 26400")
+         counts(2, 1) + "refused datagram 2 Malformed Short 1\n", place(2, 3), " --port 26400")
+    hint("several sessions after the refusal", [first, to_group(b"x"), to_group(OTHER_END)],
+         counts(3) + "refused datagram 2 Malformed Short 1\n", place(2, 2) + SEVERAL)
+    hint("several sessions after a first refusal", [to_group(b"x"), first, to_group(OTHER_END)],
+         counts(3) + "refused datagram 1 Malformed Short 1\n", place(1, 1) + SEVERAL)
+    hint("the frames of other datagrams count", [b"", to_group(ONE)[:60], first, b"", to_group(b"x")],
+         counts(2, 2, 1) + "refused datagram 2 Malformed Short 1\n", place(2, 5))
+
+
+def add_places():
+    """Where the refused datagram is, in several files and without a time, and for commands other than `check`."""
+    files = {"a": captures.classic([b"", to_group(ONE)]), "b": captures.classic([to_group(BEAT), to_group(OTHER_END)])}
+    text, refused = counts(3, 1) + "refused datagram 3 WrongSession\n", place(3, 2, "b")
+    both = "--capture a --capture b"
+    for option in ("", " --digest", " --journal J"):
+        add(f"place: check{option}", f"check {both}{option}", files, text, 2, refused + SEVERAL)
+    add("place: check --each", f"check {both} --each", files, counts(3, 1) + f"session {HEX}\nincomplete end none\n"
+        f"session {HEX_OTHER}\nincomplete end 9\nmissing 1 8\n", 1)
+    for form in ("--lines", "--blocks"):
+        add(f"place: extract {form}", f"extract {both} {form} --to M", files, text, 2, refused)
+    blocks = captures.section() + captures.interface() + captures.simple(to_group(b""))
+    add("place: no time", "check --capture -", {"-": blocks}, counts(1) + "refused datagram 1 Malformed Short 0\n", 2,
+        "datagram 1 is frame 1 at none to 239.1.1.1:26400 of -\n")
+    ask = "is it a capture? mold check --capture f\nfault Read\n"
+    for option in ("", " --each", " --digest", " --journal J"):
+        for order in ("big", "little"):
+            for name, file in (("classic", captures.classic_head(order)), ("pcapng", captures.section(order)),
+                               ("nanoseconds", captures.classic_head(order, "nanoseconds")[:4])):
+                add(f"{name}, {order}, as a folder{option}", f"check f{option}", file, "", 3, ask)
+    for name, file in (("text", b"# no capture\n"), ("three bytes", captures.classic_head()[:3]), ("nothing", b"")):
+        add(f"{name} as a folder", "check f", file, "", 3, "fault Read\n")
+    add("a capture as a folder of extract", "extract f --lines --to M", captures.classic_head(), "", 3, "fault Read\n")
 
 
 # The texts of the commands.
@@ -420,7 +466,9 @@ def add_reasons():
             ("SequenceZero", [S + bytes(10)], 1), ("PastLast", [S + b"\xff" * 8 + b"\0\1\0\1A"], 1),
             ("Conflict 1", [ONE, ONE[:-1] + b"B"], 2)]
     for reason, payloads, number in rows:
-        check(reason, of_payloads(*payloads), counts(len(payloads)) + f"refused datagram {number} {reason}\n", 2)
+        errors = place(number, number) + (SEVERAL if reason == "WrongSession" else "")
+        check(reason, of_payloads(*payloads), counts(len(payloads)) + f"refused datagram {number} {reason}\n", 2, "",
+              errors)
     check("missing messages", of_payloads(ONE, model.encoding(model.Packet("heartbeat", S, 9))),
           counts(2) + "incomplete end none\nmissing 2 8\n")
 
@@ -636,5 +684,5 @@ FRAMES = {
 }
 for add_cases in (add_links, add_tags, add_ipv4, add_fragments, add_cut, add_udp, add_ipv6, add_formats, add_blocks,
                   add_faults_of_records, add_faults_of_blocks, add_faults_of_interfaces, add_files, add_unread,
-                  add_filters, add_hints, add_reasons, add_shown, add_times, add_sessions, add_usage):
+                  add_filters, add_hints, add_places, add_reasons, add_shown, add_times, add_sessions, add_usage):
     add_cases()

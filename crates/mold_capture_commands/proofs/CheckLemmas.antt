@@ -2,7 +2,6 @@
 use Rattle.std.proofs.Common.{◌≡◌, ℕ, suc, ◌+◌, ◌≤◌, Bool, true, false, ◌||◌, List, [], ◌∷◌, ◌++◌, length, refl, sym, ap, ◌∙◌, arith, append_assoc, append-nil}
 use Rattle.std.specs.Prelude.{Option, None, Some, IfSome, ◌^◌, ◌-◌, min, is_some, codes, if◌then◌else◌}
 use Rattle.std.specs.List.{filter}
-use Rattle.std.specs.Io.KnownBytes.{prepend_known}
 use Rattle.mold_check.specs.CheckLines.{outcome_of}
 use Rattle.mold_check.specs.EachCheck.{all_judged, each_judging, sessions_status, sessions_text, with_numbers}
 use Rattle.mold_check.specs.Judge.{Judging}
@@ -13,13 +12,12 @@ use Rattle.mold_check.specs.Report.{outcome_status}
 use Rattle.mold_devices.specs.Devices.{one_more}
 use Rattle.mold_frame.specs.Carried.{Carried}
 use Rattle.mold_frame.specs.Link.{carried}
-use Rattle.mold_pcap.specs.Captures.{Frame, capture_of, captured}
-use Rattle.mold_pcap.specs.Formats.{FormatState, at_start}
-use Rattle.mold_pcap.specs.Reading.{GivesEnd, GivesFrame}
-use Rattle.mold_pcap.specs.declared.fault.CaptureFault.{CaptureFault}
+use Rattle.mold_pcap.specs.Captures.{Frame, capture_of}
 use Rattle.mold_capture_commands.specs.Captures.{counts_of, faults_text, founds_of, has_fault, number_of, payloads}
-use Rattle.mold_capture_commands.specs.Checking.{CaptureFile, CheckState, all_files_taken, all_taken, beginning, file_taken}
-use Rattle.mold_capture_commands.specs.Checking.{frames_of, founds, no_captures, taken, check_text, check_status}
+use Rattle.mold_capture_commands.specs.Checking.{CaptureFile, CheckState, all_files_taken, check_status, check_text, file_begun, file_taken}
+use Rattle.mold_capture_commands.specs.Checking.{frames_of, no_captures}
+use Rattle.mold_capture_commands.specs.FrameChecking.{all_taken, beginning, founds, taken}
+use Rattle.mold_capture_commands.specs.RefusedAt.{LocatedState, all_located, frame_located}
 use Rattle.mold_capture_commands.specs.Captures.{captures_status, captures_text, each_captures_status, each_captures_text}
 use Rattle.mold_capture_commands.specs.Counts.{counts_text, is_partial, is_passed, is_skipped, is_unread, more_if, no_counts}
 use Rattle.mold_capture_commands.specs.Faults.{fault_text}
@@ -28,46 +26,7 @@ use Rattle.mold_capture_commands.specs.declared.filter.CaptureFilter.{CaptureFil
 use Rattle.mold_capture_commands.specs.declared.counts.CaptureCounts.{CaptureCounts}
 use Rattle.mold_capture_commands.specs.declared.frame_check.FrameCheck.{FrameCheck}
 
--- ---- frames that were taken
-
--- Of the known capture, some frames were taken. The remaining ones lead to the same state as all frames do.
-abbrev pub TakenSoFar : {S : Type 0} → Judging S → CaptureFilter → FrameCheck S → FrameCheck S → Option (List ℕ) →
-    FormatState → Option (List ℕ) → Type 0
-TakenSoFar judging filter start now None format left = Unit {0}
-TakenSoFar judging filter start now (Some input) format None = ⊥
-TakenSoFar judging filter start now (Some input) format (Some left) =
-    (all_taken judging start (founds filter (capture_of input).frames)
-    ≡ all_taken judging now (founds filter (captured format left).frames))
-    × ((capture_of input).fault ≡ (captured format left).fault)
-
--- No frame was taken.
-pub taken_none : {S : Type 0} (judging : Judging S) (filter : CaptureFilter) (start : FrameCheck S)
-    (known : Option (List ℕ)) (format : FormatState) (rest : List ℕ) → format ≡ at_start → rest ≡ [] →
-    TakenSoFar judging filter start start known format (prepend_known rest known)
-taken_none judging filter start None format rest is none = tt
-taken_none judging filter start (Some input) format rest is none = (
-  ap (λ (b : List ℕ). all_taken judging start (founds filter (captured at_start b).frames))
-      (ap (λ (r : List ℕ). r ++ input) (sym none))
-      ∙ ap (λ (f : FormatState). all_taken judging start (founds filter (captured f (rest ++ input)).frames)) (sym is),
-  ap (λ (b : List ℕ). (captured at_start b).fault) (ap (λ (r : List ℕ). r ++ input) (sym none))
-      ∙ ap (λ (f : FormatState). (captured f (rest ++ input)).fault) (sym is),
-)
-
--- One more frame was taken.
-pub taken_more : {S : Type 0} (judging : Judging S) (filter : CaptureFilter) (start now next : FrameCheck S)
-    (known left behind : Option (List ℕ)) (format later : FormatState) (frame : Frame) →
-    TakenSoFar judging filter start now known format left → GivesFrame format left frame later behind →
-    next ≡ taken judging now (found filter (carried frame.link frame.bytes)) →
-    TakenSoFar judging filter start next known later behind
-unfolding all_taken
-taken_more judging filter start now next None left behind format later frame so gives is = tt
-taken_more judging filter start now next (Some input) None behind format later frame so gives is = absurd so
-taken_more judging filter start now next (Some input) (Some xs) None format later frame so gives is = absurd gives
-taken_more {S} judging filter start now next (Some input) (Some xs) (Some ys) format later frame so gives is = (
-  so.0 ∙ ap (λ c. all_taken judging now (founds filter c.frames)) gives
-      ∙ ap (λ (s : FrameCheck S). all_taken judging s (founds filter (captured later ys).frames)) (sym is),
-  so.1 ∙ ap (λ c. c.fault) gives,
-)
+-- ---- a frame
 
 -- What a frame counts as that was read.
 pub found_frame : (filter : CaptureFilter) (frame : Frame) (f : Found) (c : Carried) (link : ℕ) (bytes : List ℕ) →
@@ -75,20 +34,6 @@ pub found_frame : (filter : CaptureFilter) (frame : Frame) (f : Found) (c : Carr
     f ≡ found filter (carried frame.link frame.bytes)
 found_frame filter frame f c link bytes is read at all =
     is ∙ ap (found filter) (read ∙ ap (λ (l : ℕ). carried l bytes) at ∙ ap (carried frame.link) all)
-
--- All frames were taken.
-pub taken_all : {S : Type 0} (judging : Judging S) (filter : CaptureFilter) (start now : FrameCheck S)
-    (known left : Option (List ℕ)) (format : FormatState) (fault : Option CaptureFault) →
-    TakenSoFar judging filter start now known format left → GivesEnd format left fault →
-    IfSome known (λ input. (now ≡ all_taken judging start (founds filter (capture_of input).frames))
-    × (fault ≡ (capture_of input).fault))
-unfolding all_taken
-taken_all judging filter start now None left format fault so gives = tt
-taken_all judging filter start now (Some input) None format fault so gives = absurd so
-taken_all judging filter start now (Some input) (Some xs) format fault so gives = (
-  sym (so.0 ∙ ap (λ c. all_taken judging now (founds filter c.frames)) gives),
-  sym (so.1 ∙ ap (λ c. c.fault) gives),
-)
 
 -- ---- the law: a list of frames
 
@@ -183,12 +128,21 @@ unfolding all_taken
 taken_append judging s [] more = refl
 taken_append judging s (first ∷ list) more = taken_append judging (taken judging s first) list more
 
+-- The check of the frames does not depend on where they are.
+check_is : {S : Type 0} (judging : Judging S) (filter : CaptureFilter) (s : LocatedState S) (frames : List Frame) →
+    (all_located judging filter s frames).check ≡ all_taken judging s.check (founds filter frames)
+unfolding all_taken all_located
+check_is judging filter s [] = refl
+check_is judging filter s (frame ∷ frames) = check_is judging filter (frame_located judging filter s frame) frames
+
 pub frames_are : {S : Type 0} (judging : Judging S) (filter : CaptureFilter) (s : CheckState S) (files : List CaptureFile) →
     frames_of (all_files_taken judging filter s files) ≡ all_taken judging (frames_of s) (founds_of filter files)
 unfolding all_taken all_files_taken
 frames_are judging filter s [] = refl
-frames_are judging filter s (file ∷ files) =
+frames_are {S} judging filter s (file ∷ files) =
     frames_are judging filter (file_taken judging filter s file.name file.bytes) files
+    ∙ ap (λ (f : FrameCheck S). all_taken judging f (founds_of filter files))
+    (check_is judging filter (file_begun s file.name) (capture_of file.bytes).frames)
     ∙ sym (taken_append judging (frames_of s) (founds filter (capture_of file.bytes).frames) (founds_of filter files))
 
 faults_are : {S : Type 0} (judging : Judging S) (filter : CaptureFilter) (s : CheckState S) (files : List CaptureFile) →

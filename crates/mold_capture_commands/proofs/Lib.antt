@@ -1,4 +1,5 @@
 pub mod CheckLemmas
+pub mod LocatedLemmas
 pub mod AddressLemmas
 pub mod ShowLemmas
 pub mod ShownLemmas

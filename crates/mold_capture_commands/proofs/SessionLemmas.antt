@@ -11,7 +11,8 @@ use Rattle.mold_pcap.specs.Formats.{FormatState, at_start}
 use Rattle.mold_pcap.specs.Reading.{GivesEnd, GivesFrame}
 use Rattle.mold_pcap.specs.declared.fault.CaptureFault.{CaptureFault}
 use Rattle.mold_capture_commands.specs.Captures.{faults_text, founds_of, has_fault}
-use Rattle.mold_capture_commands.specs.Checking.{CaptureFile, founds}
+use Rattle.mold_capture_commands.specs.Checking.{CaptureFile}
+use Rattle.mold_capture_commands.specs.FrameChecking.{founds}
 use Rattle.mold_capture_commands.specs.Counts.{others_text}
 use Rattle.mold_capture_commands.specs.Faults.{fault_text}
 use Rattle.mold_capture_commands.specs.Filter.{Found, Passed, Skipped, Partial, found, passes, passes_target}

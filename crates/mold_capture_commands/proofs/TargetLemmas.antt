@@ -13,7 +13,8 @@ use Rattle.mold_devices.specs.Devices.{one_more}
 use Rattle.mold_frame.specs.Carried.{Datagram}
 use Rattle.mold_rule.specs.declared.refusal.Refusal.{Refusal}
 use Rattle.mold_capture_commands.specs.Captures.{captures_refuse_other, destinations, founds_of, payloads, refuses_other}
-use Rattle.mold_capture_commands.specs.Checking.{CaptureFile, all_files_taken, all_taken, beginning, no_captures, taken}
+use Rattle.mold_capture_commands.specs.Checking.{CaptureFile, all_files_taken, no_captures}
+use Rattle.mold_capture_commands.specs.FrameChecking.{all_taken, beginning, taken}
 use Rattle.mold_capture_commands.specs.Counts.{counted}
 use Rattle.mold_capture_commands.specs.Filter.{Found, Passed, Skipped, Partial, Unread}
 use Rattle.mold_capture_commands.specs.Targets.{Destination, TargetState, aimed, destination_of, differ, first_or}

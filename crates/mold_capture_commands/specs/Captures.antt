@@ -10,7 +10,8 @@ use Rattle.mold_check.specs.Naming.{counted}
 use Rattle.mold_check.specs.Report.{outcome_status}
 use Rattle.mold_pcap.specs.Captures.{capture_of}
 use Rattle.mold_wire.specs.declared.limits.TheConstants.{MAX_NUMBER}
-use Rattle.mold_capture_commands.specs.Checking.{CaptureFile, founds}
+use Rattle.mold_capture_commands.specs.Checking.{CaptureFile}
+use Rattle.mold_capture_commands.specs.FrameChecking.{founds}
 use Rattle.mold_capture_commands.specs.Counts.{counts_text, is_partial, is_passed, is_skipped, is_unread}
 use Rattle.mold_capture_commands.specs.Faults.{fault_text}
 use Rattle.mold_capture_commands.specs.Filter.{Found, Passed, Skipped, Partial, Unread}

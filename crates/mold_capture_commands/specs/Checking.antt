@@ -1,60 +1,25 @@
 -- The state of a check of captures, whose datagrams are judged by any judge.
-use Rattle.std.specs.Prelude.{ℕ, ◌||◌, Bool, true, false, List, [], ◌∷◌, ◌++◌, map, codes, is_some, if◌then◌else◌}
+use Rattle.std.specs.Prelude.{ℕ, ◌||◌, Bool, true, false, List, [], ◌∷◌, ◌++◌, codes, is_some, if◌then◌else◌}
 use Rattle.mold_check.specs.Judge.{Judging}
 use Rattle.mold_check.specs.Naming.{counted as named_by}
-use Rattle.mold_devices.specs.Devices.{one_more}
-use Rattle.mold_frame.specs.Link.{carried}
-use Rattle.mold_pcap.specs.Captures.{Capture, Frame, capture_of}
-use Rattle.mold_capture_commands.specs.Counts.{counted, counts_text, no_counts}
+use Rattle.mold_pcap.specs.Captures.{Capture, capture_of}
+use Rattle.mold_capture_commands.specs.Counts.{counts_text, no_counts}
 use Rattle.mold_capture_commands.specs.Faults.{fault_text, unread_text}
-use Rattle.mold_capture_commands.specs.Filter.{Found, Passed, Skipped, Partial, Unread, found}
-use Rattle.mold_capture_commands.specs.Targets.{TargetState, aimed, destination_of, no_targets}
+use Rattle.mold_capture_commands.specs.RefusedAt.{LocatedState, all_located, no_sessions_seen}
+use Rattle.mold_capture_commands.specs.Targets.{TargetState, no_targets}
 use Rattle.mold_capture_commands.specs.declared.counts.CaptureCounts.{CaptureCounts}
 use Rattle.mold_capture_commands.specs.declared.filter.CaptureFilter.{CaptureFilter}
 use Rattle.mold_capture_commands.specs.declared.frame_check.FrameCheck.{FrameCheck}
+use Rattle.mold_capture_commands.specs.declared.several.SessionsSeen.{SessionsSeen}
 
--- Before the first frame, over a judge in this state.
-abbrev pub beginning : {S : Type 0} → S → FrameCheck S
-beginning judge = record { counts = no_counts; judge = judge; targets = no_targets }
-
--- The judge after one more frame. A datagram that passes has the number of such datagrams so far.
-abbrev pub judged : {S : Type 0} → Judging S → S → ℕ → Found → S
-judged judging judge number (Passed datagram) = judging.added judge number datagram.payload
-judged judging judge number Skipped = judge
-judged judging judge number Partial = judge
-judged judging judge number Unread = judge
-
--- What is kept of the destinations after one more frame, given whether the judge had decided before and after it.
-abbrev pub sent_to : TargetState → Bool → Bool → Found → TargetState
-sent_to targets before after (Passed datagram) = aimed targets before after (destination_of datagram)
-sent_to targets before after Skipped = targets
-sent_to targets before after Partial = targets
-sent_to targets before after Unread = targets
-
--- The state after one more frame.
-abbrev pub taken : {S : Type 0} → Judging S → FrameCheck S → Found → FrameCheck S
-taken judging s found = record {
-  counts = counted s.counts found;
-  judge = judged judging s.judge (one_more s.counts.datagrams) found;
-  targets =
-      sent_to s.targets (judging.decided s.judge)
-      (judging.decided (judged judging s.judge (one_more s.counts.datagrams) found)) found;
-}
-
--- The state after the frames.
-unfoldable pub all_taken : {S : Type 0} → Judging S → FrameCheck S → List Found → FrameCheck S
-all_taken judging s [] = s
-all_taken judging s (found ∷ list) = all_taken judging (taken judging s found) list
-
--- What the frames count as.
-abbrev pub founds : CaptureFilter → List Frame → List Found
-founds filter frames = map (λ frame. found filter (carried frame.link frame.bytes)) frames
-
--- The state of a `CaptureCheck`: the counts, the judge, the destinations, and the lines of the files at fault.
+-- The state of a `CaptureCheck`: the counts, the judge, the destinations, the line of the refused datagram, the sessions,
+-- and the lines of the files at fault.
 pub record CheckState (S : Type 0) : Type 0 where
   pub counts : CaptureCounts
   pub judge : S
   pub targets : TargetState
+  pub place : List ℕ
+  pub sessions : SessionsSeen
   pub faults : List ℕ
   pub at_fault : Bool
 
@@ -64,6 +29,8 @@ no_captures_over judge = record {
   counts = no_counts;
   judge = judge;
   targets = no_targets;
+  place = [];
+  sessions = no_sessions_seen;
   faults = [];
   at_fault = false;
 }
@@ -76,12 +43,19 @@ no_captures judging = no_captures_over judging.begins
 abbrev pub frames_of : {S : Type 0} → CheckState S → FrameCheck S
 frames_of s = record { counts = s.counts; judge = s.judge; targets = s.targets }
 
+-- The state of the frames before those of a file with this name.
+abbrev pub file_begun : {S : Type 0} → CheckState S → List ℕ → LocatedState S
+file_begun s name =
+    record { check = frames_of s; name = name; frame = 0; place = s.place; sessions = s.sessions }
+
 -- The state after one more file, with these frames and this fault.
-abbrev pub capture_taken : {S : Type 0} → CheckState S → FrameCheck S → List ℕ → Capture → CheckState S
+abbrev pub capture_taken : {S : Type 0} → CheckState S → LocatedState S → List ℕ → Capture → CheckState S
 capture_taken s frames name capture = record {
-  counts = frames.counts;
-  judge = frames.judge;
-  targets = frames.targets;
+  counts = frames.check.counts;
+  judge = frames.check.judge;
+  targets = frames.check.targets;
+  place = frames.place;
+  sessions = frames.sessions;
   faults = s.faults ++ fault_text name capture.fault;
   at_fault = s.at_fault || is_some capture.fault;
 }
@@ -89,7 +63,7 @@ capture_taken s frames name capture = record {
 -- The state after one more file, which has this name and these bytes.
 abbrev pub file_taken : {S : Type 0} → Judging S → CaptureFilter → CheckState S → List ℕ → List ℕ → CheckState S
 file_taken judging filter s name bytes =
-    capture_taken s (all_taken judging (frames_of s) (founds filter (capture_of bytes).frames)) name (capture_of bytes)
+    capture_taken s (all_located judging filter (file_begun s name) (capture_of bytes).frames) name (capture_of bytes)
 
 -- The state after a file with this name, which can't be read from this byte on. What was read of it counts before.
 abbrev pub file_unread : {S : Type 0} → CheckState S → List ℕ → ℕ → CheckState S
@@ -97,6 +71,8 @@ file_unread s name at = record {
   counts = s.counts;
   judge = s.judge;
   targets = s.targets;
+  place = s.place;
+  sessions = s.sessions;
   faults = s.faults ++ unread_text name at;
   at_fault = true;
 }

@@ -3,6 +3,8 @@ pub mod Counts
 pub mod CountedSource
 pub mod Targets
 pub mod Faults
+pub mod FrameChecking
+pub mod RefusedAt
 pub mod Checking
 pub mod Captures
 pub mod Address
@@ -12,3 +14,4 @@ pub mod Showing
 pub mod Pairs
 pub mod Sessions
 pub mod SessionState
+pub mod Start

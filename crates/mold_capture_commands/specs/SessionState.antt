@@ -8,7 +8,8 @@ use Rattle.mold_pcap.specs.Captures.{Capture, capture_of}
 use Rattle.mold_wire.specs.Reading.{reading}
 use Rattle.mold_wire.specs.declared.error.DecodeError.{DecodeError}
 use Rattle.mold_wire.specs.declared.packet.Packet.{Packet}
-use Rattle.mold_capture_commands.specs.Checking.{CaptureFile, founds}
+use Rattle.mold_capture_commands.specs.Checking.{CaptureFile}
+use Rattle.mold_capture_commands.specs.FrameChecking.{founds}
 use Rattle.mold_capture_commands.specs.Counts.{counted, more_if, no_counts, others_text}
 use Rattle.mold_capture_commands.specs.Faults.{fault_text, unread_text}
 use Rattle.mold_capture_commands.specs.Filter.{Found, Passed, Skipped, Partial, Unread}

@@ -11,7 +11,7 @@ ghost use Rattle.mold_devices.specs.Faults.{CountsRead, CountsSink};
 use crate::counts::push_counts;
 use crate::faults::{push_fault, push_unread};
 use crate::filter::CaptureFilter;
-use crate::frame_check::{FrameCheck, read_frames};
+use crate::located_check::{LocatedCheck, read_frames};
 use crate::watch::Watch;
 use mold_check::{Counted, FreshJudge, Judge};
 use mold_devices::{CommandFault, ReadFault, Sink, Source, send};
@@ -21,11 +21,11 @@ use std::marker::Model;
 /// The command `check --capture`: a check of the datagrams of captures, which are read one after the other. A judge finds
 /// the outcome: `DatagramCheck` for one session, `EachCheck` for each session by itself, and `Digested` by digest.
 ///
-/// It keeps the messages that the judge stores, the lines of the files at fault and the destination of the first
-/// accepted datagram.
+/// It keeps the messages that the judge stores, the lines of the files at fault, the destination of the first accepted
+/// datagram, the line of the refused one and the name of the current file.
 #[derive(Drop)]
 pub struct CaptureCheck<J> {
-    frames: FrameCheck<J>,
+    frames: LocatedCheck<J>,
     // The lines of the files at fault.
     faults: Vec<u8>,
     at_fault: bool,
@@ -38,9 +38,11 @@ impl<J> Model for CaptureCheck<J> {
     ghost Value = { CheckState J };
 
     ghost view = { λ c. record {
-      counts = c.frames.counts;
-      judge = c.frames.judge;
-      targets = c.frames.targets;
+      counts = c.frames.check.counts;
+      judge = c.frames.check.judge;
+      targets = c.frames.check.targets;
+      place = c.frames.place;
+      sessions = c.frames.sessions;
       faults = c.faults.items;
       at_fault = c.at_fault;
     } };
@@ -61,7 +63,7 @@ impl<J: Judge> CaptureCheck<J> {
         ensures { result ≡ no_captures_over judge }
     {
         CaptureCheck {
-            frames: FrameCheck::over(alloc, judge),
+            frames: LocatedCheck::over(alloc, judge),
             faults: Vec::new(alloc),
             at_fault: false,
             alloc,
@@ -84,6 +86,7 @@ impl<J: Judge> CaptureCheck<J> {
             self.new ≡ file_taken J.judging filter.now self.old name.now bytes)) }
         ensures failures { CountsRead (S.failed source.old) (S.failed source.new) result }
     {
+        self.frames.begin(name)?;
         if let Some(fault) = read_frames(self.alloc, filter, source, &mut self.frames, watch)? {
             self.at_fault = true;
             push_fault(&mut self.faults, name, fault)?;
@@ -107,14 +110,30 @@ impl<J: Judge> CaptureCheck<J> {
     pub fn sees_other_target(&self) -> bool
         ensures { result ≡ self.now.targets.other }
     {
-        self.frames.targets.other()
+        self.frames.check.targets.other()
+    }
+
+    /// Returns the line that states where the refused datagram is: `datagram K is frame F at TIME to ADDR of NAME`, where
+    /// `F` counts the frames of the file from 1. It is empty if no datagram is refused, and always with an `EachCheck`.
+    pub fn place(&self) -> &[u8]
+        ensures { result.now ≡ self.now.place }
+    {
+        self.frames.place.as_slice()
+    }
+
+    /// Returns whether the refused datagram or a later one encodes a packet of another session than the first packet. It
+    /// is false if no datagram is refused, and always with an `EachCheck`.
+    pub fn sees_several_sessions(&self) -> bool
+        ensures { result ≡ self.now.sessions.several }
+    {
+        self.frames.sessions.several
     }
 
     /// Returns the judge of the datagrams so far.
     pub fn judge(&self) -> &J
         ensures { result.now ≡ self.now.judge }
     {
-        &self.frames.judge
+        &self.frames.check.judge
     }
 
     /// Returns whether a file is at fault.
@@ -134,7 +153,7 @@ impl<J: Judge> CaptureCheck<J> {
         ensures failures { CountsSink (K.failed sink.old) (K.failed sink.new) result }
     {
         let mut text = Vec::new(self.alloc);
-        push_counts(&mut text, self.frames.counts)?;
+        push_counts(&mut text, self.frames.check.counts)?;
         text.extend_from_slice(self.faults.as_slice())?;
         send(sink, &mut text)
     }
@@ -151,10 +170,11 @@ impl<J: Judge> CaptureCheck<J> {
         ensures failures { CountsSink (K.failed sink.old) (K.failed sink.new) result }
     {
         let mut text = Vec::new(self.alloc);
-        push_counts(&mut text, self.frames.counts)?;
+        push_counts(&mut text, self.frames.check.counts)?;
         text.extend_from_slice(self.faults.as_slice())?;
         let status = self
             .frames
+            .check
             .judge
             .print(sink, &mut text, &Counted { word: b"datagram" })?;
         if self.at_fault {

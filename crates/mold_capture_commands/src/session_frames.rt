@@ -1,7 +1,7 @@
 //! Reads the frames of captures for their sessions.
 
 ghost use Rattle.std.specs.Prelude.{◌≡◌, IfOk, IfSome, OnOk};
-ghost use Rattle.mold_capture_commands.specs.Checking.{founds};
+ghost use Rattle.mold_capture_commands.specs.FrameChecking.{founds};
 ghost use Rattle.mold_capture_commands.specs.Filter.{lent_found};
 ghost use Rattle.mold_capture_commands.specs.SessionState.{HasTarget, all_counted, frame_counted, nothing_counted};
 ghost use Rattle.mold_devices.specs.Faults.{CountsRead};

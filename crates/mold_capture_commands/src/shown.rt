@@ -47,8 +47,8 @@ fn push_fraction(text: &mut Vec<u8>, nanoseconds: u32) -> Result<(), AllocError>
     Ok(())
 }
 
-// Appends the time of a frame.
-fn push_time(text: &mut Vec<u8>, time: Option<FrameTime>) -> Result<(), AllocError>
+/// Appends the time of a frame.
+pub(crate) fn push_time(text: &mut Vec<u8>, time: Option<FrameTime>) -> Result<(), AllocError>
     ensures text { OnOk result (text.new.items ≡ text.old.items ++ time_text time) }
     ensures kept { OnErr result (take (length text.old.items) text.new.items ≡ text.old.items) }
 {
@@ -64,8 +64,13 @@ fn push_time(text: &mut Vec<u8>, time: Option<FrameTime>) -> Result<(), AllocErr
     }
 }
 
-// Appends the word and the address with its port.
-fn push_side(text: &mut Vec<u8>, word: &[u8], address: &[u8], port: u16) -> Result<(), AllocError>
+/// Appends the word and the address with its port.
+pub(crate) fn push_side(
+    text: &mut Vec<u8>,
+    word: &[u8],
+    address: &[u8],
+    port: u16,
+) -> Result<(), AllocError>
     ensures text { OnOk result (text.new.items ≡ text.old.items ++ (word.now ++ endpoint_text address.now port)) }
     ensures kept { OnErr result (take (length text.old.items) text.new.items ≡ text.old.items) }
 {

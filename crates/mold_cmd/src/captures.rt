@@ -13,6 +13,8 @@ use std::io::{ErrorKind, Stdout, Write};
 
 const SEE_SESSIONS: &str = "see mold sessions\n";
 
+const ADD_EACH: &str = "the input has several sessions: add --each or --session SESSION\n";
+
 /// A command that reads captures one after the other.
 trait CaptureCommand {
     /// Reads the capture of this name.
@@ -170,21 +172,30 @@ pub(crate) fn read_capture_check<J: Judge>(
     Ok(check)
 }
 
-/// Refers to `mold sessions` on standard error if a request to a server may have been taken for a packet.
-pub(crate) fn refer_to_sessions<J: Judge>(rt: &HostRuntime, check: &CaptureCheck<J>) {
+/// States on standard error where the refused datagram is. If a request to a server may have been taken for a packet,
+/// it refers to `mold sessions`.
+pub(crate) fn explain_refusal<J: Judge>(rt: &HostRuntime, check: &CaptureCheck<J>) {
+    let _ = rt.stderr().write_all(check.place());
     if check.sees_other_target() {
         let _ = rt.eprint(SEE_SESSIONS);
     }
 }
 
-/// Checks the datagrams of the captures, and flushes standard output once. If a request to a server may have been taken
-/// for a packet, it refers to `mold sessions` on standard error.
+/// States on standard error how the input is checked if it has several sessions.
+pub(crate) fn explain_sessions<J: Judge>(rt: &HostRuntime, check: &CaptureCheck<J>) {
+    if check.sees_several_sessions() {
+        let _ = rt.eprint(ADD_EACH);
+    }
+}
+
+/// Checks the datagrams of the captures, and flushes standard output once. A refusal is explained on standard error.
 pub(crate) fn check_captures(rt: &HostRuntime, order: &CaptureOrder) -> Result<u8, CommandFault> {
     let check = read_capture_check(rt, order, DatagramCheck::new(rt.alloc()))?;
     let mut sink = IntoWrite::new(rt.stdout());
     let outcome = check.print(&mut sink);
     let status = flushed(outcome, sink.into_inner().flush())?;
-    refer_to_sessions(rt, &check);
+    explain_refusal(rt, &check);
+    explain_sessions(rt, &check);
     Ok(status)
 }
 

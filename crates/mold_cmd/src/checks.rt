@@ -1,6 +1,6 @@
 //! Runs `mold check` with `--each`, `--digest` and `--journal`, and `mold extract`.
 
-use crate::input_check::{InputCheck, read_check, read_entries};
+use crate::input_check::{InputCheck, read_check, read_checked_entries, read_entries};
 use mold_check::{DatagramCheck, DigestCheck, Digested, EachCheck, FreshJudge, Judge};
 use mold_devices::{CommandFault, DeviceFault, IntoWrite, Sink, send};
 use mold_digest::DigestKey;
@@ -17,7 +17,8 @@ fn report<J: Judge>(rt: &HostRuntime, check: &InputCheck<'_, J>) -> Result<u8, C
     let mut sink = IntoWrite::new(rt.stdout());
     let outcome = check.print(rt.alloc(), &mut sink);
     let status = flushed(outcome, sink.into_inner().flush())?;
-    check.refer_to_sessions(rt);
+    check.explain_refusal(rt);
+    check.explain_sessions(rt);
     Ok(status)
 }
 
@@ -27,7 +28,7 @@ fn check_over<J: Judge>(
     input: &InputOrder,
     judge: J,
 ) -> Result<u8, CommandFault> {
-    let entries = read_entries(rt, input)?;
+    let entries = read_checked_entries(rt, input)?;
     let check = read_check(rt, input, entries.as_slice(), judge)?;
     report(rt, &check)
 }
@@ -118,7 +119,8 @@ fn save_check<J: Sink>(
     let mut sink = IntoWrite::new(rt.stdout());
     let outcome = save(rt.alloc(), check, file, &mut sink);
     let status = flushed(outcome, sink.into_inner().flush())?;
-    check.refer_to_sessions(rt);
+    check.explain_refusal(rt);
+    check.explain_sessions(rt);
     Ok(status)
 }
 
@@ -128,7 +130,7 @@ fn save_input<J: Sink>(
     input: &InputOrder,
     file: &mut J,
 ) -> Result<u8, CommandFault> {
-    let entries = read_entries(rt, input)?;
+    let entries = read_checked_entries(rt, input)?;
     let judge = DatagramCheck::new(rt.alloc());
     let check = read_check(rt, input, entries.as_slice(), judge)?;
     save_check(rt, &check, file)
@@ -202,7 +204,7 @@ fn extract_check<J: Sink>(
     let mut sink = IntoWrite::new(rt.stdout());
     let outcome = extract(rt.alloc(), check, order, file, &mut sink);
     let status = flushed(outcome, sink.into_inner().flush())?;
-    check.refer_to_sessions(rt);
+    check.explain_refusal(rt);
     Ok(status)
 }
 

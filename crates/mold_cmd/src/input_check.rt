@@ -1,15 +1,20 @@
 //! A check of the datagrams of an input: lines, a folder or captures.
 
-use crate::captures::{read_capture_check, refer_to_sessions};
+use crate::captures::{explain_refusal, explain_sessions, read_capture_check};
 use crate::progress::Progress;
 use crate::watched_lines::WatchedLines;
 use mold_capture::Checker;
-use mold_capture_commands::CaptureCheck;
+use mold_capture_commands::{CaptureCheck, begins_as_capture};
 use mold_check::{DatagramCheck, Entry, EntryCheck, Judge, LineCheck, read_lines_over};
 use mold_commands::read_folder;
 use mold_devices::{CommandFault, FromRead, Sink};
 use mold_words::InputOrder;
 use std::alloc::Global;
+use std::fs;
+use std::fs::File;
+use std::io::Read;
+
+const IS_IT_A_CAPTURE: &str = "is it a capture? mold check --capture ";
 
 /// A check of the datagrams of an input, which were judged by `J`.
 #[derive(Drop)]
@@ -17,6 +22,31 @@ pub(crate) enum InputCheck<'a, J> {
     Lines(LineCheck<J>),
     Folder(EntryCheck<'a, J>),
     Captures(CaptureCheck<J>),
+}
+
+// Returns whether this is a file that begins as a capture.
+fn is_capture(rt: &HostRuntime, name: &str) -> bool {
+    match fs::metadata(rt, name) {
+        Ok(found) if found.is_file() => {}
+        _ => return false,
+    }
+    let Ok(mut file) = File::open(rt, name) else {
+        return false;
+    };
+    let mut start = [0; 4];
+    match file.read_exact(&mut start) {
+        Ok(()) => begins_as_capture(&start),
+        Err(_) => false,
+    }
+}
+
+/// If this is not a folder but a file that begins as a capture, states on standard error how it is checked.
+pub(crate) fn ask_for_capture(rt: &HostRuntime, name: &str) {
+    if is_capture(rt, name) {
+        let _ = rt.eprint(IS_IT_A_CAPTURE);
+        let _ = rt.eprint(name);
+        let _ = rt.eprint("\n");
+    }
 }
 
 /// Reads the entries of the folder. Another input has no entries.
@@ -30,6 +60,18 @@ pub(crate) fn read_entries(
     let mut progress = Progress::of_unknown(rt);
     let entries = read_folder(rt, folder.as_str(), &mut progress);
     progress.end();
+    entries
+}
+
+/// The same for `check`. If the folder is a file that begins as a capture, states on standard error how it is checked.
+pub(crate) fn read_checked_entries(
+    rt: &HostRuntime,
+    input: &InputOrder,
+) -> Result<Vec<Entry>, CommandFault> {
+    let entries = read_entries(rt, input);
+    if let (InputOrder::Folder(folder), Err(CommandFault::Read)) = (input, &entries) {
+        ask_for_capture(rt, folder.as_str());
+    }
     entries
 }
 
@@ -84,10 +126,17 @@ impl<'a, J: Judge> InputCheck<'a, J> {
         }
     }
 
-    /// Refers to `mold sessions` on standard error if a request to a server may have been taken for a packet.
-    pub(crate) fn refer_to_sessions(&self, rt: &HostRuntime) {
+    /// Explains a refusal of captures on standard error.
+    pub(crate) fn explain_refusal(&self, rt: &HostRuntime) {
         if let InputCheck::Captures(check) = self {
-            refer_to_sessions(rt, check);
+            explain_refusal(rt, check);
+        }
+    }
+
+    /// States on standard error how captures of several sessions are checked.
+    pub(crate) fn explain_sessions(&self, rt: &HostRuntime) {
+        if let InputCheck::Captures(check) = self {
+            explain_sessions(rt, check);
         }
     }
 

@@ -15,6 +15,7 @@ use broken_pipe::status_of;
 use captures::{check_captures, list_sessions, show_captures};
 use checks::{check_and_save, check_by_digest, check_each, run_extract};
 use closed_streams::ClosedStreams;
+use input_check::ask_for_capture;
 use mold_check::check_lines;
 use mold_commands::{
     DumpOptions, check_folder, dump_file, run_command, run_pack_journal, run_upgrade,
@@ -120,6 +121,9 @@ fn check_input_folder(rt: &HostRuntime, folder: &str) -> Result<u8, CommandFault
     let mut sink = IntoWrite::new(rt.stdout());
     let outcome = check_folder(rt, folder, &mut progress, &mut sink);
     progress.end();
+    if let Err(CommandFault::Read) = outcome {
+        ask_for_capture(rt, folder);
+    }
     flushed(outcome, sink.into_inner().flush())
 }
 

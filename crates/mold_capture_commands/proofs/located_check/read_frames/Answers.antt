@@ -1,9 +1,20 @@
-use Rattle.std.proofs.Common.{◌∙◌, ap}
+use Rattle.std.proofs.Common.{◌∙◌, ap, refl}
 use Rattle.std.specs.Prelude.{None, Some}
 use Rattle.std.specs.Io.KnownBytes.{prepend_known}
-use Rattle.mold_capture_commands.specs.Checking.{taken}
-use Rattle.mold_capture_commands.proofs.CheckLemmas.{found_frame, taken_all, taken_more}
-use Rattle.mold_capture_commands.proofs.frame_check.read_frames.Goals as goal
+use Rattle.mold_pcap.specs.Reading.{ReaderState}
+use Rattle.mold_capture_commands.proofs.LocatedLemmas.{taken_all, taken_more, taken_none}
+use Rattle.mold_capture_commands.proofs.located_check.read_frames.Goals as goal
+
+pub frames-init : goal.frames-init
+frames-init g c =
+    let begins = rw c.in_ok-reader.was at c.new.ensures in
+    record {
+      taken =
+          taken_none g.J.Judge.judging c.args.filter.now c.args.check.now (g.S.Source.left c.args.source.now)
+          c.in_ok-reader.reader.format c.in_ok-reader.reader.rest (ap (λ (r : ReaderState). r.format) begins)
+          (ap (λ (r : ReaderState). r.rest) begins);
+      failed = refl;
+    }
 
 pub frames-preserved : goal.frames-preserved
 frames-preserved g c = record {
@@ -13,10 +24,7 @@ frames-preserved g c = record {
       (prepend_known c.advance.new.self.rest (g.S.Source.left c.advance.new.source)) c.frames.reader.format
       c.advance.new.self.format c.advance.new.self.frame c.frames.invariant.taken
       (rw c.in-Ok-true.field-0-test at c.in-Ok-true.ensures.frame)
-      (c.in_ok-take-in-Ok-true.ensures
-      ∙ ap (taken g.J.Judge.judging c.frames.check)
-      (found_frame c.args.filter.now c.advance.new.self.frame _ _ _ _ c.find.ensures c.read_frame.ensures c.link.ensures
-      c.frame.ensures));
+      c.in_ok-take-in-Ok-true.ensures;
   failed = c.in-Ok-true.ensures.failures ∙ c.frames.invariant.failed;
 }
 

@@ -1,8 +1,8 @@
 use Rattle.std.proofs.Common.{◌≡◌}
 use Rattle.std.specs.Io.KnownBytes.{prepend_known}
 use Rattle.mold_devices.specs.Lines.{work_left}
-use Rattle.mold_capture_commands.proofs.CheckLemmas.{TakenSoFar}
-use Rattle.mold_capture_commands.proofs.frame_check.read_frames.Given as goal
+use Rattle.mold_capture_commands.proofs.LocatedLemmas.{TakenSoFar}
+use Rattle.mold_capture_commands.proofs.located_check.read_frames.Given as goal
 
 -- The frames so far were taken, and no device failed.
 abbrev pub invariant-frames : goal.invariant-frames
