@@ -1,6 +1,6 @@
 -- A check of captures, file by file.
 use Rattle.std.proofs.Common.{◌≡◌, ℕ, suc, ◌+◌, ◌≤◌, Bool, true, false, ◌||◌, List, [], ◌∷◌, ◌++◌, length, refl, sym, ap, ◌∙◌, arith, append_assoc, append-nil}
-use Rattle.std.specs.Prelude.{Option, None, Some, IfSome, ◌^◌, ◌-◌, min, is_some, codes, if◌then◌else◌}
+use Rattle.std.specs.Prelude.{◌^◌, ◌-◌, min, is_some, codes, if◌then◌else◌}
 use Rattle.std.specs.List.{filter}
 use Rattle.mold_check.specs.CheckLines.{outcome_of}
 use Rattle.mold_check.specs.EachCheck.{all_judged, each_judging, sessions_status, sessions_text, with_numbers}

@@ -7,7 +7,7 @@ use Rattle.mold_pcap.specs.Captures.{Frame, capture_of, captured}
 use Rattle.mold_pcap.specs.Formats.{FormatState, at_start}
 use Rattle.mold_pcap.specs.Reading.{GivesEnd, GivesFrame}
 use Rattle.mold_pcap.specs.declared.fault.CaptureFault.{CaptureFault}
-use Rattle.mold_capture_commands.specs.RefusedAt.{LocatedState, all_located, frame_located}
+use Rattle.mold_capture_commands.specs.RefusedAt.{LocatedState, LocatesPart, all_located, frame_located}
 use Rattle.mold_capture_commands.specs.declared.filter.CaptureFilter.{CaptureFilter}
 
 -- The frames so far were taken, and the rest of them follow.
@@ -90,3 +90,16 @@ taken_all judging filter start now (Some input) (Some xs) format fault so gives 
       (sym (so.0.parts ∙ ap (λ c. so.0.list ++ c.frames) gives ∙ append-nil so.0.list)),
   sym (so.1 ∙ ap (λ c. c.fault) gives),
 )
+
+-- The frames so far were taken, and a read failed.
+pub taken_part : {S : Type 0} (judging : Judging S) (filter : CaptureFilter) (start now : LocatedState S)
+    (known left : Option (List ℕ)) (format : FormatState) → TakenSoFar judging filter start now known format left →
+    IfSome known (λ input. LocatesPart judging filter start now (capture_of input).frames)
+taken_part judging filter start now None left format so = tt
+taken_part judging filter start now (Some input) None format so = absurd so
+taken_part judging filter start now (Some input) (Some xs) format so = record {
+  list = so.0.list;
+  rest = (captured format xs).frames;
+  parts = so.0.parts;
+  taken = so.0.taken;
+}

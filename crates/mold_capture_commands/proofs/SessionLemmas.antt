@@ -16,7 +16,7 @@ use Rattle.mold_capture_commands.specs.FrameChecking.{founds}
 use Rattle.mold_capture_commands.specs.Counts.{others_text}
 use Rattle.mold_capture_commands.specs.Faults.{fault_text}
 use Rattle.mold_capture_commands.specs.Filter.{Found, Passed, Skipped, Partial, found, passes, passes_target}
-use Rattle.mold_capture_commands.specs.SessionState.{HasTarget, SessionState, all_counted, all_sessions_taken, frame_counted, lines_text}
+use Rattle.mold_capture_commands.specs.SessionState.{CountsPart, HasTarget, SessionState, all_counted, all_sessions_taken, frame_counted, lines_text}
 use Rattle.mold_capture_commands.specs.SessionState.{no_sessions, nothing_counted, sessions_taken, state_status, state_text}
 use Rattle.mold_capture_commands.specs.Sessions.{sessions_status, sessions_text}
 use Rattle.mold_capture_commands.specs.declared.filter.CaptureFilter.{CaptureFilter}
@@ -26,24 +26,48 @@ use Rattle.mold_capture_commands.proofs.LineLemmas.{pairs_are}
 
 -- ---- frames that were counted
 
--- Of the known capture, some frames were counted. The remaining ones lead to the same lines as all frames do.
+-- The frames so far were counted, and the rest of them follow.
+pub record CountedOf (filter : CaptureFilter) (start now : SessionFrames) (whole rest : List Frame) : Type 0 where
+  pub list : List Frame
+  pub parts : whole ≡ list ++ rest
+  pub counted : now ≡ all_counted start (founds filter list)
+
+-- The same for a capture, if it is known.
 abbrev pub CountedSoFar : CaptureFilter → SessionFrames → SessionFrames → Option (List ℕ) → FormatState → Option (List ℕ) → Type 0
 CountedSoFar filter start now None format left = Unit {0}
 CountedSoFar filter start now (Some input) format None = ⊥
 CountedSoFar filter start now (Some input) format (Some left) =
-    (all_counted start (founds filter (capture_of input).frames) ≡ all_counted now (founds filter (captured format left).frames))
+    CountedOf filter start now (capture_of input).frames (captured format left).frames
     × ((capture_of input).fault ≡ (captured format left).fault)
 
 -- No frame was counted.
 pub counted_none : (filter : CaptureFilter) (start : SessionFrames) (known : Option (List ℕ)) (format : FormatState)
     (rest : List ℕ) → format ≡ at_start → rest ≡ [] → CountedSoFar filter start start known format (prepend_known rest known)
+unfolding all_counted
 counted_none filter start None format rest is none = tt
 counted_none filter start (Some input) format rest is none = (
-  ap (λ (b : List ℕ). all_counted start (founds filter (captured at_start b).frames)) (ap (λ (r : List ℕ). r ++ input) (sym none))
-      ∙ ap (λ (f : FormatState). all_counted start (founds filter (captured f (rest ++ input)).frames)) (sym is),
+  record {
+    list = [];
+    parts =
+        ap (λ (b : List ℕ). (captured at_start b).frames) (ap (λ (r : List ℕ). r ++ input) (sym none))
+        ∙ ap (λ (f : FormatState). (captured f (rest ++ input)).frames) (sym is);
+    counted = refl;
+  },
   ap (λ (b : List ℕ). (captured at_start b).fault) (ap (λ (r : List ℕ). r ++ input) (sym none))
       ∙ ap (λ (f : FormatState). (captured f (rest ++ input)).fault) (sym is),
 )
+
+counted_append : (s : SessionFrames) (list more : List Found) →
+    all_counted s (list ++ more) ≡ all_counted (all_counted s list) more
+unfolding all_counted
+counted_append s [] more = refl
+counted_append s (first ∷ list) more = counted_append (frame_counted s first) list more
+
+founds_append : (filter : CaptureFilter) (list more : List Frame) →
+    founds filter (list ++ more) ≡ founds filter list ++ founds filter more
+founds_append filter [] more = refl
+founds_append filter (first ∷ list) more =
+    ap (λ (l : List Found). found filter (carried first.link first.bytes) ∷ l) (founds_append filter list more)
 
 -- One more frame was counted.
 pub counted_more : (filter : CaptureFilter) (start now next : SessionFrames) (known left behind : Option (List ℕ))
@@ -55,8 +79,18 @@ counted_more filter start now next None left behind format later frame so gives 
 counted_more filter start now next (Some input) None behind format later frame so gives is = absurd so
 counted_more filter start now next (Some input) (Some xs) None format later frame so gives is = absurd gives
 counted_more filter start now next (Some input) (Some xs) (Some ys) format later frame so gives is = (
-  so.0 ∙ ap (λ c. all_counted now (founds filter c.frames)) gives
-      ∙ ap (λ (s : SessionFrames). all_counted s (founds filter (captured later ys).frames)) (sym is),
+  record {
+    list = so.0.list ++ (frame ∷ []);
+    parts =
+        so.0.parts
+        ∙ ap (λ c. so.0.list ++ c.frames) gives
+        ∙ sym (append_assoc so.0.list (frame ∷ []) (captured later ys).frames);
+    counted =
+        is
+        ∙ ap (λ (s : SessionFrames). frame_counted s (found filter (carried frame.link frame.bytes))) so.0.counted
+        ∙ sym (counted_append start (founds filter so.0.list) (found filter (carried frame.link frame.bytes) ∷ []))
+        ∙ ap (all_counted start) (sym (founds_append filter so.0.list (frame ∷ [])));
+  },
   so.1 ∙ ap (λ c. c.fault) gives,
 )
 
@@ -64,13 +98,27 @@ counted_more filter start now next (Some input) (Some xs) (Some ys) format later
 pub counted_all : (filter : CaptureFilter) (start now : SessionFrames) (known left : Option (List ℕ)) (format : FormatState)
     (fault : Option CaptureFault) → CountedSoFar filter start now known format left → GivesEnd format left fault →
     IfSome known (λ input. (now ≡ all_counted start (founds filter (capture_of input).frames)) × (fault ≡ (capture_of input).fault))
-unfolding all_counted
 counted_all filter start now None left format fault so gives = tt
 counted_all filter start now (Some input) None format fault so gives = absurd so
 counted_all filter start now (Some input) (Some xs) format fault so gives = (
-  sym (so.0 ∙ ap (λ c. all_counted now (founds filter c.frames)) gives),
+  so.0.counted
+      ∙ ap (λ (l : List Frame). all_counted start (founds filter l))
+      (sym (so.0.parts ∙ ap (λ c. so.0.list ++ c.frames) gives ∙ append-nil so.0.list)),
   sym (so.1 ∙ ap (λ c. c.fault) gives),
 )
+
+-- The frames so far were counted, and a read failed.
+pub counted_part : (filter : CaptureFilter) (start now : SessionFrames) (known left : Option (List ℕ)) (format : FormatState) →
+    CountedSoFar filter start now known format left →
+    IfSome known (λ input. CountsPart filter start now (capture_of input).frames)
+counted_part filter start now None left format so = tt
+counted_part filter start now (Some input) None format so = absurd so
+counted_part filter start now (Some input) (Some xs) format so = record {
+  list = so.0.list;
+  rest = (captured format xs).frames;
+  parts = so.0.parts;
+  counted = so.0.counted;
+}
 
 -- ---- the destination of a datagram
 
@@ -96,12 +144,6 @@ found_target filter Other has = tt
 found_target filter UnreadLink has = tt
 
 -- ---- the law: a list of files
-
-counted_append : (s : SessionFrames) (list more : List Found) →
-    all_counted s (list ++ more) ≡ all_counted (all_counted s list) more
-unfolding all_counted
-counted_append s [] more = refl
-counted_append s (first ∷ list) more = counted_append (frame_counted s first) list more
 
 frames_all : (filter : CaptureFilter) (s : SessionState) (files : List CaptureFile) →
     (all_sessions_taken filter s files).frames ≡ all_counted s.frames (founds_of filter files)

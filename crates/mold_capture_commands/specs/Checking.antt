@@ -1,8 +1,8 @@
 -- The state of a check of captures, whose datagrams are judged by any judge.
-use Rattle.std.specs.Prelude.{ℕ, ◌||◌, Bool, true, false, List, [], ◌∷◌, ◌++◌, codes, is_some, if◌then◌else◌}
+use Rattle.std.specs.Prelude.{◌≡◌, ℕ, ◌||◌, Bool, true, false, List, [], ◌∷◌, ◌++◌, codes, is_some, if◌then◌else◌}
 use Rattle.mold_check.specs.Judge.{Judging}
 use Rattle.mold_check.specs.Naming.{counted as named_by}
-use Rattle.mold_pcap.specs.Captures.{Capture, capture_of}
+use Rattle.mold_pcap.specs.Captures.{Capture, Frame, capture_of}
 use Rattle.mold_capture_commands.specs.Counts.{counts_text, no_counts}
 use Rattle.mold_capture_commands.specs.Faults.{fault_text, unread_text}
 use Rattle.mold_capture_commands.specs.RefusedAt.{LocatedState, all_located, no_sessions_seen}
@@ -12,8 +12,8 @@ use Rattle.mold_capture_commands.specs.declared.filter.CaptureFilter.{CaptureFil
 use Rattle.mold_capture_commands.specs.declared.frame_check.FrameCheck.{FrameCheck}
 use Rattle.mold_capture_commands.specs.declared.several.SessionsSeen.{SessionsSeen}
 
--- The state of a `CaptureCheck`: the counts, the judge, the destinations, the line of the refused datagram, the sessions,
--- and the lines of the files at fault.
+-- The state of a `CaptureCheck`: the counts, the judge, the destinations, the line of the refused datagram, the
+-- sessions, and the lines of the files at fault.
 pub record CheckState (S : Type 0) : Type 0 where
   pub counts : CaptureCounts
   pub judge : S
@@ -64,6 +64,26 @@ capture_taken s frames name capture = record {
 abbrev pub file_taken : {S : Type 0} → Judging S → CaptureFilter → CheckState S → List ℕ → List ℕ → CheckState S
 file_taken judging filter s name bytes =
     capture_taken s (all_located judging filter (file_begun s name) (capture_of bytes).frames) name (capture_of bytes)
+
+-- The state after these frames of a file of which a read failed.
+abbrev pub part_taken : {S : Type 0} → CheckState S → LocatedState S → CheckState S
+part_taken s frames = record {
+  counts = frames.check.counts;
+  judge = frames.check.judge;
+  targets = frames.check.targets;
+  place = frames.place;
+  sessions = frames.sessions;
+  faults = s.faults;
+  at_fault = s.at_fault;
+}
+
+-- Of the frames of a file with this name, those up to some frame were taken.
+pub record TakesPart {S : Type 0} (judging : Judging S) (filter : CaptureFilter) (old new : CheckState S)
+    (name : List ℕ) (frames : List Frame) : Type 0 where
+  pub list : List Frame
+  pub rest : List Frame
+  pub parts : frames ≡ list ++ rest
+  pub taken : new ≡ part_taken old (all_located judging filter (file_begun old name) list)
 
 -- The state after a file with this name, which can't be read from this byte on. What was read of it counts before.
 abbrev pub file_unread : {S : Type 0} → CheckState S → List ℕ → ℕ → CheckState S

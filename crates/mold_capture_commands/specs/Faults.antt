@@ -1,8 +1,15 @@
 -- The lines of files at fault.
-use Rattle.std.specs.Prelude.{ℕ, List, [], ◌∷◌, codes, decimal, Option, None, Some}
+use Rattle.std.specs.Prelude.{ℕ, List, [], ◌∷◌, codes, decimal, Option, None, Some, ⊤}
+use Rattle.mold_devices.specs.declared.fault.ReadFault.{ReadFault}
+use Rattle.mold_devices.specs.declared.fault.ReadFault.TheVariants.{Read, Memory}
 use Rattle.mold_pcap.specs.declared.fault.CaptureFault.{CaptureFault}
 use Rattle.mold_pcap.specs.declared.fault.CaptureFault.TheVariants.{Cut, TooLong, BadBlock, NoInterface, NoCapture}
 use Rattle.mold_text.specs.Line.{line_of}
+
+-- What holds if a read failed.
+abbrev pub OnRead : ReadFault → Type 0 → Type 0
+OnRead Read statement = statement
+OnRead Memory statement = ⊤
 
 -- The line of a file whose part at this byte is at fault.
 abbrev pub at_text : List ℕ → List ℕ → ℕ → List ℕ

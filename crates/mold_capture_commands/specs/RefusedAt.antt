@@ -1,5 +1,5 @@
 -- Where the refused datagram of a check of captures is, and whether the captures have several sessions.
-use Rattle.std.specs.Prelude.{ℕ, ◌&&◌, ◌||◌, Bool, true, false, not, List, [], ◌∷◌, ◌++◌, codes, decimal}
+use Rattle.std.specs.Prelude.{◌≡◌, ℕ, ◌&&◌, ◌||◌, Bool, false, not, List, [], ◌∷◌, ◌++◌, codes, decimal}
 use Rattle.std.specs.Prelude.{Option, None, Some, if◌then◌else◌}
 use Rattle.std.specs.Str.{bytes_eq}
 use Rattle.mold_check.specs.Judge.{Judging}
@@ -59,8 +59,8 @@ first_session (Some first) session = Some first
 abbrev pub no_sessions_seen : SessionsSeen
 no_sessions_seen = record { first = None; several = false }
 
--- After one more datagram, given its session, and whether the judge has decided. An accepted datagram has the session of
--- those before it, so only the refused one and later ones can have another.
+-- After one more datagram, given its session, and whether the judge has decided. An accepted datagram has the session
+-- of those before it, so only the refused one and later ones can have another.
 abbrev pub session_seen : SessionsSeen → Bool → Option Session → SessionsSeen
 session_seen s decided session = record {
   first = first_session s.first session;
@@ -69,8 +69,8 @@ session_seen s decided session = record {
 
 -- ---- frame by frame
 
--- The state of a check that knows where the refused datagram is: the name of the current file, its frames so far, the line
--- of the refused datagram, and the sessions.
+-- The state of a check that knows where the refused datagram is: the name of the current file, its frames so far, the
+-- line of the refused datagram, and the sessions.
 pub record LocatedState (S : Type 0) : Type 0 where
   pub check : FrameCheck S
   pub name : List ℕ
@@ -127,3 +127,11 @@ frame_located judging filter s frame = located judging s frame.time (found filte
 unfoldable pub all_located : {S : Type 0} → Judging S → CaptureFilter → LocatedState S → List Frame → LocatedState S
 all_located judging filter s [] = s
 all_located judging filter s (frame ∷ frames) = all_located judging filter (frame_located judging filter s frame) frames
+
+-- Of these frames, those up to some frame were taken.
+pub record LocatesPart {S : Type 0} (judging : Judging S) (filter : CaptureFilter) (old new : LocatedState S)
+    (frames : List Frame) : Type 0 where
+  pub list : List Frame
+  pub rest : List Frame
+  pub parts : frames ≡ list ++ rest
+  pub taken : new ≡ all_located judging filter old list

@@ -1,10 +1,10 @@
 -- The state of a `Sessions`.
-use Rattle.std.specs.Prelude.{ℕ, ◌||◌, Bool, true, false, min, max, List, [], ◌∷◌, ◌++◌, is_some, if◌then◌else◌}
+use Rattle.std.specs.Prelude.{◌≡◌, ℕ, ◌||◌, Bool, true, false, min, max, List, [], ◌∷◌, ◌++◌, is_some, if◌then◌else◌}
 use Rattle.std.specs.Prelude.{None, Result, ⊤}
 use Rattle.std.specs.List.{flat_map}
 use Rattle.mold_devices.specs.Devices.{one_more}
 use Rattle.mold_frame.specs.Addresses.{IsAddress}
-use Rattle.mold_pcap.specs.Captures.{Capture, capture_of}
+use Rattle.mold_pcap.specs.Captures.{Capture, Frame, capture_of}
 use Rattle.mold_wire.specs.Reading.{reading}
 use Rattle.mold_wire.specs.declared.error.DecodeError.{DecodeError}
 use Rattle.mold_wire.specs.declared.packet.Packet.{Packet}
@@ -70,6 +70,13 @@ unfoldable pub all_counted : SessionFrames → List Found → SessionFrames
 all_counted s [] = s
 all_counted s (found ∷ list) = all_counted (frame_counted s found) list
 
+-- Of these frames, those up to some frame were counted.
+pub record CountsPart (filter : CaptureFilter) (old new : SessionFrames) (frames : List Frame) : Type 0 where
+  pub list : List Frame
+  pub rest : List Frame
+  pub parts : frames ≡ list ++ rest
+  pub counted : new ≡ all_counted old (founds filter list)
+
 -- The state of a `Sessions`: what is counted of the frames, and the lines of the files at fault.
 pub record SessionState : Type 0 where
   pub frames : SessionFrames
@@ -92,6 +99,12 @@ sessions_with s frames name capture = record {
 abbrev pub sessions_taken : CaptureFilter → SessionState → List ℕ → List ℕ → SessionState
 sessions_taken filter s name bytes =
     sessions_with s (all_counted s.frames (founds filter (capture_of bytes).frames)) name (capture_of bytes)
+
+-- Of the frames of a file, those up to some frame were counted.
+pub record SessionsPart (filter : CaptureFilter) (old new : SessionState) (frames : List Frame) : Type 0 where
+  pub part : CountsPart filter old.frames new.frames frames
+  pub faults : new.faults ≡ old.faults
+  pub at_fault : new.at_fault ≡ old.at_fault
 
 -- The state after a file with this name, which can't be read from this byte on. What was read of it counts before.
 abbrev pub sessions_unread : SessionState → List ℕ → ℕ → SessionState

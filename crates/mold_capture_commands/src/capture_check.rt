@@ -1,12 +1,15 @@
 //! `mold check --capture`: checks the datagrams of captures.
 
-ghost use Rattle.std.specs.Prelude.{◌≡◌, ◌++◌, IfOk, IfSome, OnOk};
+ghost use Rattle.std.specs.Prelude.{◌≡◌, ◌++◌, IfErr, IfOk, IfSome, OnOk};
 ghost use Rattle.std.specs.Io.KnownBytes.{Appends};
-ghost use Rattle.mold_capture_commands.specs.Checking.{check_status, check_text, file_taken, file_unread};
+ghost use Rattle.mold_capture_commands.specs.Checking.{TakesPart, check_status, check_text, file_taken};
+ghost use Rattle.mold_capture_commands.specs.Checking.{file_unread};
 ghost use Rattle.mold_capture_commands.specs.Checking.{no_captures, no_captures_over};
 ghost use Rattle.mold_capture_commands.specs.Counts.{counts_text};
+ghost use Rattle.mold_capture_commands.specs.Faults.{OnRead};
 ghost use Rattle.mold_devices.specs.Devices.{AppendsPrefix};
 ghost use Rattle.mold_devices.specs.Faults.{CountsRead, CountsSink};
+ghost use Rattle.mold_pcap.specs.Captures.{capture_of};
 
 use crate::counts::push_counts;
 use crate::faults::{push_fault, push_unread};
@@ -74,7 +77,8 @@ impl<J: Judge> CaptureCheck<J> {
     /// fault, the datagrams before its fault are checked, and `print` reports the fault under the name. `watch` is
     /// called after each frame; it has no effect on the outcome.
     ///
-    /// `Read` is returned only if the source failed, `Memory` only if an allocation failed.
+    /// `Read` is returned only if the source failed, `Memory` only if an allocation failed. The datagrams before a
+    /// failed read are checked.
     pub fn read<S: Source, W: Watch>(
         &mut self,
         name: &[u8],
@@ -84,6 +88,8 @@ impl<J: Judge> CaptureCheck<J> {
     ) -> Result<(), ReadFault>
         ensures taken { OnOk result (IfSome (S.left source.old) (λ bytes.
             self.new ≡ file_taken J.judging filter.now self.old name.now bytes)) }
+        ensures part { IfErr result (λ why. OnRead why (IfSome (S.left source.old) (λ bytes.
+            TakesPart J.judging filter.now self.old self.new name.now (capture_of bytes).frames))) }
         ensures failures { CountsRead (S.failed source.old) (S.failed source.new) result }
     {
         self.frames.begin(name)?;
@@ -113,16 +119,17 @@ impl<J: Judge> CaptureCheck<J> {
         self.frames.check.targets.other()
     }
 
-    /// Returns the line that states where the refused datagram is: `datagram K is frame F at TIME to ADDR of NAME`, where
-    /// `F` counts the frames of the file from 1. It is empty if no datagram is refused, and always with an `EachCheck`.
+    /// Returns the line that states where the refused datagram is: `datagram K is frame F at TIME to ADDR of NAME`,
+    /// where `F` counts the frames of the file from 1. It is empty if no datagram is refused, and always with an
+    /// `EachCheck`.
     pub fn place(&self) -> &[u8]
         ensures { result.now ≡ self.now.place }
     {
         self.frames.place.as_slice()
     }
 
-    /// Returns whether the refused datagram or a later one encodes a packet of another session than the first packet. It
-    /// is false if no datagram is refused, and always with an `EachCheck`.
+    /// Returns whether the refused datagram or a later one encodes a packet of another session than the first packet.
+    /// It is false if no datagram is refused, and always with an `EachCheck`.
     pub fn sees_several_sessions(&self) -> bool
         ensures { result ≡ self.now.sessions.several }
     {

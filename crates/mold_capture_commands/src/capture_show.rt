@@ -1,6 +1,6 @@
 //! `mold show --capture`: prints the datagrams of captures.
 
-ghost use Rattle.std.specs.Prelude.{◌≡◌, IfOk, IfSome, OnOk};
+ghost use Rattle.std.specs.Prelude.{◌≡◌, IfErr, IfOk, IfSome, OnOk};
 ghost use Rattle.std.specs.Io.KnownBytes.{Appends};
 ghost use Rattle.mold_capture_commands.specs.CaptureShow.{capture_shown, capture_unread, frames_text};
 ghost use Rattle.mold_capture_commands.specs.CaptureShow.{nothing_shown, show_status};
@@ -63,6 +63,7 @@ impl CaptureShow {
     ) -> Result<(), CommandFault>
         ensures shown { OnOk result (IfSome (S.left source.old) (λ bytes.
             self.new ≡ capture_shown filter.now self.old name.now (capture_of bytes))) }
+        ensures part { IfErr result (λ why. why ≡ CommandFault.Read → self.new ≡ self.old) }
         ensures whole { OnOk result (IfSome (S.left source.old) (λ bytes.
             Appends (K.held sink.old) (K.held sink.new) (frames_text filter.now (capture_of bytes).frames))) }
         ensures front { IfSome (S.left source.old) (λ bytes.
@@ -79,8 +80,8 @@ impl CaptureShow {
         Ok(())
     }
 
-    /// Notes that the capture with this name can't be read from this byte on, after `read` has returned `Read` for it or
-    /// without such a call. `end` reports the capture. It returns an error if an allocation fails.
+    /// Notes that the capture with this name can't be read from this byte on, after `read` has returned `Read` for it
+    /// or without such a call. `end` reports the capture. It returns an error if an allocation fails.
     pub fn add_unread(&mut self, name: &[u8], at: u64) -> Result<(), AllocError>
         ensures { OnOk result (self.new ≡ capture_unread self.old name.now at) }
     {

@@ -1,7 +1,9 @@
 //! Checks the frames of captures, and finds where the refused datagram is.
 
-ghost use Rattle.std.specs.Prelude.{◌≡◌, IfOk, IfSome, OnOk};
-ghost use Rattle.mold_capture_commands.specs.RefusedAt.{all_located, frame_located, name_begun, nothing_located};
+ghost use Rattle.std.specs.Prelude.{◌≡◌, IfErr, IfOk, IfSome, OnOk};
+ghost use Rattle.mold_capture_commands.specs.Faults.{OnRead};
+ghost use Rattle.mold_capture_commands.specs.RefusedAt.{LocatesPart, all_located, frame_located, name_begun};
+ghost use Rattle.mold_capture_commands.specs.RefusedAt.{nothing_located};
 ghost use Rattle.mold_devices.specs.Faults.{CountsRead};
 ghost use Rattle.mold_pcap.specs.Captures.{capture_of};
 
@@ -100,7 +102,7 @@ impl<J: Judge> LocatedCheck<J> {
 }
 
 /// Reads a capture and takes its frames. Returns the fault of the capture, if it has one. The frames before the fault
-/// are taken. `watch` is called after each frame.
+/// or before a failed read are taken. `watch` is called after each frame.
 pub(crate) fn read_frames<J: Judge, S: Source, W: Watch>(
     alloc: Global,
     filter: &CaptureFilter,
@@ -111,6 +113,8 @@ pub(crate) fn read_frames<J: Judge, S: Source, W: Watch>(
     ensures taken { IfOk result (λ fault. IfSome (S.left source.old) (λ bytes.
         (check.new ≡ all_located J.judging filter.now check.old (capture_of bytes).frames)
         × (fault ≡ (capture_of bytes).fault))) }
+    ensures part { IfErr result (λ why. OnRead why (IfSome (S.left source.old) (λ bytes.
+        LocatesPart J.judging filter.now check.old check.new (capture_of bytes).frames))) }
     ensures failures { CountsRead (S.failed source.old) (S.failed source.new) result }
 {
     let mut reader = CaptureReader::new(alloc)?;

@@ -1,9 +1,11 @@
 //! Reads the frames of captures for their sessions.
 
-ghost use Rattle.std.specs.Prelude.{◌≡◌, IfOk, IfSome, OnOk};
+ghost use Rattle.std.specs.Prelude.{◌≡◌, IfErr, IfOk, IfSome, OnOk};
+ghost use Rattle.mold_capture_commands.specs.Faults.{OnRead};
 ghost use Rattle.mold_capture_commands.specs.FrameChecking.{founds};
 ghost use Rattle.mold_capture_commands.specs.Filter.{lent_found};
-ghost use Rattle.mold_capture_commands.specs.SessionState.{HasTarget, all_counted, frame_counted, nothing_counted};
+ghost use Rattle.mold_capture_commands.specs.SessionState.{CountsPart, HasTarget, all_counted, frame_counted};
+ghost use Rattle.mold_capture_commands.specs.SessionState.{nothing_counted};
 ghost use Rattle.mold_devices.specs.Faults.{CountsRead};
 ghost use Rattle.mold_pcap.specs.Captures.{capture_of};
 
@@ -48,7 +50,7 @@ impl SessionFrames {
 }
 
 /// Reads a capture and counts its frames. Returns the fault of the capture, if it has one. The frames before the fault
-/// are counted. `watch` is called after each frame.
+/// or before a failed read are counted. `watch` is called after each frame.
 pub(crate) fn read_sessions<S: Source, W: Watch>(
     alloc: Global,
     filter: &CaptureFilter,
@@ -59,6 +61,8 @@ pub(crate) fn read_sessions<S: Source, W: Watch>(
     ensures taken { IfOk result (λ fault. IfSome (S.left source.old) (λ bytes.
         (sessions.new ≡ all_counted sessions.old (founds filter.now (capture_of bytes).frames))
         × (fault ≡ (capture_of bytes).fault))) }
+    ensures part { IfErr result (λ why. OnRead why (IfSome (S.left source.old) (λ bytes.
+        CountsPart filter.now sessions.old sessions.new (capture_of bytes).frames))) }
     ensures failures { CountsRead (S.failed source.old) (S.failed source.new) result }
 {
     address_law();

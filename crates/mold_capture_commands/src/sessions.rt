@@ -1,11 +1,14 @@
 //! `mold sessions --capture`: lists the destinations and sessions of captures.
 
-ghost use Rattle.std.specs.Prelude.{◌≡◌, IfOk, IfSome, OnOk};
+ghost use Rattle.std.specs.Prelude.{◌≡◌, IfErr, IfOk, IfSome, OnOk};
 ghost use Rattle.std.specs.Io.KnownBytes.{Appends};
-ghost use Rattle.mold_capture_commands.specs.SessionState.{no_sessions, sessions_taken, sessions_unread};
+ghost use Rattle.mold_capture_commands.specs.Faults.{OnRead};
+ghost use Rattle.mold_capture_commands.specs.SessionState.{SessionsPart, no_sessions, sessions_taken};
+ghost use Rattle.mold_capture_commands.specs.SessionState.{sessions_unread};
 ghost use Rattle.mold_capture_commands.specs.SessionState.{state_status, state_text};
 ghost use Rattle.mold_devices.specs.Devices.{AppendsPrefix};
 ghost use Rattle.mold_devices.specs.Faults.{CountsRead, CountsSink};
+ghost use Rattle.mold_pcap.specs.Captures.{capture_of};
 
 use crate::counts::push_others;
 use crate::faults::{push_fault, push_unread};
@@ -19,8 +22,8 @@ use std::marker::Model;
 /// The command `sessions --capture`: the destinations and sessions of the datagrams of captures, which are read one
 /// after the other.
 ///
-/// It keeps what it prints of each pair of destination and session, the counts of the frames, and the lines of the files
-/// at fault.
+/// It keeps what it prints of each pair of destination and session, the counts of the frames, and the lines of the
+/// files at fault.
 #[derive(Drop)]
 pub struct Sessions {
     frames: SessionFrames,
@@ -58,7 +61,8 @@ impl Sessions {
     /// The pairs are in a hash table, so the cost of a datagram does not grow with their number. The hash has a fixed
     /// seed, so a capture can be made whose hashes collide.
     ///
-    /// `Read` is returned only if the source failed, `Memory` only if an allocation failed.
+    /// `Read` is returned only if the source failed, `Memory` only if an allocation failed. The datagrams before a
+    /// failed read are counted.
     pub fn read<S: Source, W: Watch>(
         &mut self,
         name: &[u8],
@@ -68,6 +72,8 @@ impl Sessions {
     ) -> Result<(), ReadFault>
         ensures taken { OnOk result (IfSome (S.left source.old) (λ bytes.
             self.new ≡ sessions_taken filter.now self.old name.now bytes)) }
+        ensures part { IfErr result (λ why. OnRead why (IfSome (S.left source.old) (λ bytes.
+            SessionsPart filter.now self.old self.new (capture_of bytes).frames))) }
         ensures failures { CountsRead (S.failed source.old) (S.failed source.new) result }
     {
         if let Some(fault) = read_sessions(self.alloc, filter, source, watch, &mut self.frames)? {
@@ -87,9 +93,9 @@ impl Sessions {
         push_unread(&mut self.faults, name, at)
     }
 
-    /// Writes a line for each pair of destination and session, the counts of the other frames and the lines of the files
-    /// at fault, in pieces of 65,536 bytes or more. Returns the exit status: 2 if a file is at fault, otherwise 0. After
-    /// a fault, a prefix of the text was written.
+    /// Writes a line for each pair of destination and session, the counts of the other frames and the lines of the
+    /// files at fault, in pieces of 65,536 bytes or more. Returns the exit status: 2 if a file is at fault, otherwise
+    /// 0. After a fault, a prefix of the text was written.
     ///
     /// `Write` is returned only if the sink failed, `Memory` only if an allocation failed, and `Read` never.
     pub fn print<K: Sink>(&self, sink: &mut K) -> Result<u8, CommandFault>

@@ -55,8 +55,8 @@ impl SessionsSeen {
         }
     }
 
-    /// Takes the payload of the next datagram, given whether the judge has decided after it. An accepted datagram that is
-    /// not the first one is not decoded again.
+    /// Takes the payload of the next datagram, given whether the judge has decided after it. An accepted datagram that
+    /// is not the first one is not decoded again.
     #[inline(always)]
     pub(crate) fn take(&mut self, decided: bool, payload: &[u8])
         ensures { self.new ≡ session_seen self.old decided (session_read (reading payload.now)) }

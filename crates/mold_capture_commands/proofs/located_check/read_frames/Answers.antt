@@ -2,7 +2,7 @@ use Rattle.std.proofs.Common.{◌∙◌, ap, refl}
 use Rattle.std.specs.Prelude.{None, Some}
 use Rattle.std.specs.Io.KnownBytes.{prepend_known}
 use Rattle.mold_pcap.specs.Reading.{ReaderState}
-use Rattle.mold_capture_commands.proofs.LocatedLemmas.{taken_all, taken_more, taken_none}
+use Rattle.mold_capture_commands.proofs.LocatedLemmas.{taken_all, taken_more, taken_none, taken_part}
 use Rattle.mold_capture_commands.proofs.located_check.read_frames.Goals as goal
 
 pub frames-init : goal.frames-init
@@ -39,3 +39,9 @@ returns-in-Err-Fault-clause-taken g c =
     taken_all g.J.Judge.judging c.args.filter.now c.args.check.now c.frames.check (g.S.Source.left c.args.source.now)
     (prepend_known c.frames.reader.rest (g.S.Source.left c.frames.source)) c.frames.reader.format (Some c.in-Err-Fault.fault)
     c.frames.invariant.taken (rw c.in-Err-Fault.field-0-is at c.in-Err-Fault.ensures.fault)
+
+pub returns-in-Err-Read-clause-part : goal.returns-in-Err-Read-clause-part
+returns-in-Err-Read-clause-part g c =
+    taken_part g.J.Judge.judging c.args.filter.now c.args.check.now c.frames.check (g.S.Source.left c.args.source.now)
+    (prepend_known c.frames.reader.rest (g.S.Source.left c.frames.source)) c.frames.reader.format
+    c.frames.invariant.taken
