@@ -1,6 +1,8 @@
 -- The sockets of the command.
-use Rattle.std.specs.Prelude.{ℕ, Option, None, Some}
+use Rattle.std.specs.Prelude.{ℕ, Option, None, Some, List, [], ◌∷◌, codes}
+use Rattle.std.specs.Net.Text.{socket_v4_text}
 use Rattle.std.specs.declared.net.socket_addr.SocketAddrV4.{SocketAddrV4}
+use Rattle.mold_text.specs.Line.{line_of}
 use Rattle.mold_wiring.specs.Addresses.{IsSocketOf}
 use Rattle.mold_words.specs.declared.address.Address.{Address}
 
@@ -21,3 +23,7 @@ abbrev pub IsSecondLine : Option Address → Option SocketAddrV4 → Type 0
 IsSecondLine None None = Unit {0}
 IsSecondLine (Some address) (Some socket) = IsSocketOf address socket
 IsSecondLine _ _ = ⊥
+
+-- The line for a failed send to this address. `reason` is the C library's text for the error.
+abbrev pub failed_line : SocketAddrV4 → List ℕ → List ℕ
+failed_line to reason = line_of (codes "failed" ∷ socket_v4_text to ∷ reason ∷ [])

@@ -3,13 +3,13 @@
 ghost use Rattle.std.specs.Prelude.{◌≡◌, ◌≤◌, [], false, length, IfOk, IfSome};
 ghost use Rattle.mold_devices.specs.Devices.{Counts};
 
+use crate::failed_sends::FailedSends;
 use crate::waiting::{NO_DESCRIPTOR, wait_for, watched};
-use libc::STDIN_FILENO;
 use libc::net::POLLIN;
+use libc::{EIO, STDIN_FILENO};
 use mold_devices::DeviceFault;
 use mold_feeder::FeedPorts;
 use mold_port_set::{PortSet, UdpPortSet};
-use std::fs::{File, Files};
 use std::io;
 use std::marker::Model;
 use std::net::{Ipv4Addr, Net, SocketAddr, SocketAddrV4, UdpSocket};
@@ -22,8 +22,8 @@ const SEND_WAIT: u64 = 100;
 /// The UDP sockets that lines are sent from, and a clock. Line A has the port with index 0, and line B the port with
 /// index 1. No port receives.
 ///
-/// A send waits at most 100 milliseconds until the system has room for the datagram. A wait is for standard input, and
-/// for the socket of the requests.
+/// A send waits at most 100 milliseconds until the system has room for the datagram. The first failed send of each line
+/// is printed on standard error. A wait is for standard input, and for the socket of the requests.
 #[derive(Drop)]
 pub struct FeedSockets {
     a: UdpSocket,
@@ -33,6 +33,7 @@ pub struct FeedSockets {
     // A set without ports, whose clock is that of the sockets.
     clock: UdpPortSet,
     failures: u64,
+    failed_sends: FailedSends,
 }
 
 impl Model for FeedSockets {
@@ -48,8 +49,8 @@ impl FeedSockets {
     /// machine; 0.0.0.0 lets the system choose one. On Linux the address also chooses the interface of a multicast group.
     /// `ttl` is that of datagrams to groups. `requests` is the descriptor of the socket that receives requests, if there
     /// is one. It must stay open as long as these sockets. The fault means that the system refuses a socket.
-    pub fn bind<R: Net + Files<File = File>>(
-        rt: &R,
+    pub fn bind(
+        rt: &HostRuntime,
         a: Ipv4Addr,
         b: Option<Ipv4Addr>,
         ttl: u8,
@@ -68,6 +69,7 @@ impl FeedSockets {
             requests: requests.unwrap_or(NO_DESCRIPTOR),
             clock: UdpPortSet::new(rt),
             failures: 0,
+            failed_sends: FailedSends::new(rt.alloc(), rt.stderr()),
         })
     }
 
@@ -141,16 +143,19 @@ impl PortSet for FeedSockets {
     }
 
     /// Sends a datagram from the port. It fails if there is no such port, or if the system does not take the datagram
-    /// within 100 milliseconds.
+    /// within 100 milliseconds. The first failure of each line is printed.
     fn send(&mut self, port: usize, to: SocketAddrV4, bytes: &[u8]) -> Result<(), DeviceFault>
         ensures clock { self.new.time ≡ self.old.time }
         ensures failures { Counts self.old.failures self.new.failures result }
     {
         let sent = match self.socket(port) {
             Some(socket) => send_from(socket, to, bytes),
-            None => Err(DeviceFault),
+            None => Err(EIO),
         };
-        self.counted(sent)
+        if let Err(code) = sent {
+            self.failed_sends.note(port == 0, to, code);
+        }
+        self.counted(sent.map_err(|_| DeviceFault))
     }
 
     /// Returns `None`: no port receives.
@@ -192,10 +197,11 @@ fn open<R: Net>(rt: &R, host: Ipv4Addr, ttl: u8) -> io::Result<UdpSocket> {
     Ok(socket)
 }
 
-// Sends a whole datagram.
-fn send_from(socket: &UdpSocket, to: SocketAddrV4, bytes: &[u8]) -> Result<(), DeviceFault> {
+// Sends a whole datagram. If that fails, returns the number of the system's error.
+fn send_from(socket: &UdpSocket, to: SocketAddrV4, bytes: &[u8]) -> Result<(), i32> {
     match socket.send_to(bytes, SocketAddr::V4(to)) {
         Ok(count) if count == bytes.len() => Ok(()),
-        _ => Err(DeviceFault),
+        Ok(_) => Err(EIO),
+        Err(error) => Err(error.raw_os_error().unwrap_or(EIO)),
     }
 }

@@ -4,6 +4,7 @@
 #![tactic(auto)]
 
 mod closing;
+mod failed_sends;
 mod feed_sockets;
 mod feeding;
 mod options;

@@ -16,7 +16,7 @@ use Rattle.mold_durable_publisher.specs.declared.durable_publisher.DurablePublis
 use Rattle.mold_port_set.specs.PortSet.{PortSetState}
 use Rattle.mold_input.specs.Entries.{InputEntries}
 use Rattle.mold_session.specs.Publisher.{Lends, PublisherState, after_datagram, next_end, next_front, next_heartbeat}
-use Rattle.mold_feeder.specs.FeedLines.{SendsOn, datagram_of, repeated}
+use Rattle.mold_feeder.specs.FeedLines.{LinesState, SendsOn, datagram_of, lines_at, repeated}
 use Rattle.mold_feeder.specs.Feeder.{AreTold, HasEnded, HasSent, HasTurned, TakesSome, ended, ended_life, sends_at}
 use Rattle.mold_feeder.specs.Feeder.{sent_of}
 use Rattle.mold_feeder.specs.Gathering.{with_committed}
@@ -24,6 +24,7 @@ use Rattle.mold_feeder.specs.declared.gathered.Gathered.{Gathered}
 use Rattle.mold_feeder.specs.declared.feed_end.FeedEnd.{FeedEnd}
 use Rattle.mold_feeder.specs.declared.feed_lines.FeedLines.{FeedLines}
 use Rattle.mold_feeder.specs.declared.feeder.Feeder.{Feeder}
+use Rattle.mold_feeder.specs.declared.send_counts.LineCounts.{LineCounts}
 use Rattle.mold_feeder.proofs.LineLemmas.{sends_more}
 
 -- ---- the messages of the next data packet
@@ -129,6 +130,13 @@ module _ {S : Type 0} (shows may_leave : S → List ℕ → Type 0) (publisher :
   pub after_publishes : Publishes shows may_leave (after_committed publisher) life
   after_publishes = after_cases (length publisher.durable.waiting) refl
 
+-- The same was sent on the lines.
+pub lines_same : {S L P : Type 0} (state : L → PortSetState P) (one other : Feeder S L) → one.ports ≡ other.ports →
+    one.counts ≡ other.counts → sent_of state one ≡ sent_of state other
+lines_same {L = L} state one other ports counts =
+    ap (λ (c : LineCounts). lines_at (state one.ports).sent c) counts
+    ∙ ap (λ (p : L). lines_at (state p).sent other.counts) ports
+
 module _ {S L P : Type 0} (shows may_leave : S → List ℕ → Type 0) (modeled : Bool) (state : L → PortSetState P)
     (lines : FeedLines P) where
   -- What is sent at a time, if it is the next data packet.
@@ -182,36 +190,38 @@ module _ {S L P : Type 0} (shows may_leave : S → List ℕ → Type 0) (modeled
   sent_next bytes old new = next_cases (next_committed old.publisher) bytes old new
 
   turn_at : (life now : Life) (old mid new : Feeder S L) (known left : Option InputEntries) (taken : Option Gathered) →
-      TakesSome shows may_leave life old mid known left taken → mid.ports ≡ old.ports →
+      TakesSome shows may_leave life old mid known left taken → mid.ports ≡ old.ports → mid.counts ≡ old.counts →
       HasSent shows may_leave modeled state lines (sends_at (state mid.ports).now mid) mid new →
       Publishes shows may_leave mid.publisher now → now.waiting ≡ [] →
       HasTurned shows may_leave modeled state lines life old new known left taken
-  turn_at life now old mid new known left taken takes ports sent is none = record {
+  turn_at life now old mid new known left taken takes ports counts sent is none = record {
     mid = mid;
     group = takes;
     ports = ports;
+    counts = counts;
     sent = sent;
     now = now;
     publishes = sent.publishes now is;
     none = none;
     sends = λ modeled.
-        subst (λ (p : L). SendsOn lines (sends_at (state p).now mid) (state p).sent (sent_of state new)) ports
-        (sent.sends modeled);
+        subst (λ (p : L). SendsOn lines (sends_at (state p).now mid) (sent_of state old) (sent_of state new)) ports
+        (subst (λ (l : LinesState P). SendsOn lines (sends_at (state mid.ports).now mid) l (sent_of state new))
+        (lines_same state mid old ports counts) (sent.sends modeled));
     told = subst (λ (p : L). AreTold may_leave new.publisher now (sends_at (state p).now mid)) ports (sent.told now is);
   }
 
   -- A turn took a group or nothing, and then sent what was due.
   pub turn_done : (life : Life) (old mid new : Feeder S L) (known left : Option InputEntries) (taken : Option Gathered) →
       Publishes shows may_leave old.publisher life → life.waiting ≡ [] →
-      TakesSome shows may_leave life old mid known left taken → mid.ports ≡ old.ports →
+      TakesSome shows may_leave life old mid known left taken → mid.ports ≡ old.ports → mid.counts ≡ old.counts →
       HasSent shows may_leave modeled state lines (sends_at (state mid.ports).now mid) mid new →
       HasTurned shows may_leave modeled state lines life old new known left taken
-  turn_done life old mid new known left None is none takes ports sent =
+  turn_done life old mid new known left None is none takes ports counts sent =
       let still : Publishes shows may_leave mid.publisher life =
       subst (λ (f : Feeder S L). Publishes shows may_leave f.publisher life) (sym takes.0) is in
-      turn_at life life old mid new known left None takes ports sent still none
-  turn_done life old mid new known left (Some gathered) is none takes ports sent =
-      turn_at life (with_committed life takes.messages) old mid new known left (Some gathered) takes ports sent
+      turn_at life life old mid new known left None takes ports counts sent still none
+  turn_done life old mid new known left (Some gathered) is none takes ports counts sent =
+      turn_at life (with_committed life takes.messages) old mid new known left (Some gathered) takes ports counts sent
       takes.publishes refl
 
 -- ---- datagrams that are sent several times
@@ -304,10 +314,11 @@ module _ {S L P : Type 0} (shows may_leave : S → List ℕ → Type 0) (modeled
       Publishes shows may_leave old.publisher life →
       HasSent shows may_leave modeled state lines (repeated end.beats (next_heartbeat old.publisher.publisher)) old beaten →
       Publishes shows may_leave shut.publisher (ended_life end life) → shut.ports ≡ beaten.ports →
+      shut.counts ≡ beaten.counts →
       shut.publisher.publisher ≡ ended end old.publisher.publisher →
       HasSent shows may_leave modeled state lines (repeated end.ends (next_end shut.publisher.publisher)) shut new →
       new.publisher ≡ shut.publisher → HasEnded shows may_leave modeled state lines end life old new
-  has_ended end life old beaten shut new is beats now ports same ends kept =
+  has_ended end life old beaten shut new is beats now ports counts same ends kept =
       let first = repeated end.beats (next_heartbeat old.publisher.publisher) in
       let second = repeated end.ends (next_end (ended end old.publisher.publisher)) in
       let last : HasSent shows may_leave modeled state lines second shut new =
@@ -321,7 +332,8 @@ module _ {S L P : Type 0} (shows may_leave : S → List ℕ → Type 0) (modeled
         sends = λ modeled.
             sends_more lines first second (sent_of state old) (sent_of state beaten) (sent_of state new)
             (beats.sends modeled)
-            (subst (λ (p : L). SendsOn lines second (state p).sent (sent_of state new)) ports (last.sends modeled));
+            (subst (λ (l : LinesState P). SendsOn lines second l (sent_of state new))
+            (lines_same state shut beaten ports counts) (last.sends modeled));
         told = are_told new.publisher (ended_life end life) (first ++ second) publishes
             (all_both (IsTrueNow (ended_life end life)) first second
             (all_also (IsTrueNow life) (IsTrueNow (ended_life end life)) first

@@ -28,14 +28,15 @@ use Rattle.mold_wire.specs.declared.error.RequestError.TheVariants as fault
 use Rattle.mold_wire.specs.declared.limits.TheConstants.{MAX_LIMIT}
 use Rattle.mold_wire.specs.declared.packet.Packet.{Packet}
 use Rattle.mold_wire.specs.declared.request.Request.{Request}
-use Rattle.mold_feeder.specs.FeedLines.{SendsOn}
+use Rattle.mold_feeder.specs.FeedLines.{LinesState, SendsOn}
 use Rattle.mold_input.specs.Entries.{InputEntries}
 use Rattle.mold_input.specs.declared.input_kind.InputKind.{InputKind}
 use Rattle.mold_session.specs.Publisher.{PublisherState, closed}
 use Rattle.mold_feeder.specs.Feeder.{HasEnded, HasSent, HasSentBeats, HasTurned, IsFileAtEnd, sends_at, sends_at_end}
+use Rattle.mold_feeder.specs.Feeder.{sent_of}
 use Rattle.mold_feeder.specs.Feeding.{FeedState, HasBroken, HasFed, HasReplied, IsFileLeft, IsGroupFile, MayFail}
 use Rattle.mold_feeder.specs.Feeding.{NothingFailed, Replies, Reply, all_of, closes_at, first_messages, grown, shut}
-use Rattle.mold_feeder.specs.Feeding.{state_of}
+use Rattle.mold_feeder.specs.Feeding.{lines_of, state_of}
 use Rattle.mold_feeder.specs.Gathering.{Grows, IsFileUpTo, with_committed, with_waiting}
 use Rattle.mold_feeder.specs.Requests.{OffersFront, RepliesTo, responses, responses_to, sent_journal}
 use Rattle.mold_feeder.specs.declared.feed.Feed.{Feed}
@@ -46,6 +47,7 @@ use Rattle.mold_feeder.specs.declared.feed_stop.FeedStop.TheVariants.{Ended, Oth
 use Rattle.mold_feeder.specs.declared.feeder.Feeder.{Feeder}
 use Rattle.mold_feeder.specs.declared.gathered.Gathered.{Gathered}
 use Rattle.mold_feeder.specs.declared.requests.Requests.{Requests}
+use Rattle.mold_feeder.proofs.FeederLemmas.{lines_same}
 use Rattle.mold_feeder.proofs.GatheringLemmas.{file_now, leaves_both, leaves_still, leaves_weaker}
 use Rattle.mold_feeder.proofs.LineLemmas.{sends_more}
 
@@ -350,7 +352,7 @@ module _ {S P Q : Type 0} (shows may_leave : S → List ℕ → Type 0) (moment 
         (left_second closes life first second) one.leaves other.leaves;
     datagrams = one.datagrams ++ other.datagrams;
     sends = λ is.
-        sends_more lines one.datagrams other.datagrams old.ports.sent mid.ports.sent new.ports.sent (one.sends is)
+        sends_more lines one.datagrams other.datagrams (lines_of old) (lines_of mid) (lines_of new) (one.sends is)
         (other.sends is);
     so = subst (λ (l : Life). AllByRecursion (IsTrueNow l) (one.datagrams ++ other.datagrams))
         (shut_grown closes life first second)
@@ -391,7 +393,7 @@ module _ {S P Q : Type 0} (shows may_leave : S → List ℕ → Type 0) (moment 
             other.leaves;
         datagrams = one.datagrams ++ other.datagrams;
         sends = λ is.
-            sends_more lines one.datagrams other.datagrams old.ports.sent mid.ports.sent new.ports.sent (one.sends is)
+            sends_more lines one.datagrams other.datagrams (lines_of old) (lines_of mid) (lines_of new) (one.sends is)
             (other.sends is);
         so = true_all (IsTrueNow last) (IsTrueNow last) one.datagrams other.datagrams (λ datagram is. is) one.so
             (subst (λ (l : Life). AllByRecursion (IsTrueNow l) other.datagrams) same other.so);
@@ -436,7 +438,7 @@ module _ {S P Q : Type 0} (shows may_leave : S → List ℕ → Type 0) (moment 
   pub fed_still : (life : Life) (old new : FeedState S P Q) (datagrams : List (List ℕ)) →
       IsAtRest shows may_leave old.publisher life → new.publisher.durable ≡ old.publisher.durable →
       Publishes shows may_leave new.publisher life →
-      (modeled ≡ true → SendsOn lines datagrams old.ports.sent new.ports.sent) →
+      (modeled ≡ true → SendsOn lines datagrams (lines_of old) (lines_of new)) →
       AllByRecursion (IsTrueNow life) datagrams →
       HasReplied shows answers (failed old.publisher.durable.storage) (failed new.publisher.durable.storage)
       new.publisher.publisher.journal new.publisher.publisher.sent old.server old.requests new.requests → new.server ≡ record old.server { answered = new.server.answered } →
@@ -474,7 +476,7 @@ module _ {S P Q : Type 0} (shows may_leave : S → List ℕ → Type 0) (moment 
 
   -- The publisher waited.
   pub fed_waited : (life : Life) (old new : FeedState S P Q) → IsAtRest shows may_leave old.publisher life →
-      new.publisher ≡ old.publisher → (modeled ≡ true → new.ports.sent ≡ old.ports.sent) →
+      new.publisher ≡ old.publisher → (modeled ≡ true → lines_of new ≡ lines_of old) →
       new.requests ≡ old.requests → new.server ≡ old.server →
       HasFed shows may_leave moment left_since failed modeled answers lines life [] false old new
   fed_waited life old new is same sends requests server =
@@ -488,7 +490,7 @@ module _ {S P Q : Type 0} (shows may_leave : S → List ℕ → Type 0) (moment 
   -- The publisher replied to a request.
   pub fed_replied : (life : Life) (old new : FeedState S P Q) (result : Result (Unit {0}) FileError) →
       IsAtRest shows may_leave old.publisher life →
-      WasServed shows may_leave moment left_since old.publisher new.publisher → new.ports ≡ old.ports →
+      WasServed shows may_leave moment left_since old.publisher new.publisher → lines_of new ≡ lines_of old →
       ((life : Life) → ShowsBytes shows → IsAtRest shows may_leave old.publisher life → answers ≡ true →
       RepliesTo (sent_journal old.publisher.publisher) old.server (is_ok result) (cut MAX_LIMIT (next_of old.requests))
       (received old.requests) new.requests) →
@@ -510,7 +512,7 @@ module _ {S P Q : Type 0} (shows may_leave : S → List ℕ → Type 0) (moment 
             (may_leave old.publisher.durable.storage) (IsFileLeft false life [])
             (λ bytes left. file_at_rest life old.publisher [] bytes is left) served.reads.any_moment;
         datagrams = [];
-        sends = λ _. ap (λ (p : PortSetState P). p.sent) silent;
+        sends = λ _. silent;
         so = tt;
         later = λ datagram true. subst (λ (l : Life). IsTrueNow l datagram) (sym (grown_none life is.none)) true;
         replied = record {
@@ -542,11 +544,11 @@ module _ {S P Q : Type 0} (shows may_leave : S → List ℕ → Type 0) (moment 
       (datagrams : List (List ℕ)) (asked : Port Q) (server : ServerState) → IsAtRest shows may_leave old.publisher life →
       HasSent shows may_leave modeled state lines datagrams old new →
       HasFed shows may_leave moment left_since failed modeled answers lines life [] false
-      (record { publisher = old.publisher; ports = state old.ports; requests = asked; server = server })
-      (record { publisher = new.publisher; ports = state new.ports; requests = asked; server = server })
+      (record { publisher = old.publisher; ports = state old.ports; counts = old.counts; requests = asked; server = server })
+      (record { publisher = new.publisher; ports = state new.ports; counts = new.counts; requests = asked; server = server })
   fed_beaten state life old new datagrams asked server is sent =
-      fed_still life (record { publisher = old.publisher; ports = state old.ports; requests = asked; server = server })
-      (record { publisher = new.publisher; ports = state new.ports; requests = asked; server = server }) datagrams is
+      fed_still life (record { publisher = old.publisher; ports = state old.ports; counts = old.counts; requests = asked; server = server })
+      (record { publisher = new.publisher; ports = state new.ports; counts = new.counts; requests = asked; server = server }) datagrams is
       sent.storage (sent.publishes life is.publishes) sent.sends (sent.told life is.publishes).now
       (replied_none shows answers _ _ new.publisher.publisher.journal new.publisher.publisher.sent server asked asked
       (ap (λ (d : DurableState S). failed d.storage) sent.storage) refl) refl sent.onward
@@ -587,8 +589,8 @@ module _ {S P Q : Type 0} (shows may_leave : S → List ℕ → Type 0) (moment 
       failed new.publisher.durable.storage ≡ failed old.publisher.durable.storage →
       (groups : List (List (List ℕ)))
       × HasFed shows may_leave moment left_since failed modeled answers lines life groups false
-      (record { publisher = old.publisher; ports = state old.ports; requests = asked; server = server })
-      (record { publisher = new.publisher; ports = state new.ports; requests = asked; server = server })
+      (record { publisher = old.publisher; ports = state old.ports; counts = old.counts; requests = asked; server = server })
+      (record { publisher = new.publisher; ports = state new.ports; counts = new.counts; requests = asked; server = server })
   fed_turned {L} state life old new known left None asked server is turned crash intact unfailed = (
     [],
     fed_beaten shows may_leave moment left_since failed modeled answers lines only_now state life old new
@@ -620,8 +622,8 @@ module _ {S P Q : Type 0} (shows may_leave : S → List ℕ → Type 0) (moment 
               (added ∙ ap (λ (ms : List (List ℕ)). ms ++ messages) held) file) crash;
           datagrams = datagrams;
           sends = λ is_modeled.
-              subst (λ (p : L). SendsOn lines datagrams (state p).sent (state new.ports).sent) turned.ports
-              (turned.sent.sends is_modeled);
+              subst (λ (l : LinesState P). SendsOn lines datagrams l (sent_of state new))
+              (lines_same state turned.mid old turned.ports turned.counts) (turned.sent.sends is_modeled);
           so = subst (λ (l : Life). AllByRecursion (IsTrueNow l) datagrams) (grown_group life messages is.none)
               (turned.sent.told now group.publishes).now;
           later = λ datagram true.
@@ -681,8 +683,8 @@ module _ {S P Q : Type 0} (shows may_leave : S → List ℕ → Type 0) (moment 
       (IsFileAtEnd end.stays_open life) → new.publisher.durable.broken ≡ old.publisher.durable.broken →
       failed new.publisher.durable.storage ≡ failed old.publisher.durable.storage →
       HasFed shows may_leave moment left_since failed modeled answers lines life [] (not end.stays_open)
-      (record { publisher = old.publisher; ports = state old.ports; requests = asked; server = server })
-      (record { publisher = new.publisher; ports = state new.ports; requests = asked; server = server })
+      (record { publisher = old.publisher; ports = state old.ports; counts = old.counts; requests = asked; server = server })
+      (record { publisher = new.publisher; ports = state new.ports; counts = new.counts; requests = asked; server = server })
   fed_ended state end life old new asked server is ended crash intact unfailed =
       let same = shut_ended end.stays_open life is.none in
       let onward : old.publisher.publisher.sent ≤ new.publisher.publisher.sent =
@@ -720,13 +722,13 @@ module _ {S P Q : Type 0} (shows may_leave : S → List ℕ → Type 0) (moment 
       failed new.publisher.durable.storage ≡ failed old.publisher.durable.storage →
       ((life : Life) → IsAtRest shows may_leave new.publisher life →
       HasFed shows may_leave moment left_since failed modeled answers lines life [] false
-      (record { publisher = new.publisher; ports = state new.ports; requests = asked; server = server }) last) →
+      (record { publisher = new.publisher; ports = state new.ports; counts = new.counts; requests = asked; server = server }) last) →
       HasFed shows may_leave moment left_since failed modeled answers lines life [] (not end.stays_open)
-      (record { publisher = old.publisher; ports = state old.ports; requests = asked; server = server }) last
+      (record { publisher = old.publisher; ports = state old.ports; counts = old.counts; requests = asked; server = server }) last
   fed_ended_on state end life old new asked server last is ended crash intact unfailed serves =
       fed_serving shows may_leave moment left_since failed modeled answers lines life [] (not end.stays_open)
-      (record { publisher = old.publisher; ports = state old.ports; requests = asked; server = server })
-      (record { publisher = new.publisher; ports = state new.ports; requests = asked; server = server }) last
+      (record { publisher = old.publisher; ports = state old.ports; counts = old.counts; requests = asked; server = server })
+      (record { publisher = new.publisher; ports = state new.ports; counts = new.counts; requests = asked; server = server }) last
       (fed_ended state end life old new asked server is ended crash intact unfailed) serves
 
 -- ---- a publisher that waits or reads
@@ -738,7 +740,7 @@ module _ {S P Q : Type 0} (shows may_leave : S → List ℕ → Type 0) (moment 
   -- The publisher waited.
   pub fed_rested : (life : Life) (old new : Feed S L D M K) → IsAtRest shows may_leave old.feeder.publisher life →
       new.feeder.publisher ≡ old.feeder.publisher →
-      (modeled ≡ true → (state new.feeder.ports).sent ≡ (state old.feeder.ports).sent) → new.requests ≡ old.requests →
+      (modeled ≡ true → sent_of state new.feeder ≡ sent_of state old.feeder) → new.requests ≡ old.requests →
       HasFed shows may_leave moment left_since failed modeled answers lines life [] false (state_of state port old)
       (state_of state port new)
   fed_rested life old new is same sent requests =
@@ -752,7 +754,7 @@ module _ {S P Q : Type 0} (shows may_leave : S → List ℕ → Type 0) (moment 
       HasFed shows may_leave moment left_since failed
       modeled answers lines life groups closes old (state_of state port mid) →
       new.feeder.publisher ≡ mid.feeder.publisher →
-      (modeled ≡ true → (state new.feeder.ports).sent ≡ (state mid.feeder.ports).sent) →
+      (modeled ≡ true → sent_of state new.feeder ≡ sent_of state mid.feeder) →
       new.requests ≡ mid.requests →
       HasFed shows may_leave moment left_since failed
       modeled answers lines life groups closes old (state_of state port new)
@@ -772,14 +774,14 @@ module _ {S P Q : Type 0} (shows may_leave : S → List ℕ → Type 0) (moment 
       modeled answers lines life groups closes old (state_of state port new)
   fed_same life groups closes old mid new fed feeder requests =
       fed_paused life groups closes old mid new fed (ap (λ (f : Feeder S L). f.publisher) feeder)
-      (λ _. ap (λ (f : Feeder S L). (state f.ports).sent) feeder) requests
+      (λ _. ap (λ (f : Feeder S L). sent_of state f) feeder) requests
 
   -- The publisher waited, and sent what was due.
   pub fed_served_on : (life : Life) (old : FeedState S P Q) (mid paused new : Feed S L D M K) →
       HasFed shows may_leave moment left_since failed
       modeled answers lines life [] false old (state_of state port mid) →
       paused.feeder.publisher ≡ mid.feeder.publisher →
-      (modeled ≡ true → (state paused.feeder.ports).sent ≡ (state mid.feeder.ports).sent) →
+      (modeled ≡ true → sent_of state paused.feeder ≡ sent_of state mid.feeder) →
       paused.requests ≡ mid.requests →
       ((life : Life) → IsAtRest shows may_leave paused.feeder.publisher life →
       HasFed shows may_leave moment left_since failed modeled answers lines life [] false (state_of state port paused)
@@ -795,7 +797,7 @@ module _ {S P Q : Type 0} (shows may_leave : S → List ℕ → Type 0) (moment 
       HasFed shows may_leave moment left_since failed
       modeled answers lines life [] false old (state_of state port mid) →
       paused.feeder.publisher ≡ mid.feeder.publisher →
-      (modeled ≡ true → (state paused.feeder.ports).sent ≡ (state mid.feeder.ports).sent) →
+      (modeled ≡ true → sent_of state paused.feeder ≡ sent_of state mid.feeder) →
       paused.requests ≡ mid.requests →
       ((life : Life) → IsAtRest shows may_leave paused.feeder.publisher life →
       HasFed shows may_leave moment left_since failed modeled answers lines life [] false (state_of state port paused)
@@ -939,18 +941,18 @@ module _ {S P Q : Type 0} (shows may_leave : S → List ℕ → Type 0) (moment 
       LeavesOnly moment left_since old.publisher.durable.storage new.publisher.durable.storage
       (IsFileUpTo life new.publisher) → new.ports ≡ old.ports →
       HasBroken shows may_leave moment left_since failed modeled answers lines taken may_close life
-      (record { publisher = old.publisher; ports = state old.ports; requests = asked; server = server })
-      (record { publisher = new.publisher; ports = state new.ports; requests = asked; server = server })
+      (record { publisher = old.publisher; ports = state old.ports; counts = old.counts; requests = asked; server = server })
+      (record { publisher = new.publisher; ports = state new.ports; counts = new.counts; requests = asked; server = server })
   broken_turn {L} state kind known old new asked server is grows so_far crash ports =
       let messages = grows.messages in
       let added =
       grows.added ∙ ap (λ (ms : List (List ℕ)). ms ++ messages) (messages_now false life old.publisher is) in
       record {
-        mid = record { publisher = old.publisher; ports = state old.ports; requests = asked; server = server };
+        mid = record { publisher = old.publisher; ports = state old.ports; counts = old.counts; requests = asked; server = server };
         groups = [];
         closes = false;
         fed = fed_yet shows may_leave moment left_since failed modeled answers lines only_now life
-            (record { publisher = old.publisher; ports = state old.ports; requests = asked; server = server }) is;
+            (record { publisher = old.publisher; ports = state old.ports; counts = old.counts; requests = asked; server = server }) is;
         last = messages;
         closing = false;
         alone = λ is. absurd (cc);
@@ -980,14 +982,15 @@ module _ {S P Q : Type 0} (shows may_leave : S → List ℕ → Type 0) (moment 
       ((journal : JournalState) → end.stays_open ≡ false → journal ≡ old.publisher.publisher.journal →
       may_close journal) →
       HasBroken shows may_leave moment left_since failed modeled answers lines taken may_close life
-      (record { publisher = old.publisher; ports = state old.ports; requests = asked; server = server })
-      (record { publisher = new.publisher; ports = state new.ports; requests = asked; server = server })
+      (record { publisher = old.publisher; ports = state old.ports; counts = old.counts; requests = asked; server = server })
+      (record { publisher = new.publisher; ports = state new.ports; counts = new.counts; requests = asked; server = server })
   broken_end {L} state end old new asked server is beats_sent crash so_far allowed =
       let left = IsFileLeft (not end.stays_open) life ([] ∷ []) in
       record {
         mid = record {
           publisher = beats_sent.mid.publisher;
           ports = state beats_sent.mid.ports;
+          counts = beats_sent.mid.counts;
           requests = asked;
           server =
               server;

@@ -5,11 +5,13 @@ use Rattle.mold_input.specs.declared.input_kind.InputKind.{InputKind}
 use Rattle.mold_publish.specs.Publishing.{entry_word, refused_text}
 use Rattle.mold_text.specs.Line.{line_of}
 use Rattle.mold_text.specs.Text.{refused_line}
+use Rattle.mold_feeder.specs.SendCounts.{is_line_lost}
 use Rattle.mold_feeder.specs.declared.compared.Compared.{Compared}
 use Rattle.mold_feeder.specs.declared.compared.Compared.TheVariants.{Same, Differs, End}
 use Rattle.mold_feeder.specs.declared.compared.Compared.TheVariants as compared
 use Rattle.mold_feeder.specs.declared.feed_stop.FeedStop.{FeedStop}
 use Rattle.mold_feeder.specs.declared.feed_stop.FeedStop.TheVariants.{Ended, Other, Refused}
+use Rattle.mold_feeder.specs.declared.send_counts.LineCounts.{LineCounts}
 
 -- The first line of a session that is resumed: the number of messages that its journal has.
 abbrev pub resumed_line : ℕ → List ℕ
@@ -44,11 +46,11 @@ stop_text kind (Other number compared) last = compared_text kind number compared
 stop_text kind (Refused number refusal) last = refused_text number refusal
 stop_text kind Ended last = last
 
--- The status of a publisher that stopped so.
-abbrev pub status_at : FeedStop → ℕ
-status_at (Other number compared) = 2
-status_at (Refused number refusal) = 2
-status_at Ended = 0
+-- The status of a publisher that stopped so, with these counts of its sends.
+abbrev pub status_at : FeedStop → LineCounts → ℕ
+status_at (Other number compared) counts = 2
+status_at (Refused number refusal) counts = 2
+status_at Ended counts = if is_line_lost counts then 1 else 0
 
 -- The first line of a publisher whose journal has this many messages. It is printed only if the journal existed.
 abbrev pub first_text : Bool → ℕ → List ℕ

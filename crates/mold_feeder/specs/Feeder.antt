@@ -9,12 +9,12 @@ use Rattle.mold_durable.specs.Storage.{IsWithin}
 use Rattle.mold_durable_publisher.specs.DurablePublisher.{Publishes, next_committed}
 use Rattle.mold_durable_publisher.specs.Told.{IsTold, IsTrueNow}
 use Rattle.mold_durable_publisher.specs.declared.durable_publisher.DurablePublisher.{DurablePublisher}
-use Rattle.mold_port_set.specs.PortSet.{PortSetState, Sent}
+use Rattle.mold_port_set.specs.PortSet.{PortSetState}
 use Rattle.mold_session.specs.Publisher.{PublisherState, closed, next_end, next_heartbeat}
 use Rattle.mold_wire.specs.declared.packet.Packet.{Packet}
 use Rattle.mold_input.specs.Entries.{Entry, InputEntries, known_input}
 use Rattle.mold_input.specs.declared.input_kind.InputKind.{InputKind}
-use Rattle.mold_feeder.specs.FeedLines.{SendsOn, datagram_of, repeated}
+use Rattle.mold_feeder.specs.FeedLines.{LinesState, SendsOn, datagram_of, lines_at, repeated}
 use Rattle.mold_feeder.specs.Gathering.{TakesGroup}
 use Rattle.mold_feeder.specs.IdleClock.{due_after}
 use Rattle.mold_feeder.specs.Pace.{IsPaced, group_of}
@@ -29,9 +29,9 @@ use Rattle.mold_feeder.specs.declared.feeder.Feeder.{Feeder}
 abbrev pub next_beat : PublisherState → Option Packet
 next_beat publisher = if publisher.journal.closed then next_end publisher else next_heartbeat publisher
 
--- The datagrams that a publisher over ports has sent. `state` gives the state of its ports.
-abbrev pub sent_of : {S L P : Type 0} → (L → PortSetState P) → Feeder S L → List (Sent P)
-sent_of state feeder = (state feeder.ports).sent
+-- The datagrams that a publisher over ports has sent, and the counts of its sends. `state` gives the state of its ports.
+abbrev pub sent_of : {S L P : Type 0} → (L → PortSetState P) → Feeder S L → LinesState P
+sent_of state feeder = lines_at (state feeder.ports).sent feeder.counts
 
 -- Each of these datagrams is true of the committed messages of this life, and of every file that a crash leaves.
 pub record AreTold {S : Type 0} (may_leave : S → List ℕ → Type 0) (publisher : DurablePublisher S) (life : Life)
@@ -98,6 +98,7 @@ pub record HasTurned {S L P : Type 0} (shows may_leave : S → List ℕ → Type
   pub mid : Feeder S L
   pub group : TakesSome shows may_leave life old mid known left taken
   pub ports : mid.ports ≡ old.ports
+  pub counts : mid.counts ≡ old.counts
   pub sent : HasSent shows may_leave modeled state lines (sends_at (state mid.ports).now mid) mid new
   -- the life of the journal since then
   pub now : Life

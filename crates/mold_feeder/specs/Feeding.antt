@@ -16,7 +16,7 @@ use Rattle.mold_session.specs.Journal.{JournalState}
 use Rattle.mold_session.specs.Records.{SpellsJournal3}
 use Rattle.mold_session.specs.Server.{ServerState}
 use Rattle.mold_wire.specs.declared.limits.TheConstants.{MAX_LIMIT}
-use Rattle.mold_feeder.specs.FeedLines.{SendsOn}
+use Rattle.mold_feeder.specs.FeedLines.{LinesState, SendsOn, lines_at}
 use Rattle.mold_feeder.specs.FeedText.{first_text, status_at, stop_text}
 use Rattle.mold_feeder.specs.Requests.{RepliesTo}
 use Rattle.mold_feeder.specs.Taking.{AllSent, TakesAfter, TakesInput, reopened}
@@ -26,11 +26,13 @@ use Rattle.mold_feeder.specs.declared.feed_lines.FeedLines.{FeedLines}
 use Rattle.mold_feeder.specs.declared.feed_options.FeedOptions.{FeedOptions}
 use Rattle.mold_feeder.specs.declared.feed_stop.FeedStop.{FeedStop}
 use Rattle.mold_feeder.specs.declared.feed_stop.FeedStop.TheVariants.{Ended, Other, Refused}
+use Rattle.mold_feeder.specs.declared.send_counts.LineCounts.{LineCounts}
 
--- A publisher over ports: its publisher, its ports, its port of requests, and its server.
+-- A publisher over ports: its publisher, its ports, the counts of its sends, its port of requests, and its server.
 pub record FeedState (S P Q : Type 0) : Type 0 where
   pub publisher : DurablePublisher S
   pub ports : PortSetState P
+  pub counts : LineCounts
   pub requests : Port Q
   pub server : ServerState
 
@@ -39,9 +41,14 @@ abbrev pub state_of : {S L D M K P Q : Type 0} → (L → PortSetState P) → (D
 state_of state port feed = record {
   publisher = feed.feeder.publisher;
   ports = state feed.feeder.ports;
+  counts = feed.feeder.counts;
   requests = port feed.requests.port;
   server = feed.requests.server;
 }
+
+-- What the publisher has sent on its lines, and the counts of these sends.
+abbrev pub lines_of : {S P Q : Type 0} → FeedState S P Q → LinesState P
+lines_of feed = lines_at feed.ports.sent feed.counts
 
 -- The messages of these groups, in order.
 abbrev pub all_of : List (List (List ℕ)) → List (List ℕ)
@@ -122,7 +129,7 @@ pub record HasFed {S P Q : Type 0} (shows may_leave : S → List ℕ → Type 0)
       (IsFileLeft closes life groups)
   -- what was sent on the lines
   pub datagrams : List (List ℕ)
-  pub sends : modeled ≡ true → SendsOn lines datagrams old.ports.sent new.ports.sent
+  pub sends : modeled ≡ true → SendsOn lines datagrams (lines_of old) (lines_of new)
   pub so : AllByRecursion (IsTrueNow (shut closes (grown life groups))) datagrams
   -- What was true stays true.
   pub later : (datagram : List ℕ) → IsTrueNow life datagram → IsTrueNow (shut closes (grown life groups)) datagram
@@ -202,6 +209,6 @@ pub record HasFinished {S P Q : Type 0} (shows may_leave : S → List ℕ → Ty
   pub taken : TakesInput has options.appends kind old.publisher.publisher.journal
       (reopened old.publisher.publisher.journal new.publisher.publisher.journal) known stop
   pub all : AllSent new.publisher.publisher stop
-  pub ends : status ≡ status_at stop
+  pub ends : status ≡ status_at stop new.counts
   pub said : Appends held_old held_new
       (first_text options.resumed (length old.publisher.publisher.journal.messages) ++ stop_text kind stop last)

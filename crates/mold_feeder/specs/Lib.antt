@@ -2,6 +2,7 @@ pub mod Pace
 pub mod IdleClock
 pub mod JournalMessages
 pub mod Comparison
+pub mod SendCounts
 pub mod FeedLines
 pub mod FeedText
 pub mod Feeder

@@ -14,7 +14,7 @@ ghost use Rattle.mold_feeder.specs.Gathering.{filled_for};
 ghost use Rattle.mold_feeder.specs.Taking.{AllSent, ComparesCome, IsStop, Takes, TakesAfter, TakesCome, TakesInput};
 ghost use Rattle.mold_feeder.specs.Taking.{filled_now, is_end, is_same, left_of, refusal_of, reopened, stop_at};
 ghost use Rattle.mold_feeder.specs.Taking.{TakesNothing, TakesPart, TakesYet, taken_at};
-ghost use Rattle.mold_feeder.specs.Feeder.{ended};
+ghost use Rattle.mold_feeder.specs.Feeder.{ended, sent_of};
 ghost use Rattle.mold_feeder.specs.Comparison.{ComparesAll};
 ghost use Rattle.mold_feeder.specs.JournalMessages.{HasMessages};
 ghost use Rattle.mold_feeder.specs.declared.feed_lines.FeedLines.{FeedLines};
@@ -77,7 +77,7 @@ impl<
             (entries_of_rest M.unread K.left M.entries self.new.input)) }
         ensures feeder { self.new.feeder ≡ record self.old.feeder { ports = self.new.feeder.ports } }
         ensures sent { L.modeled ≡ true →
-            (L.state self.new.feeder.ports).sent ≡ (L.state self.old.feeder.ports).sent }
+            sent_of L.state self.new.feeder ≡ sent_of L.state self.old.feeder }
         ensures requests { self.new.requests ≡ self.old.requests }
     {
         let idle = self.feeder.publisher.unsent() == 0;
@@ -407,7 +407,7 @@ impl<
     fn doze(&mut self, latest: u64)
         ensures feeder { self.new.feeder ≡ record self.old.feeder { ports = self.new.feeder.ports } }
         ensures sent { L.modeled ≡ true →
-            (L.state self.new.feeder.ports).sent ≡ (L.state self.old.feeder.ports).sent }
+            sent_of L.state self.new.feeder ≡ sent_of L.state self.old.feeder }
         ensures requests { self.new.requests ≡ self.old.requests }
         ensures input { self.new.input ≡ self.old.input }
     {

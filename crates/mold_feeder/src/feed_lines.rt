@@ -1,8 +1,9 @@
 //! The lines of a publisher.
 
 ghost use Rattle.std.specs.Prelude.{◌≡◌, [], ◌∷◌, true, replicate};
-ghost use Rattle.mold_feeder.specs.FeedLines.{SendsOn};
+ghost use Rattle.mold_feeder.specs.FeedLines.{SendsOn, lines_at};
 
+use crate::send_counts::LineCounts;
 use mold_port_set::PortSet;
 
 /// The addresses of a publisher's lines. Line A is sent from the port with index 0 of a set of ports, and line B from
@@ -15,16 +16,23 @@ pub struct FeedLines<P: Copy> {
     pub b: Option<P>,
 }
 
-/// Sends a datagram on line A, and then on line B if there is one. The ports count a failure.
-pub fn send_on_lines<L: PortSet>(ports: &mut L, lines: &FeedLines<L::Peer>, datagram: &[u8])
-    ensures sends { L.modeled ≡ true →
-        SendsOn lines.now (datagram.now ∷ []) (L.state ports.old).sent (L.state ports.new).sent }
+/// Sends a datagram on line A, and then on line B if there is one. The ports count a failure, and `counts` each send.
+pub fn send_on_lines<L: PortSet>(
+    ports: &mut L,
+    lines: &FeedLines<L::Peer>,
+    counts: &mut LineCounts,
+    datagram: &[u8],
+)
+    ensures sends { L.modeled ≡ true → SendsOn lines.now (datagram.now ∷ [])
+        (lines_at (L.state ports.old).sent counts.old) (lines_at (L.state ports.new).sent counts.new) }
     ensures given { L.modeled ≡ true → (L.state ports.new).given ≡ (L.state ports.old).given }
     ensures clock { (L.state ports.new).now ≡ (L.state ports.old).now }
 {
-    let _ = ports.send(0, lines.a, datagram);
+    let sent = ports.send(0, lines.a, datagram);
+    counts.a.note(sent.is_err());
     if let Some(b) = lines.b {
-        let _ = ports.send(1, b, datagram);
+        let sent = ports.send(1, b, datagram);
+        counts.b.note(sent.is_err());
     }
 }
 
@@ -32,15 +40,16 @@ pub fn send_on_lines<L: PortSet>(ports: &mut L, lines: &FeedLines<L::Peer>, data
 pub fn send_often<L: PortSet>(
     ports: &mut L,
     lines: &FeedLines<L::Peer>,
+    counts: &mut LineCounts,
     datagram: &[u8],
     times: u32,
 )
-    ensures sends { L.modeled ≡ true →
-        SendsOn lines.now (replicate times datagram.now) (L.state ports.old).sent (L.state ports.new).sent }
+    ensures sends { L.modeled ≡ true → SendsOn lines.now (replicate times datagram.now)
+        (lines_at (L.state ports.old).sent counts.old) (lines_at (L.state ports.new).sent counts.new) }
     ensures given { L.modeled ≡ true → (L.state ports.new).given ≡ (L.state ports.old).given }
     ensures clock { (L.state ports.new).now ≡ (L.state ports.old).now }
 {
     for _time in 0..times {
-        send_on_lines(ports, lines, datagram);
+        send_on_lines(ports, lines, counts, datagram);
     }
 }

@@ -22,6 +22,7 @@ use crate::gathered::Gathered;
 use crate::gathering::take_group;
 use crate::idle_clock::IdleClock;
 use crate::pace::Pace;
+use crate::send_counts::LineCounts;
 use mold_devices::{CommandFault, Source};
 use mold_durable::Storage;
 use mold_durable_publisher::DurablePublisher;
@@ -43,6 +44,8 @@ pub struct Feeder<S, L> {
     /// The number of data packets that were sent. Each is counted once for both lines. It stops at
     /// 18446744073709551615.
     pub datagrams: u64,
+    /// The sends on each line.
+    pub counts: LineCounts,
 }
 
 impl<S: Storage + Drop, L: PortSet + Drop> Feeder<S, L> {
@@ -55,6 +58,7 @@ impl<S: Storage + Drop, L: PortSet + Drop> Feeder<S, L> {
           pace = record { rate = rate; opens = 0 };
           idle = record { idle = idle; due = due_after idle (L.state ports).now };
           datagrams = 0;
+          counts = record { a = record { sent = 0; failed = 0 }; b = record { sent = 0; failed = 0 } };
         } }
     {
         let idle = IdleClock::new(idle, ports.now());
@@ -64,6 +68,7 @@ impl<S: Storage + Drop, L: PortSet + Drop> Feeder<S, L> {
             pace: Pace::new(rate),
             idle,
             datagrams: 0,
+            counts: LineCounts::new(),
         }
     }
 
@@ -80,7 +85,7 @@ impl<S: Storage + Drop, L: PortSet + Drop> Feeder<S, L> {
         let Some(datagram) = self.publisher.next_datagram() else {
             return false;
         };
-        send_on_lines(&mut self.ports, lines, datagram);
+        send_on_lines(&mut self.ports, lines, &mut self.counts, datagram);
         let time = self.ports.now();
         self.pace.note(time, unsent - self.publisher.unsent());
         self.idle.note(time);
@@ -97,11 +102,11 @@ impl<S: Storage + Drop, L: PortSet + Drop> Feeder<S, L> {
         self.idle.note(self.ports.now());
         if self.publisher.is_closed() {
             if let Some(end) = self.publisher.end() {
-                send_on_lines(&mut self.ports, lines, end);
+                send_on_lines(&mut self.ports, lines, &mut self.counts, end);
             }
         } else {
             if let Some(beat) = self.publisher.heartbeat() {
-                send_on_lines(&mut self.ports, lines, beat);
+                send_on_lines(&mut self.ports, lines, &mut self.counts, beat);
             }
         }
     }
@@ -226,7 +231,7 @@ impl<S: Storage + Drop, L: PortSet + Drop> Feeder<S, L> {
         ensures publisher { self.new.publisher ≡ self.old.publisher }
     {
         if let Some(beat) = self.publisher.heartbeat() {
-            send_often(&mut self.ports, lines, beat, times);
+            send_often(&mut self.ports, lines, &mut self.counts, beat, times);
         }
     }
 
@@ -237,7 +242,7 @@ impl<S: Storage + Drop, L: PortSet + Drop> Feeder<S, L> {
         ensures publisher { self.new.publisher ≡ self.old.publisher }
     {
         if let Some(end) = self.publisher.end() {
-            send_often(&mut self.ports, lines, end, times);
+            send_often(&mut self.ports, lines, &mut self.counts, end, times);
         }
     }
 

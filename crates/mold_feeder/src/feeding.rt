@@ -15,20 +15,25 @@ use crate::feed_ports::FeedPorts;
 use crate::feed_stop::FeedStop;
 use crate::journal_messages::JournalMessages;
 use crate::piece_reader::PieceReader;
+use crate::send_counts::LineCounts;
 use mold_devices::{CommandFault, Sink, Source, send};
 use mold_durable::Storage;
 use mold_ports::Datagrams;
 use mold_wire::MAX_LIMIT;
 use std::alloc::Global;
 
+// The status of a publisher if each send on a line failed.
+const LOST: u8 = 1;
+
 // The status of a publisher whose input is refused.
 const REFUSED: u8 = 2;
 
-// Returns the status of a publisher that stopped so.
-fn status_of(stop: FeedStop) -> u8
-    ensures { result ≡ status_at stop }
+// Returns the status of a publisher that stopped so, with these counts of its sends.
+fn status_of(stop: FeedStop, counts: &LineCounts) -> u8
+    ensures { result ≡ status_at stop counts.now }
 {
     match stop {
+        FeedStop::Ended if counts.is_line_lost() => LOST,
         FeedStop::Ended => 0,
         FeedStop::Refused { .. } => REFUSED,
         FeedStop::Other { .. } => REFUSED,
@@ -47,8 +52,9 @@ fn status_of(stop: FeedStop) -> u8
 /// request that waits is answered after each piece. A heartbeat or an end packet is sent when the lines are idle.
 ///
 /// At the end of the input the session is ended as the options state, and requests are answered for `linger`
-/// milliseconds. Then it prints the last line, and the status is 0. If an entry is refused, the messages before it are
-/// committed and sent, the refusal is printed, and the status is 2. The journal then stays open.
+/// milliseconds. Then it prints the last line. The status is 1 if there is a line on which a send was tried and each one
+/// failed, and otherwise 0. If an entry is refused, the messages before it are committed and sent, the refusal is
+/// printed, and the status is 2. The journal then stays open.
 ///
 /// If a wait fails, it reads the input without waiting for it first, if it lacks entries. The fault is `Read` if a read
 /// of the input failed, or after 18446744073709551615 turns. It is also `Read` if `journal` could not be read, or has
@@ -99,5 +105,5 @@ pub fn feed_loop<
     let stop = feed.run(options, journal, buffer.as_mut_slice())?;
     feed.push_stop(&mut text, stop)?;
     send(sink, &mut text)?;
-    Ok(status_of(stop))
+    Ok(status_of(stop, &feed.feeder.counts))
 }

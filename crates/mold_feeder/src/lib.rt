@@ -23,6 +23,7 @@ mod pace;
 mod piece_input;
 mod piece_reader;
 mod requests;
+mod send_counts;
 
 pub use arrived::Arrived;
 pub use compare_fault::CompareFault;
@@ -46,3 +47,4 @@ pub use pace::Pace;
 pub use piece_input::PieceInput;
 pub use piece_reader::PieceReader;
 pub use requests::Requests;
+pub use send_counts::{LineCounts, SendCounts};

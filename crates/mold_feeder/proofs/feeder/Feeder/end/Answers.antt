@@ -15,6 +15,7 @@ returns-in-Ok-clause-ended g c = λ life is.
     c.close.new.self c.send_ends.new.self is c.send_beats.ensures.sent
     (c.in-Ok.ensures.publishes life (c.send_beats.ensures.sent.publishes life is))
     (ap (λ (f : Feeder g.row.S.Denot g.row.L.Denot). f.ports) c.close.ensures.rest)
+    (ap (λ (f : Feeder g.row.S.Denot g.row.L.Denot). f.counts) c.close.ensures.rest)
     (c.in-Ok.ensures.publisher
     ∙ ap (λ (p : DurablePublisher g.row.S.Denot). ended c.args.end p.publisher) c.send_beats.ensures.publisher)
     c.send_ends.ensures.sent c.send_ends.ensures.publisher

@@ -11,5 +11,6 @@ returns-in-Some-clause-sent g c =
       pace = c.args.self.now.pace;
       idle = c.args.self.now.idle;
       datagrams = c.args.self.now.datagrams;
+      counts = c.send_often.new.counts;
     }) c.in-Some.ensures.lent c.send_often.ensures.sends c.send_often.ensures.given c.send_often.ensures.clock
     c.heartbeat.follows.holds-at-none c.in-Some.ensures.truth c.in-Some.ensures.told

@@ -10,5 +10,6 @@ returns-clause-sent g c =
       pace = c.note.new.self;
       idle = c.note-2.new.self;
       datagrams = c.saturating_add-self.result;
+      counts = c.send_on_lines.new.counts;
     }) c.in-Some.ensures.lent c.send_on_lines.ensures.sends c.send_on_lines.ensures.given c.send_on_lines.ensures.clock
     c.next_datagram.follows.holds-at-none c.in-Some.ensures.truth c.in-Some.ensures.told

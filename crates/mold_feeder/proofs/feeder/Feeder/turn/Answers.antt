@@ -13,7 +13,8 @@ returns-clause-turned g c = λ life is none.
     turn_done g.S.Storage.shows g.S.Storage.may_leave g.L.PortSet.modeled g.L.PortSet.state c.args.lines.now life
     c.args.self.now c.take_input.new.self c.send_due.new.self _ _ c.in_ok-taken.taken is none
     (c.in_ok-taken.ensures.taken life is)
-    (ap (λ (f : Feeder g.row.S.Denot g.row.L.Denot). f.ports) c.take_input.ensures.rest) c.send_due.ensures.sent
+    (ap (λ (f : Feeder g.row.S.Denot g.row.L.Denot). f.ports) c.take_input.ensures.rest)
+    (ap (λ (f : Feeder g.row.S.Denot g.row.L.Denot). f.counts) c.take_input.ensures.rest) c.send_due.ensures.sent
 
 pub returns-clause-told : goal.returns-clause-told
 returns-clause-told g c = λ life datagram is so.
