@@ -12,7 +12,7 @@ _mold_options() {
     sessions) printf '%s ' --capture --port --group ;;
     publish) printf '%s ' --session --limit --a --b --journal --beats --ends --blocks --end-at-empty ;;
     feed) printf '%s ' --session --limit --a --b --interface-a --interface-b --ttl --journal --append --bind --burst \
-        --rate --idle --beats --ends --open --linger --blocks ;;
+        --rate --idle --beats --ends --open --linger --blocks --end-at-empty ;;
     serve) printf '%s ' --journal --follow --limit --burst --bind --turns --live ;;
     listen) printf '%s ' --session --next --window --a --b --server --burst --turns --live --report --blocks \
         --end-at-empty ;;

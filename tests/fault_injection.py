@@ -224,6 +224,8 @@ def calls_over_ports():
         Call("feed", feed, MESSAGES, {}, ("new",), receive_lines, published, 0, sends, ("wait",)),
         Call("feed over a file", feed, MESSAGES, {"new": OPEN}, ("new",), receive_lines, published, 0, sends,
              ("wait",)),
+        Call("feed, to an empty block", [*feed, "--blocks", "--end-at-empty"], b"\0\2AB\0\0", {}, ("new",),
+             receive_lines, published, 0, sends, ("wait",)),
         Call("serve", serve, b"", {"old": OLD}, (), request_messages, (udp_peers.REQUESTING,), 0, responds),
         Call("serve, a file with records", serve, b"", {"old": RECORDS}, (), request_messages,
              (udp_peers.REQUESTING,), 0, responds),

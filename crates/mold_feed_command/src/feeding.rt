@@ -11,7 +11,7 @@ use mold_devices::{CommandFault, FromRead, IntoWrite, Sink, Source};
 use mold_durable::{FileStorage, create_file, open_file, sync_folder};
 use mold_durable_publisher::DurablePublisher;
 use mold_feeder::{Feed, Feeder, JournalMessages, PieceInput, PieceReader, Requests, feed_loop};
-use mold_input::{HexLines, MessageBlocks};
+use mold_input::{HexLines, MessageBlocks, MessageFormat};
 use mold_session::{FileError, Server};
 use mold_stored_journal::StoredJournal;
 use mold_wire::Session;
@@ -93,7 +93,8 @@ fn feed_on<M: PieceReader>(
 ) -> Result<u8, CommandFault>
     requires { feeder.publisher.publisher.journal.max_message ≤ requests.server.max_message }
 {
-    let input = PieceInput::<M, _>::new(rt.alloc(), FromRead::new(rt.stdin()))?;
+    let to_empty = matches!(order.input, MessageFormat::BlocksToEmpty);
+    let input = PieceInput::<M, _>::new(rt.alloc(), FromRead::new(rt.stdin()), to_empty)?;
     let mut feed = Feed {
         feeder,
         requests,
@@ -118,10 +119,11 @@ fn feed_input(
     let Ports { lines, requests } = ports;
     let feeder = Feeder::new(publisher, lines, order.times.rate, order.times.idle);
     let requests = Requests::new(requests, server);
-    if order.blocks {
-        feed_on::<MessageBlocks>(rt, order, feeder, requests, resumed)
-    } else {
-        feed_on::<HexLines>(rt, order, feeder, requests, resumed)
+    match order.input {
+        MessageFormat::Lines => feed_on::<HexLines>(rt, order, feeder, requests, resumed),
+        MessageFormat::Blocks | MessageFormat::BlocksToEmpty => {
+            feed_on::<MessageBlocks>(rt, order, feeder, requests, resumed)
+        }
     }
 }
 

@@ -5,6 +5,7 @@ pub mod RequestLemmas
 pub mod FeederLemmas
 pub mod GatheringLemmas
 pub mod PieceLemmas
+pub mod MarkedLemmas
 pub mod InputLemmas
 pub mod FeedingLemmas
 pub mod TakingLemmas

@@ -162,14 +162,14 @@ lines_empty (byte ∷ bytes) is = absurd (no_lines (eqb byte 10) byte (lines_of 
 
 -- ---- blocks
 
-one_entry : (bytes : List ℕ) → length bytes ≡ 2 + big_number 2 bytes → block_entries bytes ≡ Ok (first_message bytes) ∷ []
+pub one_entry : (bytes : List ℕ) → length bytes ≡ 2 + big_number 2 bytes → block_entries bytes ≡ Ok (first_message bytes) ∷ []
 one_entry bytes exact =
     first_entries bytes (omega (arith, exact))
     ∙ ap (λ (t : List ℕ). Ok (first_message bytes) ∷ block_entries t)
     (drop_all (2 + big_number 2 bytes) bytes (omega (arith, exact)))
     ∙ ap (λ (es : List Entry). Ok (first_message bytes) ∷ es) no_entries
 
-one_block : (bytes : List ℕ) → length bytes ≡ 2 + big_number 2 bytes → AreWhole block_entries bytes
+pub one_block : (bytes : List ℕ) → length bytes ≡ 2 + big_number 2 bytes → AreWhole block_entries bytes
 one_block bytes exact = λ more.
     front_entries bytes more (omega (arith, exact))
     ∙ ap (λ (t : List ℕ). Ok (first_message bytes) ∷ block_entries (t ++ more))

@@ -28,6 +28,7 @@ use Rattle.mold_feeder.specs.declared.compared.Compared.TheVariants as compared
 use Rattle.mold_feeder.specs.declared.compared.Compared.TheVariants.{Differs, Same}
 use Rattle.mold_feeder.specs.Input.{IsInput, KeepsRest, entries_after, entries_of_rest}
 use Rattle.mold_feeder.specs.Taking.{ComparesCome, IsSameTo, IsStop, Takes, TakesAfter, TakesCome, TakesInput}
+use Rattle.mold_feeder.specs.ToEmpty.{source_left}
 use Rattle.mold_feeder.specs.Taking.{TakesPart, TakesYet, filled_now, is_end, is_same, left_of, refusal_of, reopened}
 use Rattle.mold_feeder.specs.Taking.{stop_at, taken_at}
 use Rattle.mold_feeder.specs.declared.gathered.Gathered.{Gathered}
@@ -221,7 +222,7 @@ pub over_rest : {M K : Type 0} (is_part : PartState → Type 0) (unread : M → 
 over_rest is_part unread left entries input is nothing over =
     let parts = over_parts input.ready input.ended over in
     let rest = is.over parts.1 in
-    over_known entries _ (bytes_of input.part) (left input.source) (is.taken parts.0) rest.0 rest.1 nothing
+    over_known entries _ (bytes_of input.part) (source_left left input.source) (is.taken parts.0) rest.0 rest.1 nothing
 
 -- ---- the comparison
 

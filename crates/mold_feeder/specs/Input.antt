@@ -3,6 +3,7 @@ use Rattle.std.specs.Prelude.{◌≡◌, ℕ, false, true, List, [], ◌++◌, O
 use Rattle.std.specs.Io.KnownBytes.{IsAtEnd}
 use Rattle.mold_input.specs.Entries.{Entry}
 use Rattle.mold_input.specs.LongLines.{PartState, bytes_of}
+use Rattle.mold_feeder.specs.ToEmpty.{source_left}
 use Rattle.mold_feeder.specs.declared.piece_input.PieceInput.{PieceInput}
 
 -- The entries `come`, and then those of the bytes `part` with the bytes after them, if these are known.
@@ -24,7 +25,7 @@ bytes_come unread input = unread input.come.messages ++ input.come.source
 abbrev pub entries_of_rest : {M K : Type 0} → (M → List ℕ) → (K → Option (List ℕ)) → (List ℕ → List Entry) →
     PieceInput M K → Option (List Entry)
 entries_of_rest unread left entries input =
-    entries_after entries (entries (bytes_come unread input)) (bytes_of input.part) (left input.source)
+    entries_after entries (entries (bytes_come unread input)) (bytes_of input.part) (source_left left input.source)
 
 -- What holds of an input: if it is not ready, all entries that have come were taken. If it has ended, nothing comes
 -- after those that have come.
@@ -32,4 +33,4 @@ pub record IsInput {M K : Type 0} (is_part : PartState → Type 0) (unread : M �
     (input : PieceInput M K) : Type 0 where
   pub part : is_part input.part
   pub taken : input.ready ≡ false → bytes_come unread input ≡ []
-  pub over : input.ended ≡ true → (bytes_of input.part ≡ []) × IsAtEnd (left input.source)
+  pub over : input.ended ≡ true → (bytes_of input.part ≡ []) × IsAtEnd (source_left left input.source)

@@ -9,6 +9,7 @@ pub mod Feeder
 pub mod Requests
 pub mod Gathering
 pub mod Pieces
+pub mod ToEmpty
 pub mod Input
 pub mod Feeding
 pub mod Taking

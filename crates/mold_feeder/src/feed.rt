@@ -11,6 +11,7 @@ ghost use Rattle.mold_feeder.specs.Feeding.{HasBroken, HasFed, MayClose, MayClos
 ghost use Rattle.mold_feeder.specs.Feeding.{MayNotClose, closes_at, state_of};
 ghost use Rattle.mold_feeder.specs.Input.{IsInput, KeepsRest, bytes_come, entries_after, entries_of_rest};
 ghost use Rattle.mold_feeder.specs.Gathering.{filled_for};
+ghost use Rattle.mold_feeder.specs.ToEmpty.{source_left};
 ghost use Rattle.mold_feeder.specs.Taking.{AllSent, ComparesCome, IsStop, Takes, TakesAfter, TakesCome, TakesInput};
 ghost use Rattle.mold_feeder.specs.Taking.{filled_now, is_end, is_same, left_of, refusal_of, reopened, stop_at};
 ghost use Rattle.mold_feeder.specs.Taking.{TakesNothing, TakesPart, TakesYet, taken_at};
@@ -184,11 +185,11 @@ impl<
         requires ready { self.old.input.ready ≡ true }
         requires part { M.is_part self.old.input.part }
         requires over { self.old.input.ended ≡ true →
-            (bytes_of self.old.input.part ≡ []) × IsAtEnd (K.left self.old.input.source) }
+            (bytes_of self.old.input.part ≡ []) × IsAtEnd (source_left K.left self.old.input.source) }
         ensures input { OnOk result (IsInput M.is_part M.unread K.left self.new.input) }
         ensures rest { OnOk result (entries_of_rest M.unread K.left M.entries self.new.input
             ≡ entries_after M.entries (left_of taken (M.entries (bytes_come M.unread self.old.input)))
-            (bytes_of self.old.input.part) (K.left self.old.input.source)) }
+            (bytes_of self.old.input.part) (source_left K.left self.old.input.source)) }
         ensures feeder { self.new.feeder ≡ self.old.feeder }
         ensures requests { self.new.requests ≡ self.old.requests }
     {

@@ -19,9 +19,11 @@ mod gathered;
 mod gathering;
 mod idle_clock;
 mod journal_messages;
+pub mod laws;
 mod pace;
 mod piece_input;
 mod piece_reader;
+mod piece_source;
 mod requests;
 mod send_counts;
 

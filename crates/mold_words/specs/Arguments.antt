@@ -117,8 +117,8 @@ pub record FeedArguments : Type 0 where
   -- The maximum number of responses to a request.
   pub burst : ℕ
   pub times : TimeArguments
-  -- Whether the input is message blocks.
-  pub blocks : Bool
+  -- How the input encodes the messages.
+  pub input : MessageFormat
   -- The number of heartbeats after the messages.
   pub beats : ℕ
   -- The number of end packets after the heartbeats.
@@ -533,7 +533,7 @@ view (Feed order) = feed_wanted (record {
   bind = option_map address_view order.bind;
   burst = order.burst;
   times = feed_times_view order.times;
-  blocks = order.blocks;
+  input = order.input;
   beats = order.beats;
   ends = order.ends;
   stays_open = order.open;

@@ -407,6 +407,7 @@ feed_of rows =
     (λ bind. option_and_then
     (λ burst. option_and_then
     (λ times. option_and_then
+    (λ input. option_and_then
     (λ journal. Some (feed_wanted (record {
       session = published.session;
       limit = published.limit;
@@ -416,12 +417,13 @@ feed_of rows =
       bind = bind;
       burst = burst;
       times = times;
-      blocks = flag_in (codes "blocks") rows;
+      input = input;
       beats = published.beats;
       ends = published.ends;
       stays_open = flag_in (codes "open") rows;
     })))
     (first_of (codes "journal") rows))
+    (format_in rows))
     (feed_times_in rows))
     (burst_in rows))
     (address_or_none (first_of (codes "bind") rows)))

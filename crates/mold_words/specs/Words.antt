@@ -73,7 +73,7 @@ feed_command = (
       ∷ (codes "journal", Required) ∷ (codes "append", Flag) ∷ (codes "bind", Optional)
       ∷ (codes "burst", Optional) ∷ (codes "rate", Optional) ∷ (codes "idle", Optional)
       ∷ (codes "beats", Optional) ∷ (codes "ends", Optional) ∷ (codes "open", Flag)
-      ∷ (codes "linger", Optional) ∷ (codes "blocks", Flag) ∷ [],
+      ∷ (codes "linger", Optional) ∷ (codes "blocks", Flag) ∷ (codes "end-at-empty", Flag) ∷ [],
 )
 
 -- The command `serve` with its options.

@@ -9,6 +9,7 @@ ghost use Rattle.mold_wire.specs.declared.limits.TheConstants.{MAX_LIMIT, MIN_LI
 use crate::address::Address;
 use crate::feed_times::FeedTimes;
 use crate::sent_lines::SentLines;
+use mold_input::MessageFormat;
 
 /// The session that `feed` keeps in a durable journal and sends, and how.
 #[derive(Drop)]
@@ -29,8 +30,8 @@ pub struct FeedOrder {
     pub burst: u16,
     /// When messages and heartbeats are sent, and how long requests are responded to.
     pub times: FeedTimes,
-    /// Whether the input is message blocks. Otherwise it is lines.
-    pub blocks: bool,
+    /// How the input encodes the messages.
+    pub input: MessageFormat,
     /// How many heartbeats are sent after the messages, 0 to 1,000.
     pub beats: u32,
     /// How many end packets are sent after the heartbeats, 0 to 1,000.

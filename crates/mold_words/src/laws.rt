@@ -310,7 +310,8 @@ pub fn publish_taken_law()
 /// this address, in datagrams of up to 1,400 bytes from 0.0.0.0. A heartbeat is sent after a second, one heartbeat
 /// and one end packet follow the messages, and no request is received. With `--bind`, requests are responded to for
 /// ten more seconds after the input has ended, unless `--linger` sets another time. Each option replaces its default.
-/// `--interface-b` without `--b` is refused.
+/// `--blocks` together with `--end-at-empty` asks to read blocks up to the first empty one. `--end-at-empty` without
+/// `--blocks` is refused, and so is `--interface-b` without `--b`.
 pub fn feed_taken_law()
     ensures usual { Say
         (codes "feed" ∷ codes "--session" ∷ codes "MKT" ∷ codes "--a" ∷ codes "239.192.1.1:26477"
@@ -330,14 +331,14 @@ pub fn feed_taken_law()
           bind = None;
           burst = 1;
           times = record { idle = 1000; rate = 0; linger = 0 };
-          blocks = false;
+          input = Lines;
           beats = 1;
           ends = 1;
           stays_open = false;
         })) }
     ensures served { Say
         (codes "feed" ∷ codes "--bind" ∷ codes "127.0.0.1:9003" ∷ codes "--session" ∷ codes "MKT" ∷ codes "--a"
-        ∷ codes "127.0.0.1:9001" ∷ codes "--journal" ∷ codes "J" ∷ codes "--open" ∷ [])
+        ∷ codes "127.0.0.1:9001" ∷ codes "--journal" ∷ codes "J" ∷ codes "--open" ∷ codes "--blocks" ∷ [])
         (feed_wanted (record {
           session = codes "MKT       ";
           limit = 1400;
@@ -353,7 +354,7 @@ pub fn feed_taken_law()
           bind = Some (127 ∷ 0 ∷ 0 ∷ 1 ∷ [], 9003);
           burst = 1;
           times = record { idle = 1000; rate = 0; linger = 10000 };
-          blocks = false;
+          input = Blocks;
           beats = 1;
           ends = 1;
           stays_open = true;
@@ -364,7 +365,8 @@ pub fn feed_taken_law()
         ∷ codes "10.0.0.7" ∷ codes "--interface-b" ∷ codes "10.0.1.7" ∷ codes "--ttl" ∷ codes "255" ∷ codes "--journal"
         ∷ codes "J" ∷ codes "--append" ∷ codes "--bind" ∷ codes "0.0.0.0:26400" ∷ codes "--burst" ∷ codes "64"
         ∷ codes "--rate" ∷ codes "10000000" ∷ codes "--idle" ∷ codes "60000" ∷ codes "--beats" ∷ codes "2"
-        ∷ codes "--ends" ∷ codes "3" ∷ codes "--linger" ∷ codes "86400000" ∷ codes "--blocks" ∷ [])
+        ∷ codes "--ends" ∷ codes "3" ∷ codes "--linger" ∷ codes "86400000" ∷ codes "--blocks" ∷ codes "--end-at-empty"
+        ∷ [])
         (feed_wanted (record {
           session = codes "MKT       ";
           limit = 64;
@@ -380,11 +382,14 @@ pub fn feed_taken_law()
           bind = Some (0 ∷ 0 ∷ 0 ∷ 0 ∷ [], 26400);
           burst = 64;
           times = record { idle = 60000; rate = 10000000; linger = 86400000 };
-          blocks = true;
+          input = BlocksToEmpty;
           beats = 2;
           ends = 3;
           stays_open = false;
         })) }
+    ensures no_blocks { order_of
+        (codes "feed" ∷ codes "--session" ∷ codes "MKT" ∷ codes "--a" ∷ codes "127.0.0.1:9001" ∷ codes "--journal"
+        ∷ codes "J" ∷ codes "--end-at-empty" ∷ []) ≡ None }
     ensures no_line { order_of
         (codes "feed" ∷ codes "--session" ∷ codes "MKT" ∷ codes "--a" ∷ codes "127.0.0.1:9001" ∷ codes "--journal"
         ∷ codes "J" ∷ codes "--interface-b" ∷ codes "10.0.1.7" ∷ []) ≡ None }

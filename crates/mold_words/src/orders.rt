@@ -291,8 +291,8 @@ fn feed_order(alloc: Global, options: &ArgMatches<'_>) -> Result<Order, NoOrder>
     let burst = burst_in(options)?;
     let times = feed_times_in(options)?;
     let append = flag_in(options, "append");
-    let blocks = flag_in(options, "blocks");
     let open = flag_in(options, "open");
+    let input = format_in(options)?;
     let journal = journal_in(alloc, options)?;
     Ok(Order::Feed(FeedOrder {
         session,
@@ -303,7 +303,7 @@ fn feed_order(alloc: Global, options: &ArgMatches<'_>) -> Result<Order, NoOrder>
         bind,
         burst,
         times,
-        blocks,
+        input,
         beats: published.beats,
         ends: published.ends,
         open,

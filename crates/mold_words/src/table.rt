@@ -508,6 +508,7 @@ pub static FEED: CommandRow = CommandRow {
                     milliseconds, 0 to 86400000 [default: 10000 with --bind, otherwise 0]",
         },
         BLOCKS,
+        END_AT_EMPTY,
     ],
     example: "Example:\n  mold feed --session SESSION001 --a 127.0.0.1:9001 --b 127.0.0.1:9002 \\\
             \n    --journal day.journal --bind 127.0.0.1:9003 < messages",

@@ -7,6 +7,7 @@ use Rattle.mold_input.specs.LongLines.{bytes_of}
 use Rattle.mold_feeder.specs.Feeding.{MayNotClose, grown, state_of}
 use Rattle.mold_feeder.specs.Input.{bytes_come, entries_after, entries_of_rest}
 use Rattle.mold_feeder.specs.Taking.{Takes, TakesPart, filled_now, left_of}
+use Rattle.mold_feeder.specs.ToEmpty.{source_left}
 use Rattle.mold_feeder.specs.declared.feeder.Feeder.{Feeder}
 use Rattle.mold_feeder.specs.declared.piece_input.PieceInput.{PieceInput}
 use Rattle.mold_feeder.proofs.FeedingLemmas.{broken_now, broken_then, broken_weaker, fed_rested, fed_same, fed_then}
@@ -21,7 +22,7 @@ returns-clause-taken g c = λ life is.
     let known = entries_of_rest g.M.InputReader.unread g.K.Source.left entries c.args.self.now.input in
     let before = c.pause.new.self.input in
     let left = left_of taken (entries (bytes_come g.M.InputReader.unread c.take.new.self.input)) in
-    let rest = entries_after entries left (bytes_of before.part) (g.K.Source.left before.source) in
+    let rest = entries_after entries left (bytes_of before.part) (source_left g.K.Source.left before.source) in
     let start : IsAtRest g.S.Storage.shows g.S.Storage.may_leave c.pause.new.self.feeder.publisher life =
     subst (λ (f : Feeder g.row.S.Denot g.row.L.Denot). IsAtRest g.S.Storage.shows g.S.Storage.may_leave f.publisher life)
     (sym c.in_ok-pause.ensures.feeder) is in
@@ -29,12 +30,12 @@ returns-clause-taken g c = λ life is.
     turn_takes kind c.pause.new.self.feeder.publisher.publisher.journal c.take.new.self.feeder.publisher.publisher.journal
     known entries (entries (bytes_come g.M.InputReader.unread before))
     (entries (bytes_come g.M.InputReader.unread c.take.new.self.input)) (bytes_of before.part)
-    (g.K.Source.left before.source) taken c.in_ok-pause.ensures.rest (c.in_ok-taken.ensures.taken life start) in
+    (source_left g.K.Source.left before.source) taken c.in_ok-pause.ensures.rest (c.in_ok-taken.ensures.taken life start) in
     subst (λ (r : Option (List Entry)). Takes kind c.args.self.now.feeder.publisher.publisher.journal
     c.note.new.self.feeder.publisher.publisher.journal known r (filled_now taken))
     (sym (c.in_ok-note.ensures.rest
     ∙ ap (λ (i : PieceInput g.row.M.Denot g.row.K.Denot).
-    entries_after entries left (bytes_of i.part) (g.K.Source.left i.source)) c.take.ensures.input))
+    entries_after entries left (bytes_of i.part) (source_left g.K.Source.left i.source)) c.take.ensures.input))
     (subst (λ (f : Feeder g.row.S.Denot g.row.L.Denot). Takes kind c.args.self.now.feeder.publisher.publisher.journal
     f.publisher.publisher.journal known rest (filled_now taken)) (sym c.note.ensures.feeder)
     (subst (λ (f : Feeder g.row.S.Denot g.row.L.Denot). Takes kind f.publisher.publisher.journal
@@ -97,7 +98,7 @@ returns-in_err-taken-clause-broken g c = λ life is.
     subst (λ (j : JournalState). TakesPart g.M.MessageReader.input_kind j known journal)
     (ap (λ (f : Feeder g.row.S.Denot g.row.L.Denot). f.publisher.publisher.journal) c.pause.ensures.feeder)
     (part_of_rest g.M.MessageReader.input_kind before journal known entries come (bytes_of input.part)
-    (g.K.Source.left input.source) c.in_ok-pause.ensures.rest part))
+    (source_left g.K.Source.left input.source) c.in_ok-pause.ensures.rest part))
     (λ journal never. never) (c.in_err-taken.ensures.broken (grown life []) waited.rests)))
 
 pub returns-in_err-note-clause-broken : goal.returns-in_err-note-clause-broken
@@ -117,7 +118,7 @@ returns-in_err-note-clause-broken g c = λ life is.
     let took = c.in_ok-taken.ensures.fed (grown life []) waited.rests in
     let takes = turn_takes g.M.MessageReader.input_kind before after known entries come
     (entries (bytes_come g.M.InputReader.unread c.take.new.self.input)) (bytes_of input.part)
-    (g.K.Source.left input.source) c.in_ok-taken.taken c.in_ok-pause.ensures.rest
+    (source_left g.K.Source.left input.source) c.in_ok-taken.taken c.in_ok-pause.ensures.rest
     (c.in_ok-taken.ensures.taken (grown life []) waited.rests) in
     on_err _
     (broken_now g.S.Storage.shows g.S.Storage.may_leave g.S.Storage.moment g.S.Storage.left_since g.S.Storage.failed

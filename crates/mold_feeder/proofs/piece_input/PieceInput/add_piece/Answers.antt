@@ -1,6 +1,7 @@
 use Rattle.std.proofs.Common.{◌∙◌, ◌++◌, ap, List, [], ℕ}
 use Rattle.mold_input.specs.LongLines.{bytes_of}
 use Rattle.mold_feeder.specs.Input.{entries_after}
+use Rattle.mold_feeder.specs.ToEmpty.{source_left}
 use Rattle.mold_feeder.proofs.InputLemmas.{split_rest}
 use Rattle.mold_feeder.proofs.piece_input.PieceInput.add_piece.Goals as goal
 
@@ -10,8 +11,7 @@ returns-clause-split g c =
     let old = bytes_of c.args.self.now.part in
     let part = bytes_of c.add.new.part in
     let whole = bytes_of c.in_ok-whole.whole in
-    let left = g.K.Source.left c.args.self.now.source in
-    let piece = c.rest.ensures.value ∙ c.deref.ensures in
+    let left = source_left g.K.Source.left c.args.self.now.source in
     ap (λ (t : List ℕ). entries_after entries (entries t) part left) c.of.ensures
-    ∙ split_rest entries whole part old c.rest.result.now left c.in_ok-whole.ensures.split
-    ∙ ap (λ (t : List ℕ). entries_after entries [] (old ++ t) left) piece
+    ∙ split_rest entries whole part old c.bytes.result.now left c.in_ok-whole.ensures.split
+    ∙ ap (λ (t : List ℕ). entries_after entries [] (old ++ t) left) c.bytes.ensures
