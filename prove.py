@@ -35,8 +35,8 @@ import prebuilt_files
 ROOTS = {**prebuilt_files.PROGRAMS, "libmold_ffi.a": prebuilt_files.LIBRARY}
 # The folder for what --build makes, and the one for what the other calls make.
 KEPT, FRESH = os.path.join(TOP, "out", "proved"), os.path.join(TOP, "out", "prove")
-# The memory that a process may need, in bytes: most need less than 2.3 GB, and mold_cmd 3.8 GB.
-NEED, NEED_OF = 2_400_000_000, {"mold_cmd": 4_000_000_000}
+# The memory that a process may need, in bytes: most need less than 2.4 GB, and mold_cmd 4.0 GB.
+NEED, NEED_OF = 2_400_000_000, {"mold_cmd": 4_200_000_000}
 # What a verdict may take on trust: what the toolchain has proved, and what this script has.
 TRUSTED = {"logic-built", "libraries-built", "statements"}
 # Words of a verdict on a crate that may break off, or calls code in C of its own.
