@@ -129,6 +129,7 @@ LANES = (
         over_program("tests/out-of-memory --only calls", "examples/*", "tests/inject_faults.c", needs_compiler=True),
         over_program("tests/io-errors", "examples/*", "tests/inject_faults.c", needs_compiler=True),
         over_program("tests/failing-calls", "tests/inject_faults.c", needs_compiler=True),
+        over_program("tests/recorded-calls", "tests/record_writes.c", needs_compiler=True),
         over_program("tests/descriptors", "examples/*"),
         over_program("tests/mutations", "examples/packets.*", "tests/table*"),
         # Longer runs with other seeds are not part of the gate.
