@@ -8,7 +8,7 @@ import select
 import socket
 import struct
 import time
-from dataclasses import dataclass
+from dataclasses import dataclass, replace
 
 import model
 import udp_peers
@@ -185,12 +185,12 @@ class Exchange:
     def now(self):
         return 0 if self.began is None else time.monotonic() - self.began
 
-    def run(self, process, seconds=PATIENCE):
-        """Runs until the receiver has ended, or for a time."""
+    def run(self, process, seconds=PATIENCE, is_done=None):
+        """Runs until the receiver has ended, or for a time, or until something is done."""
         if self.began is None:
             self.began = time.monotonic()
         until = self.now() + seconds
-        while process.poll() is None and self.now() < until:
+        while process.poll() is None and self.now() < until and not (is_done and is_done()):
             while self.events and self.events[0][0] <= self.now():
                 _, _, action, arguments = heapq.heappop(self.events)
                 action(*arguments)
@@ -202,6 +202,14 @@ class Exchange:
         return likelihood > 0 and self.choices.random() < likelihood
 
     # The publisher and the lines.
+
+    def sent(self):
+        """The number of the last message that the publisher has sent."""
+        return self.plan.first_of(self.index) - 1
+
+    def end_after(self, packets):
+        """Ends the session after these further packets."""
+        self.plan = replace(self.plan, packets=self.index + packets)
 
     def publish(self):
         """Sends the packets that are due, and later the next ones."""
