@@ -10,9 +10,13 @@
  * port: then only datagrams to it count. FAULT_HOW changes what the call does:
  *   short     it transfers one byte;
  *   full      it transfers half of its bytes, and all later calls of the function fail;
+ *   killed    signal 9 ends the program before the call;
+ *   torn      signal 9 ends the program when the call, which is a `pwrite`, has written half of its bytes;
+ *   replaced  before it, which is a `flock`, the file FAULT_OTHER gets the name FAULT_FILE, as if by another process;
+ *   unseen    the same, but `statx` of that name continues to describe the file that had it;
  *   hidden    it does nothing, and returns success;
  *   cut       it transfers one byte, and the next call none, as if the file ended.
- * The last two simulate a program that ignores a failure.
+ * The last three simulate a program that ignores what happened.
  * tests/out-of-memory, tests/io-errors and tests/failing-calls use this library. */
 #define _GNU_SOURCE
 #include <dirent.h>
@@ -22,8 +26,10 @@
 #include <link.h>
 #include <netinet/in.h>
 #include <poll.h>
+#include <signal.h>
 #include <stdarg.h>
 #include <stdint.h>
+#include <stdio.h>
 #include <stdlib.h>
 #include <string.h>
 #include <sys/file.h>
@@ -88,7 +94,7 @@ static int fails(const char *called, int with, void *caller) {
 }
 
 /* What happens to a call of a function. */
-enum fate { PASSES, FAILS, TRANSFERS_ONE, TRANSFERS_HALF, TRANSFERS_NONE, DOES_NOTHING };
+enum fate { PASSES, FAILS, TRANSFERS_ONE, TRANSFERS_HALF, TRANSFERS_NONE, DOES_NOTHING, IS_REPLACED, IS_TORN };
 
 static enum fate fate_of(const char *called) {
     if (!counts) begin();
@@ -102,6 +108,9 @@ static enum fate fate_of(const char *called) {
     if (is_cut) return past == 0 ? TRANSFERS_ONE : TRANSFERS_NONE;
     if (!strcmp(how, "short")) return TRANSFERS_ONE;
     if (!strcmp(how, "hidden")) return DOES_NOTHING;
+    if (!strcmp(how, "killed")) kill(getpid(), SIGKILL);
+    if (!strcmp(how, "torn")) return IS_TORN;
+    if (!strcmp(how, "replaced") || !strcmp(how, "unseen")) return IS_REPLACED;
     errno = error;
     return FAILS;
 }
@@ -200,7 +209,17 @@ int openat(int folder, const char *path, int flags, ...) {
 }
 ssize_t pwrite(int file, const void *bytes, size_t size, off_t offset) {
     NEXT(pwrite);
-    LIMIT_IF_FATED("pwrite", size);
+    switch (fate_of("pwrite")) {
+        case FAILS: return -1;
+        case DOES_NOTHING: return (ssize_t)size;
+        case TRANSFERS_ONE: size = size ? 1 : 0; break;
+        case TRANSFERS_HALF: size = size / 2; break;
+        case IS_TORN:
+            (void)!next(file, bytes, size / 2, offset);
+            kill(getpid(), SIGKILL);
+            break;
+        default: break;
+    }
     return next(file, bytes, size, offset);
 }
 
@@ -209,14 +228,51 @@ ssize_t pwrite(int file, const void *bytes, size_t size, off_t offset) {
 FALLIBLE(fdatasync, (int file), file)
 FALLIBLE(fsync, (int file), file)
 FALLIBLE(ftruncate, (int file, off_t length), file, length)
-FALLIBLE(flock, (int file, int how), file, how)
 FALLIBLE(link, (const char *from, const char *to), from, to)
 FALLIBLE(unlink, (const char *path), path)
-FALLIBLE(statx, (int folder, const char *path, int flags, unsigned mask, struct statx *found), folder, path, flags,
-         mask, found)
+
+/* The file that had the name FAULT_FILE, if it was replaced. */
+static int replaced = -1;
+
+int flock(int file, int operation) {
+    NEXT(flock);
+    switch (fate_of("flock")) {
+        case FAILS: return -1;
+        case DOES_NOTHING: return 0;
+        case IS_REPLACED:
+            if (rename(getenv("FAULT_OTHER"), getenv("FAULT_FILE")) == 0) replaced = file;
+            break;
+        default: break;
+    }
+    return next(file, operation);
+}
+int statx(int folder, const char *path, int flags, unsigned mask, struct statx *found) {
+    NEXT(statx);
+    RETURN_IF_FATED("statx");
+    if (replaced >= 0 && !strcmp(how, "unseen") && !strcmp(path, getenv("FAULT_FILE")))
+        return next(replaced, "", AT_EMPTY_PATH, mask, found);
+    return next(folder, path, flags, mask, found);
+}
+
 FALLIBLE(socket, (int domain, int type, int protocol), domain, type, protocol)
 FALLIBLE(bind, (int port, const struct sockaddr *own, socklen_t length), port, own, length)
 FALLIBLE(setsockopt, (int port, int level, int name, const void *value, socklen_t length), port, level, name, value,
          length)
 FALLIBLE(getsockopt, (int port, int level, int name, void *value, socklen_t *length), port, level, name, value, length)
+FALLIBLE(getsockname, (int port, struct sockaddr *own, socklen_t *length), port, own, length)
+FALLIBLE(ioctl, (int port, unsigned long what, void *value), port, what, value)
 FALLIBLE(nanosleep, (const struct timespec *time, struct timespec *rest), time, rest)
+ssize_t readlink(const char *path, char *found, size_t size) {
+    NEXT(readlink);
+    RETURN_IF_FATED("readlink");
+    return next(path, found, size);
+}
+/* A file is closed even if this fails. */
+int close(int file) {
+    NEXT(close);
+    enum fate fate = fate_of("close");
+    int status = next(file);
+    if (fate != FAILS) return status;
+    errno = error;
+    return -1;
+}

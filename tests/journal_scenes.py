@@ -1,5 +1,5 @@
-"""Scenes in which the program works on a journal file: `feed`, `receive --journal`, `serve --follow` and `dump --follow`,
-each with a peer over UDP on this machine. For tests/failing-calls and tests/recorded-calls."""
+"""Scenes in which the program works on a journal file, each with a peer over UDP on this machine. For
+tests/failing-calls and tests/recorded-calls."""
 import os
 import select
 import struct
@@ -16,13 +16,15 @@ PATIENCE = 20
 AGAIN = 0.05
 NAME = "FAILING"
 SESSION = model.padded(NAME)
+# The turns of a server, of which a busy machine may waste most.
+TURNS = 40
 MESSAGES = [b"AB", b"", b"C", b"DDDD", b"E" * 30, b"FF"]
 # The numbers of ports: those of the lines, of the program's requests, and of a server and a client of the script.
 LINES, BIND, SERVER, CLIENT = (9001, 9002), 9003, 9004, 9005
 # The files are in memory if possible.
 FOLDER = "/dev/shm" if os.path.isdir("/dev/shm") else None
-# What a run may come to, besides the words of faults: nothing differs, or a failure is counted.
-SAME, COUNTED = "same", "counted"
+# What a run may come to, besides the words of faults: nothing differs, a failure is counted, or signal 9 ended it.
+SAME, COUNTED, KILLED = "same", "counted", "killed"
 # The sockets of this process, by their ports.
 OWN = {}
 
@@ -165,18 +167,25 @@ def extend(path):
 
 
 def request_twice(process, path):
-    """Requests the messages of a file, extends it, and requests the others. Then a request that is refused ends the
-    last turn."""
+    """Requests the messages of a file, extends it, and requests the others. Then requests that are refused end the
+    server's turns."""
     client, host, sent = own(CLIENT), udp_peers.own_host(), []
     for is_time in turns(process):
         top = max((model.packet_of(it).top() - 1 for it in sent), default=0)
         if top >= 2 and kept_in(path)[0] == 2:
             extend(path)
         if is_time:
-            client.sendto(b"" if top > 2 else request(top + 1, 2), (host, BIND))
+            for it in [b""] * TURNS if top > 2 else [request(top + 1, 2)]:
+                client.sendto(it, (host, BIND))
         wait_for(client)
         sent += taken(client)
     return sent + taken(client)
+
+
+def none(process, _):
+    """There is no peer."""
+    process.wait(PATIENCE)
+    return []
 
 
 def extend_read(process, path):
@@ -209,6 +218,8 @@ class Scene:
     # The beginning of the last line without failures, and whether it comes on standard error.
     last: bytes = b""
     is_on_errors: bool = False
+    # Whether the file is replaced by a closed journal of version 2.
+    replaces: bool = False
 
 
 def ports():
@@ -219,16 +230,18 @@ def scenes():
     """All scenes by their names."""
     feed = ["feed", f"--session={NAME}", "--journal=@", *ports(), "--rate=200", "--idle=0"]
     fed = {"given": lines_of(MESSAGES), "last": b"published 6 datagrams "}
-    asked = [*feed, f"--bind={address(BIND)}", "--linger=150"]
+    asked = [*feed, f"--bind={address(BIND)}"]
+    pack = ["pack", f"--session={NAME}", "--limit=64", "--journal=@"]
     record = ["receive", f"--session={NAME}", "--journal=@", *ports(), f"--server={address(SERVER)}"]
     learn, unsynced = ["receive", "--learn", *record[2:]], [*record, "--no-sync"]
     recorded = {"last": b"finished next 7 lost 0 ", "is_on_errors": True}
-    serve = ["serve", "--journal=@", f"--bind={address(BIND)}", "--follow", "--turns=6"]
+    serve = ["serve", "--journal=@", f"--bind={address(BIND)}", "--follow", f"--turns={TURNS}"]
     all_scenes = (
         Scene("feed, a new file", feed, watch, **fed),
         Scene("feed, a file with messages", feed, watch, 2, **fed),
         Scene("feed, after an interrupted creation", feed, watch, left=b"MOLDJNL3FAI", **fed),
-        Scene("feed, requests", asked, ask, **fed),
+        Scene("feed, requests", [*asked, "--linger=100"], ask, **fed),
+        Scene("feed, responses", [*asked, "--linger=1000"], ask, **fed),
         Scene("receive, a new file", record, publish, **recorded),
         Scene("receive, a file with messages", record, publish, 1, **recorded),
         Scene("receive, a session to learn", learn, publish, **recorded),
@@ -236,6 +249,7 @@ def scenes():
         Scene("receive --no-sync, a file with messages", unsynced, publish, 1, **recorded),
         Scene("serve --follow", serve, request_twice, 2, last=b"answered "),
         Scene("dump --follow", ["dump", "--journal=@", "--follow"], extend_read, 2),
+        Scene("pack --journal over a file", pack, none, len(MESSAGES), fed["given"], last=b"saved 6\n", replaces=True),
     )
     return {it.name: it for it in all_scenes}
 
@@ -252,6 +266,15 @@ class Run:
     errors: bytes
     # The datagrams that it sent on its lines and to its clients.
     sent: list
+
+
+def word_of(run):
+    """The word of the fault that a run reports, or KILLED."""
+    if run.status == 137:
+        return KILLED
+    line = (run.errors.splitlines(True) or [b""])[-1]
+    need(line.startswith(b"fault ") and line.endswith(b"\n"), "it printed", run.errors)
+    return line.split()[1].decode()
 
 
 class Stage:
@@ -279,7 +302,9 @@ class Stage:
         return Run(outcome.status, outcome.text, outcome.errors, sent)
 
     def outcome(self, run, before):
-        """What a run came to: SAME, COUNTED, or the word of a fault. It fails if it is false to the file."""
+        """What a run came to: SAME, COUNTED, KILLED, or the word of a fault. It fails if it is false to the file."""
+        if self.scene.replaces:
+            return self.outcome_of_replacing(run)
         kept = kept_in(self.path)
         count, is_closed = kept or (0, False)
         need(before is None or kept is not None and count >= before, "of", before, "messages", count, "are left")
@@ -291,15 +316,24 @@ class Stage:
         lines = text.splitlines(True)
         if lines and lines[0].startswith(b"resumed "):
             need(lines.pop(0) == b"resumed %d\n" % (before if before is not None else -1), "it printed", text)
-        if run.status == 3:
-            word = run.errors.splitlines(True)[-1:] or [b""]
-            need(word[0].startswith(b"fault ") and word[0].endswith(b"\n"), "it printed", run.errors)
+        if run.status in (3, 137):
             self.expect_prefix(run.text)
-            return word[0].split()[1].decode()
+            return word_of(run)
         need(run.status == 0, "it ended with status", run.status, run.text, run.errors)
         self.expect_whole(run, lines)
         need(count == len(MESSAGES) and is_closed, "the file has", count, "messages, closed:", is_closed)
         return COUNTED if lines and b"failed " in lines[-1] and not lines[-1].endswith(b"failed 0\n") else SAME
+
+    def outcome_of_replacing(self, run):
+        """The same for a command that replaces the file: it is unchanged, or has a prefix of the new content."""
+        full, content = model.journal_file(SESSION, MESSAGES, True), processes.content_of(self.path)
+        if run.status in (3, 137):
+            before = file_of(MESSAGES[: self.scene.before])
+            need(content == before or full.startswith(content), "the file has", content)
+            return word_of(run)
+        need((run.status, run.text, run.errors) == (0, self.scene.last, b""), "it comes to", run)
+        need(content == full, "the file has", content)
+        return SAME
 
     def expect_prefix(self, text):
         if self.scene.peer is extend_read:
@@ -313,5 +347,5 @@ class Stage:
         if self.scene.peer is request_twice:
             tops = {model.packet_of(it).top() - 1 for it in run.sent}
             need(max(tops) > 2, "it sent", run.sent)
-        if self.scene.peer is ask:
+        if self.scene.name == "feed, responses":
             need(int(lines[-1].split()[5]) > 0 or b"failed 0" not in lines[-1], "no request is answered", lines)

@@ -1,4 +1,4 @@
-/* A library for LD_PRELOAD that records what a program does with its files, and kills the program at one of these calls.
+/* A library for LD_PRELOAD that records the calls of a program for files and sockets, and kills it at one of them.
  *
  * WRITES_LOG names a file to which a struct entry is appended for each of the calls below, and then `length` bytes. The
  * call number WRITES_KILL_AT, counted from 1, kills the program with signal 9. Only pwrite, fdatasync, ftruncate, link
@@ -174,7 +174,8 @@ int open(const char *path, int flags, ...) {
 }
 ssize_t sendto(int port, const void *bytes, size_t size, int flags, const struct sockaddr *to, socklen_t length) {
     NEXT(sendto);
-    record(SEND, port, bytes, size, length < sizeof(struct sockaddr_in) ? 0 : ntohs(((struct sockaddr_in *)to)->sin_port));
+    int has_port = length >= sizeof(struct sockaddr_in);
+    record(SEND, port, bytes, size, has_port ? ntohs(((struct sockaddr_in *)to)->sin_port) : 0);
     return next(port, bytes, size, flags, to, length);
 }
 ssize_t write(int file, const void *bytes, size_t size) {
