@@ -25,6 +25,9 @@ LINES, BIND, SERVER, CLIENT = (9001, 9002), 9003, 9004, 9005
 FOLDER = "/dev/shm" if os.path.isdir("/dev/shm") else None
 # What a run may come to, besides the words of faults: nothing differs, a failure is counted, or signal 9 ended it.
 SAME, COUNTED, KILLED = "same", "counted", "killed"
+# The addresses that the lines are sent from, and the TTL of a publisher.
+SENDERS, TTL = ("127.0.0.1", "127.0.0.2"), 9
+INTERFACES = [f"--interface-a={SENDERS[0]}", f"--interface-b={SENDERS[1]}", f"--ttl={TTL}"]
 # The sockets of this process, by their ports.
 OWN = {}
 
@@ -240,6 +243,7 @@ def scenes():
         Scene("feed, a new file", feed, watch, **fed),
         Scene("feed, a file with messages", feed, watch, 2, **fed),
         Scene("feed, after an interrupted creation", feed, watch, left=b"MOLDJNL3FAI", **fed),
+        Scene("feed, two interfaces", [*feed, *INTERFACES], watch, **fed),
         Scene("feed, requests", [*asked, "--linger=100"], ask, **fed),
         Scene("feed, responses", [*asked, "--linger=1000"], ask, **fed),
         Scene("receive, a new file", record, publish, **recorded),

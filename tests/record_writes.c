@@ -34,8 +34,10 @@
  *   SEND     sendto, to the port `offset`: the datagram
  *   PRINT    write: the bytes
  *   READ     pread: the bytes that were read at `offset`
+ *   BIND     bind, to the port `offset`: the four bytes of the address
+ *   OPTION   setsockopt, of the level and the name in the upper and the lower half of `offset`: the value
  * OPEN and READ are recorded when the call returns, the others before it. */
-enum kind { WRITE = 1, SYNC, CUT, LINK, UNLINK, OPEN, FOLDER, SEND, PRINT, READ };
+enum kind { WRITE = 1, SYNC, CUT, LINK, UNLINK, OPEN, FOLDER, SEND, PRINT, READ, BIND, OPTION };
 struct entry { uint64_t kind, file, offset, length; };
 
 static int log_file = -1, has_begun, no_sync;
@@ -191,3 +193,14 @@ ssize_t pread(int file, void *buffer, size_t size, off_t offset) {
     return count;
 }
 ssize_t pread64(int file, void *buffer, size_t size, off_t offset) { return pread(file, buffer, size, offset); }
+int bind(int port, const struct sockaddr *own, socklen_t length) {
+    NEXT(bind);
+    const struct sockaddr_in *found = (const struct sockaddr_in *)own;
+    if (length >= sizeof *found) record(BIND, port, &found->sin_addr, sizeof found->sin_addr, ntohs(found->sin_port));
+    return next(port, own, length);
+}
+int setsockopt(int port, int level, int name, const void *value, socklen_t length) {
+    NEXT(setsockopt);
+    record(OPTION, port, value, length, (uint64_t)level << 32 | (uint32_t)name);
+    return next(port, level, name, value, length);
+}
