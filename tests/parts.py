@@ -94,7 +94,6 @@ EDITS = Part("tests/edits --proved", needs_rt=True)
 AFTER_PROOFS = (
     Part("tests/edits-test", ("tests/edits", "tests/edit_files.py", "tests/libraries.py"), needs_rt=True),
     over_program("tests/out-of-memory --only tests", "tests/inject_faults.c", needs_rt=True),
-    over_program("tests/program-checks try", "try", "tests/checks.sh", needs_rt=True),
 )
 # Parts that do not need the program. They run one after the other.
 WITHOUT_PROGRAM = (
@@ -138,7 +137,7 @@ LANES = (
         over_program("tests/captures"),
     ),
     (
-        Part("sh tests/launcher", ("mold", "prebuilt/find", "tests/checks.sh")),
+        Part("sh tests/launcher", ("mold", "try", "prebuilt/find", "tests/checks.sh")),
         over_program("tests/manual", "docs/*.1", "mold-join", "completions/*"),
         over_program("tests/dist", "dist", "dist.py", "install.sh", "mold-join", "library/*", crate=LIBRARY),
         over_program("tests/install", "install.sh", "mold", "mold-join", "docs/*.1", "completions/*", "LICENSE*",
