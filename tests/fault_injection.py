@@ -334,17 +334,6 @@ def with_ports(mold, call, room, try_all):
         return try_all(trial)
 
 
-def built_library(folder):
-    """Builds the library that makes system calls fail. Returns its path, or None if there is no C compiler."""
-    compiler = next(filter(None, map(shutil.which, ("cc", "gcc", "clang"))), None)
-    if not compiler:
-        return None
-    library = os.path.join(folder, "inject_faults.so")
-    source = os.path.join(processes.TOP, "tests", "inject_faults.c")
-    subprocess.run([compiler, "-O1", "-shared", "-fPIC", "-o", library, source, "-ldl"], check=True)
-    return library
-
-
 def report(name, try_check, lock):
     """Runs a check, prints a line for it, and returns whether it passed."""
     why, summary = try_check()

@@ -16,6 +16,36 @@ PATIENCE = 60
 OWN = threading.local()
 
 
+class Report:
+    """Prints a line for each check, and counts what was checked."""
+
+    def __init__(self):
+        self.passed = self.failed = 0
+
+    def add(self, name, count, why, text=""):
+        """A check of this number of things. It failed if there is a reason why."""
+        self.passed += 0 if why else count
+        self.failed += bool(why)
+        outcome = f"FAILED  {name}: {why}" if why else f"passed  {name}"
+        print(f"{outcome}: {text}" if text and not why else outcome, flush=True)
+
+    def end(self):
+        """Prints the counts as the last line, and returns the status. To check nothing is a failure."""
+        print(f"{self.passed} passed, {self.failed} failed")
+        return 0 if self.passed and not self.failed else 1
+
+
+def built_library(name, folder):
+    """Builds tests/NAME.c as a library to preload. Returns its path, or None if there is no C compiler."""
+    compiler = next(filter(shutil.which, ("cc", "gcc", "clang")), None)
+    if not compiler:
+        return None
+    library = os.path.join(folder, f"{name}.so")
+    source = os.path.join(TOP, "tests", f"{name}.c")
+    subprocess.run([compiler, "-O1", "-shared", "-fPIC", "-o", library, source, "-ldl"], check=True)
+    return library
+
+
 @dataclass
 class Outcome:
     """The outcome of a call: status, standard output and standard error. After a signal the status is 128 plus its
