@@ -1,5 +1,6 @@
 /* Counts the bytes that the library holds: a listener's batch, a publisher, a server of a journal and a checker, with
- * messages of 8, 40 and 1,400 bytes, a listener's store, and a new repairer. tests/library compares the output with docs/LIBRARY.md.
+ * messages of 8, 40 and 1,400 bytes, a listener's store, and a new repairer. tests/library compares the output with
+ * docs/LIBRARY.md.
  *
  *     cd library/tests && cc -std=c99 memory.c ../out/libmold.a -o memory && ./memory 10 8 8 4 55 16 1536
  *
