@@ -548,9 +548,15 @@ def place_of(reading, number):
     return model.text_of([f"datagram {number} is frame {frame} {where}"])
 
 
+def without_partial(reading, text):
+    """The line on standard error that states what the verdicts `whole` of the text leave out."""
+    is_whole = re.search(rb"^whole ", text, re.MULTILINE)
+    return b"the verdict does not include the partial datagrams\n" if is_whole and reading.partial else b""
+
+
 def check_of(chosen, files):
-    """The check of captures, the text that explains a refusal on standard error, and the text there for several
-    sessions."""
+    """The check of captures, the text that explains a refusal on standard error, and the text there that explains the
+    verdict."""
     reading, taken = read(chosen, files), []
 
     def taking(datagram):
@@ -561,22 +567,23 @@ def check_of(chosen, files):
     check = model.check_of(first_lines(reading), captured, bool(reading.faults))
     is_several = len(sessions_of(reading)) > 1
     several = b"the input has several sessions: add --each or --session SESSION\n" if is_several else b""
+    explained = several + without_partial(reading, check.report()[0])
     if not check.refusal:
-        return check, b"", several
+        return check, b"", explained
     is_other = target_of(taken[-1]) != target_of(taken[0])
-    return check, place_of(reading, len(taken)) + (b"see mold sessions\n" if is_other else b""), several
+    return check, place_of(reading, len(taken)) + (b"see mold sessions\n" if is_other else b""), explained
 
 
 def check_text(chosen, files):
     """The text, the status, no file, and the text on standard error."""
-    check, errors, several = check_of(chosen, files)
-    return *check.report(), None, errors + several
+    check, errors, explained = check_of(chosen, files)
+    return *check.report(), None, errors + explained
 
 
 def check_and_save(chosen, files):
     """The text and the status of `check --journal`, the journal, or None, and the text on standard error."""
-    check, errors, several = check_of(chosen, files)
-    return *check.save(), errors + several
+    check, errors, explained = check_of(chosen, files)
+    return *check.save(), errors + explained
 
 
 def extract(chosen, files, form, first, count):
@@ -597,12 +604,12 @@ def check_by_digest(chosen, files):
 
 
 def check_each(chosen, files):
-    """The text and the status of `check --each`."""
+    """The text and the status of `check --each`, no file, and the text on standard error."""
     reading = read(chosen, files)
     captured = [(f"datagram {number}", it.payload) for number, (_, it) in enumerate(reading.datagrams, 1)]
     text, statuses = model.each_session(captured)
     status = 2 if reading.faults else max(statuses, default=1)
-    return model.text_of([first_lines(reading)]) + text, status
+    return model.text_of([first_lines(reading)]) + text, status, None, without_partial(reading, text)
 
 
 def time_text(time):

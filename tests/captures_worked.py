@@ -52,6 +52,7 @@ def place(number, frame, name="f", target="239.1.1.1:26400"):
 
 SEE = "see mold sessions\n"
 SEVERAL = "the input has several sessions: add --each or --session SESSION\n"
+PARTIAL = "the verdict does not include the partial datagrams\n"
 
 
 def check(name, file, text, status=1, options="", errors=None):
@@ -430,6 +431,26 @@ def add_hints():
          counts(2, 2, 1) + "refused datagram 2 Malformed Short 1\n", place(2, 5))
 
 
+def add_partial():
+    """What a verdict `whole` leaves out is stated on standard error, and only there."""
+    part, other_end = to_group(ONE)[:-1], model.encoding(model.Packet("end", OTHER, 1))
+    parts = captures.classic([to_group(ONE), part, to_group(END)])
+    end = captures.classic([to_group(END), part])
+    for option, text in (("", "whole 1\n"), (" --digest", "whole 1 by digest\n"), (" --journal J", "whole 1\nsaved 1\n"),
+                         (" --each", f"session {HEX}\nwhole 1\n")):
+        add(f"partial beside whole:{option}", f"check --capture f{option}", parts, counts(2, 0, 1) + text, 0, PARTIAL)
+    add("partial beside whole, and a file at fault", "check --capture f --capture g", {"f": parts}, counts(2, 0, 1)
+        + "capture g Unread 0\nwhole 1\n", 2, PARTIAL)
+    add("partial beside incomplete", "check --capture f", end, counts(1, 0, 1) + "incomplete end 2\nmissing 1 1\n", 1)
+    add("skipped beside whole", "check --capture f", captures.classic([to_group(ONE), b"", to_group(END)]),
+        counts(2, 1) + "whole 1\n")
+    add("partial beside one whole session", "check --capture f --each", captures.classic([to_group(BEAT), part,
+        to_group(other_end)]), counts(2, 0, 1) + f"session {HEX}\nincomplete end none\nsession {HEX_OTHER}\nwhole 0\n", 1,
+        PARTIAL)
+    add("partial beside a refusal", "check --capture f", captures.classic([to_group(ONE), part, to_group(b"x")]),
+        counts(2, 0, 1) + "refused datagram 2 Malformed Short 1\n", 2, place(2, 3))
+
+
 def add_places():
     """Where the refused datagram is, in several files and without a time, and for commands other than `check`."""
     files = {"a": captures.classic([b"", to_group(ONE)]), "b": captures.classic([to_group(BEAT), to_group(OTHER_END)])}
@@ -684,5 +705,6 @@ FRAMES = {
 }
 for add_cases in (add_links, add_tags, add_ipv4, add_fragments, add_cut, add_udp, add_ipv6, add_formats, add_blocks,
                   add_faults_of_records, add_faults_of_blocks, add_faults_of_interfaces, add_files, add_unread,
-                  add_filters, add_hints, add_places, add_reasons, add_shown, add_times, add_sessions, add_usage):
+                  add_filters, add_hints, add_partial, add_places, add_reasons, add_shown, add_times, add_sessions,
+                  add_usage):
     add_cases()

@@ -1,5 +1,5 @@
 -- The state of a check of captures, whose datagrams are judged by any judge.
-use Rattle.std.specs.Prelude.{◌≡◌, ℕ, ◌||◌, Bool, true, false, List, [], ◌∷◌, ◌++◌, codes, is_some, if◌then◌else◌}
+use Rattle.std.specs.Prelude.{◌≡◌, ℕ, ◌==◌, ◌&&◌, ◌||◌, not, Bool, true, false, List, [], ◌∷◌, ◌++◌, codes, is_some, if◌then◌else◌}
 use Rattle.mold_check.specs.Judge.{Judging}
 use Rattle.mold_check.specs.Naming.{counted as named_by}
 use Rattle.mold_pcap.specs.Captures.{Capture, Frame, capture_of}
@@ -111,6 +111,10 @@ all_files_taken judging filter s (file ∷ files) =
 -- What is printed after the last file. The judge names a datagram by its number among those that pass.
 abbrev pub check_text : {S : Type 0} → Judging S → CheckState S → List ℕ
 check_text judging s = (counts_text s.counts ++ s.faults) ++ judging.text (named_by (codes "datagram")) s.judge
+
+-- Whether a session is whole although partial datagrams were left out.
+abbrev pub leaves_out_partial : {S : Type 0} → Judging S → CheckState S → Bool
+leaves_out_partial judging s = not (s.counts.partial == 0) && judging.whole s.judge
 
 -- The exit status after the last file.
 abbrev pub check_status : {S : Type 0} → Judging S → CheckState S → ℕ

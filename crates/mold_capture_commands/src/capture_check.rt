@@ -3,7 +3,7 @@
 ghost use Rattle.std.specs.Prelude.{◌≡◌, ◌++◌, IfErr, IfOk, IfSome, OnOk};
 ghost use Rattle.std.specs.Io.KnownBytes.{Appends};
 ghost use Rattle.mold_capture_commands.specs.Checking.{TakesPart, check_status, check_text, file_taken};
-ghost use Rattle.mold_capture_commands.specs.Checking.{file_unread};
+ghost use Rattle.mold_capture_commands.specs.Checking.{file_unread, leaves_out_partial};
 ghost use Rattle.mold_capture_commands.specs.Checking.{no_captures, no_captures_over};
 ghost use Rattle.mold_capture_commands.specs.Counts.{counts_text};
 ghost use Rattle.mold_capture_commands.specs.Faults.{OnRead};
@@ -134,6 +134,17 @@ impl<J: Judge> CaptureCheck<J> {
         ensures { result ≡ self.now.sessions.several }
     {
         self.frames.sessions.several
+    }
+
+    /// Returns whether a session is whole although partial datagrams were left out. It returns an error if an allocation
+    /// fails.
+    pub fn leaves_out_partial(&self) -> Result<bool, AllocError>
+        ensures { IfOk result (λ out. out ≡ leaves_out_partial J.judging self.now) }
+    {
+        if self.frames.check.counts.partial == 0 {
+            return Ok(false);
+        }
+        self.frames.check.judge.is_whole()
     }
 
     /// Returns the judge of the datagrams so far.

@@ -1,6 +1,6 @@
 -- What a check of datagrams prints.
-use Rattle.std.proofs.Common.{◌≡◌, ℕ, zero, suc, ◌+◌, ◌≤◌, Bool, true, false, cond, List, [], ◌∷◌, ◌++◌, refl, sym, ap, subst, ◌∙◌, arith, append_assoc, append-nil}
-use Rattle.std.specs.Prelude.{Option, None, Some, Result, Ok, Err, IfOk, codes, decimal, min, ◌==◌, ◌^◌, ◌-◌}
+use Rattle.std.proofs.Common.{◌≡◌, ℕ, zero, suc, ◌+◌, ◌≤◌, Bool, true, false, cond, List, [], ◌∷◌, ◌++◌, refl, sym, ap, subst, ◌∙◌, arith, append_assoc, append-nil, true≢false}
+use Rattle.std.specs.Prelude.{Option, None, Some, is_some, Result, Ok, Err, IfOk, codes, decimal, min, ◌==◌, ◌^◌, ◌-◌}
 use Rattle.std.specs.Io.KnownBytes.{Appends}
 use Rattle.std.specs.List.{flat_map}
 use Rattle.mold_capture.specs.Outcome.{Outcome, whole, incomplete, refused, outcome_in}
@@ -34,6 +34,10 @@ found_verdict law j seen before v names same none is = (
       ∙ ap (named_text names) same,
   ap outcome_status (verdict_at law seen v is) ∙ ap (found_status seen) (sym none) ∙ ap judgement_status same,
 )
+
+pub none_refused : (refused : Option RefusedDatagram) → is_some refused ≡ false → refused ≡ None
+none_refused None h = refl
+none_refused (Some datagram) h = absurd (true≢false h)
 
 -- The same text and status, in other terms.
 pub told_as : (old new : Option (List ℕ)) (r : Result ℕ CommandFault) (start text other : List ℕ) (status so : ℕ) →

@@ -5,7 +5,7 @@ use Rattle.mold_capture.specs.Seen.{Seen}
 use Rattle.mold_text.specs.Line.{line_of}
 use Rattle.mold_check.specs.CheckLines.{outcome_at}
 use Rattle.mold_check.specs.Judge.{Judging}
-use Rattle.mold_check.specs.Judgement.{Judgement, added, judgement_status, no_judgement, numbered_text, refused_text}
+use Rattle.mold_check.specs.Judgement.{Judgement, added, is_whole, judgement_status, no_judgement, numbered_text, refused_text}
 use Rattle.mold_check.specs.Report.{outcome_text}
 use Rattle.mold_check.specs.declared.refused_datagram.RefusedDatagram.{RefusedDatagram}
 
@@ -37,6 +37,7 @@ digest_judging = record {
   text = judged_by_digest;
   early = λ names judgement. [];
   status = judgement_status;
+  whole = is_whole;
 }
 
 -- The lines of an outcome of digested datagrams that have the numbers from `number` on. The numbers stop at

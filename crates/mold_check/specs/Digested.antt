@@ -22,6 +22,7 @@ digested_judging judging = record {
   text = λ names s. judging.text names s.judge;
   early = λ names s. judging.early names s.judge;
   status = λ s. judging.status s.judge;
+  whole = λ s. judging.whole s.judge;
 }
 
 -- The digested datagrams, each with its number.

@@ -1,5 +1,5 @@
 -- What a check of several sessions finds and prints. Each session is judged by itself.
-use Rattle.std.specs.Prelude.{ℕ, Bool, true, false, min, max, List, [], ◌∷◌, ◌++◌, length, map, codes, decimal, Option}
+use Rattle.std.specs.Prelude.{ℕ, ◌||◌, Bool, true, false, min, max, List, [], ◌∷◌, ◌++◌, length, map, codes, decimal, Option}
 use Rattle.std.specs.Prelude.{None, Some, Result, Ok, Err}
 use Rattle.std.specs.List.{filter, flat_map}
 use Rattle.std.specs.Str.{bytes_eq}
@@ -153,6 +153,17 @@ entry_status_by judging (Some session) s = judging.status s
 abbrev pub entries_statuses : {S : Type 0} → Judging S → List (SessionKey × S) → List ℕ
 entries_statuses judging entries = map (λ entry. entry_status_by judging entry.0.session entry.1) entries
 
+-- Whether a session in this state is whole. Datagrams that do not encode a packet are no whole session.
+abbrev pub entry_whole : {S : Type 0} → Judging S → Option Session → S → Bool
+entry_whole judging None s = false
+entry_whole judging (Some session) s = judging.whole s
+
+-- Whether some session is whole.
+abbrev pub some_whole : {S : Type 0} → Judging S → List (SessionKey × S) → Bool
+some_whole judging [] = false
+some_whole judging (entry ∷ entries) =
+    entry_whole judging entry.0.session entry.1 || some_whole judging entries
+
 -- What a check of each session by itself finds and prints. No refusal ends it. If a later part of the input is refused,
 -- the sessions before it are printed.
 abbrev pub each_judging : {S : Type 0} → Judging S → Judging (EachState S)
@@ -163,6 +174,7 @@ each_judging judging = record {
   text = each_text judging;
   early = each_text judging;
   status = λ s. greatest_status (entries_statuses judging s.entries);
+  whole = λ s. some_whole judging s.entries;
 }
 
 -- The state of a judge after these datagrams.

@@ -18,6 +18,8 @@ pub record Judging (S : Type 0) : Type 0 where
   pub early : (ℕ → List ℕ) → S → List ℕ
   -- the exit status after the last datagram
   pub status : S → ℕ
+  -- whether `whole` is printed of a session
+  pub whole : S → Bool
 
 -- A datagram that does not encode a packet is judged by its fault alone.
 abbrev pub JudgesByFault : {S : Type 0} → Judging S → Type 0

@@ -1,5 +1,5 @@
 -- What a check of datagrams has found, and what is printed of it.
-use Rattle.std.specs.Prelude.{ℕ, ◌+◌, min, List, [], ◌∷◌, codes, decimal, Option, None, Some, is_some}
+use Rattle.std.specs.Prelude.{ℕ, ◌+◌, ◌==◌, Bool, min, List, [], ◌∷◌, codes, decimal, Option, None, Some, is_some}
 use Rattle.mold_capture.specs.Outcome.{Outcome, whole, incomplete, refused}
 use Rattle.mold_capture.specs.Refusal.{refusal}
 use Rattle.mold_capture.specs.Seen.{Seen, after, seen_of}
@@ -68,6 +68,10 @@ found_status seen None = outcome_status (outcome_at seen seen.ended)
 abbrev pub judgement_status : Judgement → ℕ
 judgement_status judgement = found_status judgement.seen judgement.refused
 
+-- Whether the session is whole. Only then the status is 0.
+abbrev pub is_whole : Judgement → Bool
+is_whole judgement = judgement_status judgement == 0
+
 -- What a check of one session finds and prints. If a later part of the input is refused, nothing is printed of the
 -- datagrams before it.
 abbrev pub datagram_judging : Judging Judgement
@@ -78,6 +82,7 @@ datagram_judging = record {
   text = named_text;
   early = λ names judgement. [];
   status = judgement_status;
+  whole = is_whole;
 }
 
 -- The lines of an outcome of datagrams that have the numbers from `number` on. The numbers stop at `MAX_NUMBER`.

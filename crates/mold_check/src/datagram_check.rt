@@ -1,8 +1,9 @@
 //! Checks datagrams one by one, up to the first refused one.
 
-ghost use Rattle.std.specs.Prelude.{◌≡◌};
+ghost use Rattle.std.specs.Prelude.{◌≡◌, ◌==◌};
+ghost use Rattle.mold_capture.specs.Outcome.{outcome_in};
 ghost use Rattle.mold_check.specs.Judgement.{refused_text};
-ghost use Rattle.mold_check.specs.Report.{Printed};
+ghost use Rattle.mold_check.specs.Report.{Printed, outcome_status};
 
 use crate::fresh_judge::FreshJudge;
 use crate::judge::Judge;
@@ -10,7 +11,7 @@ use crate::naming::Naming;
 use crate::printing::print_pushed;
 use crate::refused_datagram::RefusedDatagram;
 use crate::report::print_verdict;
-use mold_capture::{Checker, Refusal};
+use mold_capture::{Checker, Refusal, Verdict};
 use mold_devices::{CommandFault, Sink};
 use mold_rule::laws::lacking_law;
 use std::alloc::{AllocError, Global};
@@ -100,6 +101,17 @@ impl Judge for DatagramCheck {
         }
     }
 
+    fn is_whole(&self) -> Result<bool, AllocError> {
+        lacking_law();
+        if self.refused.is_some() {
+            return Ok(false);
+        }
+        match self.checker.verdict() {
+            Ok(verdict) => Ok(is_whole(&verdict)),
+            Err(_) => Err(AllocError),
+        }
+    }
+
     fn print_early<K: Sink, N: Naming>(
         &self,
         _sink: &mut K,
@@ -110,6 +122,15 @@ impl Judge for DatagramCheck {
     }
 
     fn fault_law() {}
+}
+
+fn is_whole(verdict: &Verdict) -> bool
+    ensures { result ≡ (outcome_status (outcome_in verdict.now) == 0) }
+{
+    match verdict {
+        Verdict::Whole { .. } => true,
+        Verdict::Incomplete { .. } => false,
+    }
 }
 
 /// Writes the text and the reason why the datagram is refused, and returns the exit status. If an allocation fails,

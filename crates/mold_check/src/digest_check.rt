@@ -77,6 +77,10 @@ impl Judge for DigestCheck {
         }
     }
 
+    fn is_whole(&self) -> Result<bool, AllocError> {
+        self.check.is_whole()
+    }
+
     fn print_early<K: Sink, N: Naming>(
         &self,
         _sink: &mut K,

@@ -69,6 +69,10 @@ impl<'a, J: Judge> Judge for Digested<'a, J> {
         self.judge.print(sink, text, naming)
     }
 
+    fn is_whole(&self) -> Result<bool, AllocError> {
+        self.judge.is_whole()
+    }
+
     fn print_early<K: Sink, N: Naming>(
         &self,
         sink: &mut K,

@@ -70,6 +70,10 @@ impl<J: FreshJudge> Judge for EachCheck<J> {
         Ok(status)
     }
 
+    fn is_whole(&self) -> Result<bool, AllocError> {
+        self.table.is_some_whole()
+    }
+
     fn print_early<K: Sink, N: Naming>(
         &self,
         sink: &mut K,

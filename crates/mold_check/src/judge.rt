@@ -39,6 +39,11 @@ pub trait Judge: Drop {
             (text.old.items ++ judging.text (N.named naming.now) self.now) }
         ensures failures { CountsSink (K.failed sink.old) (K.failed sink.new) result };
 
+    /// Returns whether `whole` is printed of a session. It returns an error if an allocation fails. It costs what the
+    /// outcome costs without its text.
+    fn is_whole(&self) -> Result<bool, AllocError>
+        ensures { IfOk result (λ whole. whole ≡ judging.whole self.now) };
+
     /// Appends what is printed of the datagrams so far if the input after them is refused. It may write a part of the
     /// text, the rest of which remains. After a fault, a prefix of this was written.
     fn print_early<K: Sink, N: Naming>(

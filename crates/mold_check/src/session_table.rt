@@ -5,7 +5,7 @@ ghost use Rattle.std.specs.Io.KnownBytes.{Appends};
 ghost use Rattle.std.specs.Map.{keys_of, values_of};
 ghost use Rattle.indexmap.specs.IndexMap.{set_value_at};
 ghost use Rattle.mold_check.specs.EachCheck.{entries_added, entries_statuses, entries_text, entry_status_by, entry_text};
-ghost use Rattle.mold_check.specs.EachCheck.{entry_text_by, greatest, none_text, same_key, session_line};
+ghost use Rattle.mold_check.specs.EachCheck.{entry_text_by, greatest, none_text, same_key, session_line, some_whole};
 ghost use Rattle.mold_devices.specs.Devices.{AppendsPrefix};
 ghost use Rattle.mold_devices.specs.Faults.{CountsSink};
 ghost use Rattle.mold_devices.specs.Writing.{Moves};
@@ -137,6 +137,18 @@ impl<J: FreshJudge> SessionTable<J> {
             greatest = greater(greatest, status);
         }
         Ok(greatest)
+    }
+
+    /// Returns whether some session is whole. It returns an error if an allocation fails.
+    pub(crate) fn is_some_whole(&self) -> Result<bool, AllocError>
+        ensures { IfOk result (λ whole. whole ≡ some_whole J.judging self.now) }
+    {
+        for (key, judge) in self.map.iter() {
+            if key.session.is_some() && judge.is_whole()? {
+                return Ok(true);
+            }
+        }
+        Ok(false)
     }
 }
 

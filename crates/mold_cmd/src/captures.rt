@@ -15,6 +15,8 @@ const SEE_SESSIONS: &str = "see mold sessions\n";
 
 const ADD_EACH: &str = "the input has several sessions: add --each or --session SESSION\n";
 
+const WITHOUT_PARTIAL: &str = "the verdict does not include the partial datagrams\n";
+
 /// A command that reads captures one after the other.
 trait CaptureCommand {
     /// Reads the capture of this name.
@@ -181,10 +183,13 @@ pub(crate) fn explain_refusal<J: Judge>(rt: &HostRuntime, check: &CaptureCheck<J
     }
 }
 
-/// States on standard error how the input is checked if it has several sessions.
-pub(crate) fn explain_sessions<J: Judge>(rt: &HostRuntime, check: &CaptureCheck<J>) {
+/// States on standard error how the input is checked if it has several sessions, and what a verdict `whole` leaves out.
+pub(crate) fn explain_verdict<J: Judge>(rt: &HostRuntime, check: &CaptureCheck<J>) {
     if check.sees_several_sessions() {
         let _ = rt.eprint(ADD_EACH);
+    }
+    if let Ok(true) = check.leaves_out_partial() {
+        let _ = rt.eprint(WITHOUT_PARTIAL);
     }
 }
 
@@ -195,7 +200,7 @@ pub(crate) fn check_captures(rt: &HostRuntime, order: &CaptureOrder) -> Result<u
     let outcome = check.print(&mut sink);
     let status = flushed(outcome, sink.into_inner().flush())?;
     explain_refusal(rt, &check);
-    explain_sessions(rt, &check);
+    explain_verdict(rt, &check);
     Ok(status)
 }
 

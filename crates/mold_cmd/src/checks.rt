@@ -18,7 +18,7 @@ fn report<J: Judge>(rt: &HostRuntime, check: &InputCheck<'_, J>) -> Result<u8, C
     let outcome = check.print(rt.alloc(), &mut sink);
     let status = flushed(outcome, sink.into_inner().flush())?;
     check.explain_refusal(rt);
-    check.explain_sessions(rt);
+    check.explain_verdict(rt);
     Ok(status)
 }
 
@@ -120,7 +120,7 @@ fn save_check<J: Sink>(
     let outcome = save(rt.alloc(), check, file, &mut sink);
     let status = flushed(outcome, sink.into_inner().flush())?;
     check.explain_refusal(rt);
-    check.explain_sessions(rt);
+    check.explain_verdict(rt);
     Ok(status)
 }
 

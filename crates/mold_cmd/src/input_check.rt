@@ -1,6 +1,6 @@
 //! A check of the datagrams of an input: lines, a folder or captures.
 
-use crate::captures::{explain_refusal, explain_sessions, read_capture_check};
+use crate::captures::{explain_refusal, explain_verdict, read_capture_check};
 use crate::progress::Progress;
 use crate::watched_lines::WatchedLines;
 use mold_capture::Checker;
@@ -133,10 +133,11 @@ impl<'a, J: Judge> InputCheck<'a, J> {
         }
     }
 
-    /// States on standard error how captures of several sessions are checked.
-    pub(crate) fn explain_sessions(&self, rt: &HostRuntime) {
+    /// States on standard error how captures of several sessions are checked, and what a verdict `whole` of captures
+    /// leaves out.
+    pub(crate) fn explain_verdict(&self, rt: &HostRuntime) {
         if let InputCheck::Captures(check) = self {
-            explain_sessions(rt, check);
+            explain_verdict(rt, check);
         }
     }
 
