@@ -253,6 +253,7 @@ def scenes():
         Scene("receive --no-sync, a file with messages", unsynced, publish, 1, **recorded),
         Scene("serve --follow", serve, request_twice, 2, last=b"answered "),
         Scene("dump --follow", ["dump", "--journal=@", "--follow"], extend_read, 2),
+        Scene("close", ["close", "--journal=@"], none, len(MESSAGES), last=b"closed 6\n"),
         Scene("pack --journal over a file", pack, none, len(MESSAGES), fed["given"], last=b"saved 6\n", replaces=True),
     )
     return {it.name: it for it in all_scenes}
@@ -323,6 +324,10 @@ class Stage:
         if run.status in (3, 137):
             self.expect_prefix(run.text)
             return word_of(run)
+        if run.status == 2 and self.scene.arguments[0] == "close":
+            # An earlier run has closed the file.
+            need(is_closed and run.text == b"refused Closed\n", "it refuses an open file:", run)
+            return SAME
         need(run.status == 0, "it ended with status", run.status, run.text, run.errors)
         self.expect_whole(run, lines)
         need(count == len(MESSAGES) and is_closed, "the file has", count, "messages, closed:", is_closed)

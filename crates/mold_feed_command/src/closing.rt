@@ -8,7 +8,9 @@ ghost use Rattle.mold_feed_command.specs.Closing.{EndsClose, close_status, close
 
 use crate::refusing::{fault_of, refuse_file};
 use mold_devices::{CommandFault, IntoWrite, Sink, send};
-use mold_durable::{DurableJournal, FileStorage, JournalFileError, Storage, open_file};
+use mold_durable::{
+    DurableJournal, FileStorage, JournalFileError, Storage, open_file, sync_folder,
+};
 use mold_follow::load_error;
 use mold_text::{Word, push_line, push_refused};
 use mold_wiring::{ProgramFault, flushed, print_explanation};
@@ -65,14 +67,20 @@ pub fn close_journal<S: Storage, K: Sink>(
     Ok(status)
 }
 
-// Closes the journal of an opened file, or prints why the file is refused.
-fn close_file(rt: &HostRuntime, storage: FileStorage) -> Result<u8, CommandFault> {
+// Closes the journal of the file at `path`, which is opened, or prints why the file is refused. The name of the file is
+// durable before the journal is closed.
+fn close_file(rt: &HostRuntime, path: &str, storage: FileStorage) -> Result<u8, ProgramFault> {
     let mut sink = IntoWrite::new(rt.stdout());
     let outcome = match DurableJournal::open(rt.alloc(), u16::MAX, storage) {
-        Ok(mut journal) => close_journal(rt.alloc(), &mut journal, &mut sink),
+        Ok(mut journal) => {
+            if let Err(error) = sync_folder(rt, path) {
+                return Err(fault_of(rt, path, error));
+            }
+            close_journal(rt.alloc(), &mut journal, &mut sink)
+        }
         Err(fault) => refuse_file(rt.alloc(), load_error(fault.error), &mut sink),
     };
-    flushed(outcome, sink.into_inner().flush())
+    Ok(flushed(outcome, sink.into_inner().flush())?)
 }
 
 // Prints why the file at `path` is not opened. If that can't be printed, only the fault is.
@@ -86,7 +94,7 @@ fn explain(rt: &HostRuntime, path: &str, reason: &str) {
 pub fn run_close(rt: &HostRuntime, order: &CloseOrder) -> Result<u8, ProgramFault> {
     let path = order.journal.as_str();
     match open_file(rt, path) {
-        Ok(Some(storage)) => Ok(close_file(rt, storage)?),
+        Ok(Some(storage)) => close_file(rt, path, storage),
         Ok(None) => {
             explain(rt, path, MISSING);
             Err(ProgramFault::Command(CommandFault::Read))
