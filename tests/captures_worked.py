@@ -531,7 +531,8 @@ def add_shown():
          "[0000:0000:0000:0000:0000:0000:0000:0000]:26400") +
          shown("2.000000000", BEAT_TEXT, "0.0.0.0:0", "255.255.255.255:0"))
     show("a file without datagrams", captures.classic([b""]), "")
-    show("filters", captures.classic([to_group(ONE), to_group(END, port=1), to_group(OTHER_END)]),
+    others = to_group(END, port=1), to_group(OTHER_END), ethernet(ipv4(udp(END), target="239.1.1.2"))
+    show("filters", captures.classic([to_group(ONE), *others]),
          shown("1.000000000", ONE_TEXT), 0, " --port 26400 --session SESSION001 --group 239.1.1.1")
     add("show: files at fault", "show --capture a --capture - --capture b", {
         "a": of_payloads(ONE) + b"x", "-": of_payloads(END), "b": b""},

@@ -115,6 +115,24 @@ def address(name):
     return f"{udp_peers.own_host()}:{PORTS.get(name) or SERVERS + name}"
 
 
+def stamping(port):
+    """A socket for `stamped`."""
+    made = udp_peers.bound(port)
+    made.setsockopt(socket.SOL_SOCKET, SO_TIMESTAMPNS, 1)
+    return made
+
+
+def stamped(own):
+    """The datagrams that have come to a socket, each with the time when it came, and with its sender."""
+    while True:
+        try:
+            datagram, extra, _, sender = own.recvmsg(65535, socket.CMSG_SPACE(STAMP.size))
+        except BlockingIOError:
+            return
+        seconds, nanoseconds = STAMP.unpack(extra[0][2])
+        yield datagram, seconds + nanoseconds / 1e9, sender
+
+
 @dataclass
 class Request:
     """A request that came to a server."""
@@ -129,22 +147,16 @@ class ServerPort:
 
     def __init__(self, index, server):
         self.server, self.requests = server, []
-        self.socket = udp_peers.bound(SERVERS + index)
-        self.socket.setsockopt(socket.SOL_SOCKET, SO_TIMESTAMPNS, 1)
+        self.socket = stamping(SERVERS + index)
 
     def fileno(self):
         return self.socket.fileno()
 
     def receive(self):
         """The requests that have come, with their senders."""
-        while True:
-            try:
-                datagram, extra, _, sender = self.socket.recvmsg(65535, socket.CMSG_SPACE(STAMP.size))
-            except BlockingIOError:
-                return
-            seconds, nanoseconds = STAMP.unpack(extra[0][2])
+        for datagram, at, sender in stamped(self.socket):
             request = model.request_of(datagram)
-            self.requests.append(Request(seconds + nanoseconds / 1e9, request.sequence, request.count))
+            self.requests.append(Request(at, request.sequence, request.count))
             yield self.requests[-1], sender
 
     def is_over_limit(self):

@@ -111,7 +111,7 @@ WITHOUT_PROGRAM = (
     Part("tests/durable gate", ("tests/record_writes.c", "examples/read-journal.py"), DRIVER),
 )
 # Lanes run in parallel; the parts of a lane run one after the other. The parts of the first lane use fixed ports and mostly
-# wait. In the second lane, and in tests/repair, each process has a separate loopback address.
+# wait. In the second lane, and in tests/repair and tests/options, each process has a separate loopback address.
 LANES = (
     (
         over_program("tests/program-checks", "mold", "examples/*", "tests/checks.sh", "tests/table*",
@@ -145,6 +145,9 @@ LANES = (
         # Longer conditions of the network are not part of the gate.
         over_program("tests/repair"),
         over_program("tests/strangers"),
+        over_program("tests/options", "tests/cases/*", "tests/repair", "tests/strangers", "tests/feed", "tests/follow",
+                     "tests/program-checks", "tests/recorded-calls", "tests/journal_scenes.py",
+                     "tests/captures_worked.py"),
         over_program("tests/feed", "tests/record_writes.c"),
         over_program("tests/long-lines"),
         over_program("tests/day"),

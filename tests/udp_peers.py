@@ -43,15 +43,22 @@ def arrived(own):
             return received
 
 
-def waiting(host, port):
-    """How many bytes wait at a port, or None if it is not open."""
+def socket_state(host, port):
+    """The bytes that wait at a port, and how many datagrams the system has dropped there. None if the port is not open,
+    and rarely otherwise: while other sockets are opened and closed, the system may leave out a row of its table."""
     wanted = f"{int.from_bytes(socket.inet_aton(host), 'little'):08X}:{port:04X}"
     with open("/proc/net/udp") as table:
         for line in table.readlines()[1:]:
             columns = line.split()
             if columns[1] == wanted:
-                return int(columns[4].split(":")[1], 16)
+                return int(columns[4].split(":")[1], 16), int(columns[-1])
     return None
+
+
+def waiting(host, port):
+    """How many bytes wait at a port, or None if it is not open."""
+    state = socket_state(host, port)
+    return state and state[0]
 
 
 def await_ports(process, ports):
