@@ -1,6 +1,7 @@
 """Runs a program and compares its outcome with what is expected, for the scripts in this folder. The program's
 standard streams are files, so no pipe can fill up."""
 import os
+import re
 import shutil
 import subprocess
 import tempfile
@@ -163,6 +164,13 @@ def parsed(parser):
     if not os.access(order.mold, os.X_OK):
         parser.error(f"there is no program {order.mold}")
     return order
+
+
+def peak_memory(process):
+    """The peak memory of a process so far, in bytes, or 0 if it has ended."""
+    with open(f"/proc/{process.pid}/status", encoding="ascii") as status:
+        found = re.search(r"VmHWM:\s*(\d+) kB", status.read())
+        return int(found[1]) << 10 if found else 0
 
 
 def processors():
