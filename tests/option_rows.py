@@ -13,7 +13,7 @@ FORMER = "tests/program-checks"
 ROWS = {
     "receive": {
         "session": ("next", "from now"),
-        "learn": ("learn on b", "quiet after a wait", "tests/repair:try_learn"),
+        "learn": ("learn on b", "times after a wait", "tests/repair:try_learn"),
         "next": ("next",),
         "from-now": ("from now",),
         "a": ("turns of lines", "buffers and drops", "sources"),
@@ -31,8 +31,8 @@ ROWS = {
         "in-flight": ("in flight",),
         "give-up": ("give up", "tests/repair:try_give_up"),
         "audit": ("audit", "contradictions, by default"),
-        "quiet": ("quiet", "quiet among strangers", "quiet after a wait"),
-        "stats": ("stats", "refusals"),
+        "quiet": ("quiet", "quiet among strangers", "times after a wait"),
+        "stats": ("stats", "refusals", "times after a wait"),
         "journal": ("recorder", "tests/repair:Recording", "tests/strangers:try_record_responder"),
         "no-sync": ("tests/repair:try_journal", "tests/recorded-calls:WRONG"),
         "blocks": ("tests/repair:try_blocks",),

@@ -94,14 +94,13 @@ class Asked:
 
 
 class Receiving:
-    """A process of `mold receive` or `mold listen`, with senders on its lines, and servers. A sender is the publisher,
-    or one of the strangers by its index."""
+    """A process of `mold receive` or `mold listen`, with a publisher, strangers and servers."""
 
     def __init__(self, mold, *options, command="receive", lines="ab", servers=1, session=("--session", NAME),
                  descriptors=()):
         self.opened = ExitStack()
-        own = udp_peers.own_host()
-        self.senders = [self.opened.enter_context(closing(bound(it))) for it in (own, *STRANGERS)]
+        self.publisher, *self.strangers = (self.opened.enter_context(closing(bound(it)))
+                                           for it in (udp_peers.own_host(), *STRANGERS))
         self.ports = [exchange.ServerPort(it, exchange.Server()) for it in range(servers)]
         for it in self.ports:
             self.opened.enter_context(closing(it.socket))
@@ -109,8 +108,8 @@ class Receiving:
         lines_of = [text for it in lines for text in (f"--{it}", exchange.address(it))]
         servers_of = [text for it in range(servers) for text in ("--server", exchange.address(it))]
         self.began = time.monotonic()
-        arguments = [mold, command, *session, *lines_of, *servers_of, *map(str, options)]
-        self.process = self.opened.enter_context(processes.running(arguments, descriptors=descriptors))
+        self.command = [mold, command, *session, *lines_of, *servers_of, *map(str, options)]
+        self.process = self.opened.enter_context(processes.running(self.command, descriptors=descriptors))
         need(udp_peers.await_ports(self.process, [exchange.PORTS[it] for it in lines]), "did not open its ports:",
              *self.texts())
 
@@ -129,10 +128,10 @@ class Receiving:
         return self.texts()[1].split("\n")[:-1]
 
     def send(self, line, *datagrams, by=None):
-        """Sends datagrams on a line, and waits until the program has received them."""
+        """Sends datagrams on a line, from this socket or the publisher's. Waits until the program has received them."""
         to = udp_peers.own_host(), exchange.PORTS[line]
         for it in datagrams:
-            self.senders[0 if by is None else by + 1].sendto(it, to)
+            (by or self.publisher).sendto(it, to)
         self.await_received(*to)
 
     def await_received(self, host, port):
