@@ -1,5 +1,5 @@
-"""An exchange over UDP on this machine, for tests of `mold receive`: a publisher that sends on two lossy lines, and re-request
-servers. One loop runs all of it while the receiver, which is another process, runs."""
+"""An exchange over UDP on this machine, for tests of `mold receive`: a publisher that sends on two lossy lines, and
+re-request servers. One loop runs all of it while the receiver, which is another process, runs."""
 import heapq
 import itertools
 import math
