@@ -18,7 +18,7 @@ _mold_options() {
         --end-at-empty ;;
     receive) printf '%s ' --session --learn --next --from-now --a --b --source-a --source-b --server --any-responder \
         --window --store --patience --timeout --ceiling --requests --in-flight --give-up --audit --quiet --stats \
-        --journal --no-sync --blocks ;;
+        --journal --no-sync --blocks --end-at-empty ;;
     loop) printf '%s ' --session --limit --server-limit --window --burst --drop-a --drop-b --turns --report \
         --blocks --end-at-empty ;;
     upgrade) printf '%s ' --journal --to --close ;;

@@ -36,6 +36,7 @@ ROWS = {
         "journal": ("recorder", "tests/repair:Recording", "tests/strangers:try_record_responder"),
         "no-sync": ("tests/repair:try_journal", "tests/recorded-calls:WRONG"),
         "blocks": ("tests/repair:try_blocks",),
+        "end-at-empty": ("tests/repair:try_mark",),
     },
     "feed": {
         "session": ("tests/feed:Feeding",),

@@ -1,18 +1,19 @@
 -- The calls that a receiver over ports makes of its repairer, and what they print and send.
 use Rattle.std.specs.Prelude.{◌≡◌, ℕ, ◌+◌, ◌-◌, ◌&&◌, ◌==◌, Bool, true, false, if◌then◌else◌}
 use Rattle.std.specs.Prelude.{codes, decimal}
-use Rattle.std.specs.Prelude.{List, [], ◌∷◌, ◌++◌, slice_get, Option, None, Some, Result, OnErr, OnOk}
+use Rattle.std.specs.Prelude.{IfSome, length, List, [], ◌∷◌, ◌++◌, slice_get, Option, None, Some, Result, OnErr, OnOk}
 use Rattle.std.specs.Io.KnownBytes.{Appends}
 use Rattle.mold_devices.specs.Devices.{AppendsPrefix}
 use Rattle.mold_devices.specs.Writing.{Moves}
 use Rattle.mold_input.specs.declared.message_format.MessageFormat.{MessageFormat}
-use Rattle.mold_input.specs.declared.message_format.MessageFormat.TheVariants.{Lines, Blocks}
+use Rattle.mold_input.specs.declared.message_format.MessageFormat.TheVariants.{Lines, Blocks, BlocksToEmpty}
 use Rattle.mold_listen.specs.Listening.{ends_at}
-use Rattle.mold_listen.specs.Text.{handed_text}
+use Rattle.mold_listen.specs.Text.{end_text, handed_text, printable, stop_after}
 use Rattle.mold_pacing.specs.declared.gap.Gap.{Gap}
 use Rattle.mold_port_set.specs.PortSet.{Given, PortSetState, Sent}
 use Rattle.mold_receive.specs.declared.feed_receiver.FeedReceiver.{FeedReceiver}
 use Rattle.mold_receive.specs.declared.first_packet.FirstPacket.{FirstPacket}
+use Rattle.mold_receiver.specs.Batch.{Handed}
 use Rattle.mold_receiver.specs.declared.line.Line.TheVariants.{A, B}
 use Rattle.mold_repair.specs.Run.{IsStepOf}
 use Rattle.mold_repair.specs.declared.ask.Ask.{Ask}
@@ -98,6 +99,52 @@ unfoldable pub all_text : MessageFormat → List Call → List ℕ
 all_text format [] = []
 all_text format (call ∷ calls) = call_text format call ++ all_text format calls
 
+-- Whether a message stops printing: it is empty, and an empty block would mark the end.
+abbrev pub stops_at : MessageFormat → List ℕ → Bool
+stops_at Lines message = false
+stops_at Blocks message = false
+stops_at BlocksToEmpty message = length message == 0
+
+-- The number of the first empty message that a call delivered, if it stops printing. In the formats `Lines` and `Blocks`
+-- no message does.
+abbrev pub call_stop : MessageFormat → Call → Option ℕ
+call_stop format call = stop_after format None call.is.handed.first call.is.handed.messages
+
+-- The first number, if there is one, otherwise the second one.
+abbrev pub earlier : Option ℕ → Option ℕ → Option ℕ
+earlier None later = later
+earlier (Some number) later = Some number
+
+-- The number of the first empty message that calls delivered, if it stops printing.
+unfoldable pub stop_in : MessageFormat → List Call → Option ℕ
+stop_in format [] = None
+stop_in format (call ∷ calls) = earlier (call_stop format call) (stop_in format calls)
+
+-- The text of a call on standard output up to the message that stops printing, if one does.
+abbrev pub call_to_stop : MessageFormat → Call → List ℕ
+call_to_stop format call =
+    lost_text format call.outcome.lost
+    ++ handed_text format call.is.handed.first (printable format None call.is.handed.messages)
+
+-- The text after the message that stops printing is not printed.
+abbrev pub unless_stopped : Option ℕ → List ℕ → List ℕ
+unless_stopped None text = text
+unless_stopped (Some number) text = []
+
+-- The text of calls on standard output up to the message that stops printing, if one does.
+unfoldable pub text_to_stop : MessageFormat → List Call → List ℕ
+text_to_stop format [] = []
+text_to_stop format (call ∷ calls) =
+    call_to_stop format call ++ unless_stopped (call_stop format call) (text_to_stop format calls)
+
+-- Printing stopped before the message `number` of a batch. The text `before` and that of the messages before this one
+-- are written.
+pub record HasCut (format : MessageFormat) (handed : Handed) (before : List ℕ) (held_old held_new : Option (List ℕ))
+    (number : ℕ) : Type 0 where
+  pub empty : stop_after format None handed.first handed.messages ≡ Some number
+  pub appended : Appends held_old held_new
+      (before ++ handed_text format handed.first (printable format None handed.messages))
+
 -- One call was made of the repairer, with this step. It returned this request or none. What it delivered and gave up
 -- was printed.
 pub record HasCalled (format : MessageFormat) (step : RepairStep) (ask : Option Ask) (old new : Repairer)
@@ -109,14 +156,25 @@ pub record HasCalled (format : MessageFormat) (step : RepairStep) (ask : Option 
   pub asked : call.outcome.ask ≡ ask
   pub printed : after ≡ before ++ call_text format call
 
+-- A call stopped printing before the message `number`. The text `before` and that of the call up to this message are
+-- written.
+pub record HasCutCall (format : MessageFormat) (call : Call) (before : List ℕ) (held_old held_new : Option (List ℕ))
+    (number : ℕ) : Type 0 where
+  pub empty : call_stop format call ≡ Some number
+  pub appended : Appends held_old held_new (before ++ call_to_stop format call)
+
 -- One call was made of the repairer, as in `HasCalled`. Its text joined the text `before`, which was not written yet.
--- After a success a prefix of both was written, and `after` is the rest. After a fault some prefix was written.
+-- After a success no message stopped printing, a prefix of both was written, and `after` is the rest. After a fault some
+-- prefix was written, and if `stopped` is a number, exactly the text up to this message.
 pub record HasPrinted {T E : Type 0} (format : MessageFormat) (step : RepairStep) (ask : Option Ask) (old new : Repairer)
-    (before after : List ℕ) (held_old held_new : Option (List ℕ)) (result : Result T E) : Type 0 where
+    (before after : List ℕ) (held_old held_new : Option (List ℕ)) (stopped : Option ℕ) (result : Result T E) :
+    Type 0 where
   pub text : List ℕ
   pub called : HasCalled format step ask old new before text
+  pub full : OnOk result (call_stop format called.call ≡ None)
   pub moved : OnOk result (Moves held_old held_new text after)
   pub front : OnErr result (AppendsPrefix held_old held_new text)
+  pub cut : OnErr result (IfSome stopped (HasCutCall format called.call before held_old held_new))
 
 -- A receiver over ports: its repairer, its ports, and all text that it has printed.
 pub record ReceiverState (P : Type 0) : Type 0 where
@@ -125,8 +183,8 @@ pub record ReceiverState (P : Type 0) : Type 0 where
   pub text : List ℕ
 
 -- The receiver made some calls of its repairer, and nothing else that changes it. It took exactly the datagrams that
--- its ports gave, sent the requests that it was to send, and printed what the calls delivered and gave up. What ports
--- give and send is stated only if it is known, which it is for ports in memory.
+-- its ports gave, sent the requests that it was to send, and printed what the calls delivered and gave up. No message
+-- stopped printing. What ports give and send is stated only if it is known, which it is for ports in memory.
 pub record HasReceived {P : Type 0} (lines : ℕ) (servers : List P) (format : MessageFormat) (modeled : Bool)
     (old new : ReceiverState P) : Type 0 where
   pub calls : List Call
@@ -134,6 +192,7 @@ pub record HasReceived {P : Type 0} (lines : ℕ) (servers : List P) (format : M
   pub taken : modeled ≡ true → new.ports.given ≡ old.ports.given ++ all_taken lines calls
   pub sent : modeled ≡ true → new.ports.sent ≡ old.ports.sent ++ all_sent lines servers calls
   pub printed : new.text ≡ old.text ++ all_text format calls
+  pub full : stop_in format calls ≡ None
 
 -- The step is a poll, or only lets time pass. It delivers no message and gives up none.
 abbrev pub IsAsking : RepairStep → Type 0
@@ -166,22 +225,10 @@ pub record HasWritten {P : Type 0} (lines : ℕ) (servers : List P) (format : Me
   pub received : HasReceived lines servers format modeled old
       (record { repairer = new.repairer; ports = new.ports; text = written ++ new.text })
 
--- What a receiver over ports leaves after a fault: a prefix of the text of some calls that it made was written.
-pub record HasFailed {P : Type 0} (lines : ℕ) (servers : List P) (format : MessageFormat) (modeled : Bool)
-    (old : ReceiverState P) (held_old held_new : Option (List ℕ)) : Type 0 where
-  pub end : ReceiverState P
-  pub received : HasReceived lines servers format modeled old end
-  pub front : AppendsPrefix held_old held_new end.text
-
 -- The text ends in `last`.
 pub record EndsIn (last text : List ℕ) : Type 0 where
   pub front : List ℕ
   pub parts : text ≡ front ++ last
-
--- The format in which messages are printed: as blocks, or as lines.
-abbrev pub format_for : Bool → MessageFormat
-format_for true = Blocks
-format_for false = Lines
 
 -- Whether the receiver has delivered or given up all messages up to the known end of the session.
 abbrev pub is_finished : Repairer → Bool
@@ -239,19 +286,50 @@ pub record HasRun {P : Type 0} (lines : ℕ) (servers : List P) (format : Messag
   pub sent : modeled ≡ true → new.ports.sent ≡ old.ports.sent ++ all_sent lines servers calls
   pub printed : new.text ≡ old.text ++ all_text format calls
 
--- A receiver has ended: all its text is written, and then its last line. If messages are printed as blocks, the last
--- line and the lines `lost` are not on standard output.
+-- What a receiver over ports leaves after a fault: a prefix of the text of some calls that it made was written.
+pub record HasFailed {P : Type 0} (lines : ℕ) (servers : List P) (format : MessageFormat) (modeled : Bool)
+    (old : ReceiverState P) (held_old held_new : Option (List ℕ)) : Type 0 where
+  pub end : ReceiverState P
+  pub ran : HasRun lines servers format modeled [] old end
+  pub front : AppendsPrefix held_old held_new end.text
+
+-- A receiver has stopped printing before the empty message `number`. This is the first empty one that its calls
+-- delivered. Exactly the text up to this message is written, and no mark of the end.
+pub record HasStopped {P : Type 0} (lines : ℕ) (servers : List P) (format : MessageFormat) (modeled : Bool)
+    (first : List Given) (old : ReceiverState P) (new : Repairer) (after : PortSetState P)
+    (held_old held_new : Option (List ℕ)) (number : ℕ) : Type 0 where
+  pub text : List ℕ
+  pub ran : HasRun lines servers format modeled first
+      old (record { repairer = new; ports = after; text = text })
+  pub empty : stop_in format ran.calls ≡ Some number
+  pub appended : Appends held_old held_new (old.text ++ text_to_stop format ran.calls)
+
+-- A receiver that took the datagrams `first`, and nothing else yet. The text `written`, and the text that it still
+-- holds, are what it printed. No message stopped printing.
+pub record HasBegun {P : Type 0} (lines : ℕ) (servers : List P) (format : MessageFormat) (modeled : Bool)
+    (first : List Given) (old new : ReceiverState P) (held_old held_new : Option (List ℕ)) : Type 0 where
+  pub written : List ℕ
+  pub appended : Appends held_old held_new written
+  pub ran : HasRun lines servers format modeled first old
+      (record { repairer = new.repairer; ports = new.ports; text = written ++ new.text })
+  pub full : stop_in format ran.calls ≡ None
+
+-- A receiver has ended: all its text is written, and then its last line. No message stopped printing. If messages are
+-- printed as blocks, the last line and the lines `lost` are not on standard output. In the format `BlocksToEmpty` the
+-- mark of the end, which is an empty block, follows the text if the status is 0.
 pub record HasEnded {P : Type 0} (lines : ℕ) (servers : List P) (format : MessageFormat) (modeled : Bool)
     (first : List Given) (old : ReceiverState P) (new : Repairer) (after : PortSetState P)
     (held_old held_new : Option (List ℕ)) (status : ℕ) : Type 0 where
   pub text : List ℕ
   pub ran : HasRun lines servers format modeled first
       old (record { repairer = new; ports = after; text = text })
-  pub appended : Appends held_old held_new (text ++ note_text format (last_line new after.failures))
+  pub full : stop_in format ran.calls ≡ None
+  pub appended : Appends held_old held_new
+      (text ++ end_text format None (status == 0) (last_line new after.failures))
   pub status_is : status ≡ last_status new
 
 -- The loop of a receiver over ports ended with a fault. It has written a prefix of a text: that of some calls, and then
--- the last line.
+-- what follows at the end.
 pub record HasBroken {P : Type 0} (lines : ℕ) (servers : List P) (format : MessageFormat) (modeled : Bool)
     (first : List Given) (old : ReceiverState P) (held_old held_new : Option (List ℕ)) : Type 0 where
   -- the prefix of `first` that was taken
@@ -260,4 +338,4 @@ pub record HasBroken {P : Type 0} (lines : ℕ) (servers : List P) (format : Mes
   pub end : ReceiverState P
   pub ran : HasRun lines servers format modeled took old end
   pub front : AppendsPrefix held_old held_new
-      (end.text ++ note_text format (last_line end.repairer end.ports.failures))
+      (end.text ++ end_text format None (last_status end.repairer == 0) (last_line end.repairer end.ports.failures))

@@ -1,12 +1,13 @@
 //! A receiver over ports: what it does in a turn.
 
-ghost use Rattle.std.specs.Prelude.{◌≡◌, ◌+◌, ◌<◌, ◌≤◌, ◌^◌, ◌++◌, [], ℕ, IfOk, List, None, length, take, OnErr, OnOk};
+ghost use Rattle.std.specs.Prelude.{◌≡◌, ◌+◌, ◌<◌, ◌≤◌, ◌^◌, ◌++◌, ◌==◌, [], ℕ, IfOk, IfSome, IsSome, List, None};
+ghost use Rattle.std.specs.Prelude.{length, take, OnErr, OnOk};
 ghost use Rattle.std.specs.Io.KnownBytes.{Appends};
 ghost use Rattle.mold_devices.specs.Devices.{AppendsPrefix};
-ghost use Rattle.mold_input.specs.declared.message_format.MessageFormat.TheVariants.{BlocksToEmpty};
-ghost use Rattle.mold_receive.specs.Receiving.{EndsIn, HasAsked, HasBroken, HasEnded, HasFailed, HasPrinted, HasRun};
-ghost use Rattle.mold_receive.specs.Receiving.{HasWritten, datagram_of_first, last_line, last_status, lost_text};
-ghost use Rattle.mold_receive.specs.Receiving.{port_of, started, state_of};
+ghost use Rattle.mold_listen.specs.Text.{end_text, stop_line};
+ghost use Rattle.mold_receive.specs.Receiving.{EndsIn, HasAsked, HasBegun, HasBroken, HasEnded, HasFailed, HasPrinted};
+ghost use Rattle.mold_receive.specs.Receiving.{HasStopped, HasWritten, datagram_of_first, last_line, last_status};
+ghost use Rattle.mold_receive.specs.Receiving.{lost_text, port_of, started, state_of};
 ghost use Rattle.mold_repair.specs.Run.{HasLostSome, HasTaken, delivers};
 ghost use Rattle.mold_repair.specs.declared.origin.RepairOrigin.TheVariants.{Line as OnLine};
 ghost use Rattle.mold_repair.specs.declared.step.RepairStep.TheVariants.{Take};
@@ -14,7 +15,7 @@ ghost use Rattle.mold_turns.specs.Outgoing.{IsBounded, note_side, note_text};
 
 use crate::calls;
 use crate::first_packet::FirstPacket;
-use crate::last_line::{last_status, push_last};
+use crate::last_line::{last_status, push_last, push_mark, push_stop};
 use crate::lines::{name_of, push_refused_from};
 use crate::printing::print_batch;
 use crate::receive_options::{NEVER, ReceiveOptions};
@@ -23,7 +24,6 @@ use crate::reporting::Reporting;
 use crate::statistics::Statistics;
 use mold_devices::{CommandFault, Sink};
 use mold_input::MessageFormat;
-use mold_listen::print_handed;
 use mold_pacing::Gap;
 use mold_port_set::PortSet;
 use mold_receiver::{Batch, Line, Refusal};
@@ -41,6 +41,9 @@ const MOST_LOST: u32 = 64;
 
 /// The most requests that are sent in a turn.
 const MOST_REQUESTS: u32 = 65_536;
+
+/// The status of a receiver that stopped printing before an empty message.
+const STOPPED: u8 = 2;
 
 /// A receiver over ports: the ports, the repairer, a batch for what a call delivers, and what is still to be printed.
 #[derive(Drop)]
@@ -127,15 +130,19 @@ impl<D: PortSet + Drop> FeedReceiver<D> {
     }
 
     // Takes a datagram of this origin. Prints what it delivers, or why it is refused. Writes the text when it is large.
+    // Here and in the functions above it, an error with a number in `stopped` is that of `print_batch`.
     fn take<K: Sink>(
         &mut self,
         origin: RepairOrigin,
         datagram: &[u8],
         sink: &mut K,
+        stopped: &mut Option<u64>,
     ) -> Result<(), CommandFault>
+        requires going { stopped.old ≡ None }
         ensures called { HasPrinted self.old.outgoing.format
             (Take (D.state self.old.ports).now origin datagram.entry) None self.old.repairer self.new.repairer
-            self.old.outgoing.text self.new.outgoing.text (K.held sink.old) (K.held sink.new) result }
+            self.old.outgoing.text self.new.outgoing.text (K.held sink.old) (K.held sink.new) stopped.new result }
+        ensures going { OnOk result (stopped.new ≡ None) }
         ensures ports { self.new.ports ≡ self.old.ports }
         ensures bounded { OnOk result (IsBounded (K.live sink.old) self.new.outgoing.text) }
         ensures format { self.new.outgoing.format ≡ self.old.outgoing.format }
@@ -144,22 +151,34 @@ impl<D: PortSet + Drop> FeedReceiver<D> {
             let len = self.outgoing.unwritten();
             return Err(self.outgoing.end_with(len, CommandFault::Memory, sink));
         };
-        print_batch(&mut self.outgoing, &self.batch, sink)
+        print_batch(&mut self.outgoing, &self.batch, sink, stopped)
     }
 
     // Takes the first packet, if there is one. The ports gave it before. Prints what it delivers.
-    pub(crate) fn take_first(&mut self, first: &Option<FirstPacket>) -> Result<(), AllocError>
-        requires plain { self.old.outgoing.format ≡ BlocksToEmpty → ⊥ }
-        ensures ran { OnOk result ((lines : ℕ) (servers : List D.Peer) → HasRun lines servers
+    fn take_first<K: Sink>(
+        &mut self,
+        first: &Option<FirstPacket>,
+        sink: &mut K,
+        stopped: &mut Option<u64>,
+    ) -> Result<(), CommandFault>
+        requires going { stopped.old ≡ None }
+        ensures begun { OnOk result ((lines : ℕ) (servers : List D.Peer) → HasBegun lines servers
             self.old.outgoing.format D.modeled (datagram_of_first lines first.now)
-            (state_of D.state self.old) (state_of D.state self.new)) }
+            (state_of D.state self.old) (state_of D.state self.new) (K.held sink.old) (K.held sink.new)) }
+        ensures failed { OnErr result ((lines : ℕ) (servers : List D.Peer) → HasBroken lines servers
+            self.old.outgoing.format D.modeled (datagram_of_first lines first.now)
+            (state_of D.state self.old) (K.held sink.old) (K.held sink.new)) }
+        ensures cut { OnErr result (IfSome stopped.new (λ number. (lines : ℕ) (servers : List D.Peer) →
+            HasStopped lines servers self.old.outgoing.format D.modeled (datagram_of_first lines first.now)
+            (state_of D.state self.old) self.new.repairer (D.state self.new.ports)
+            (K.held sink.old) (K.held sink.new) number)) }
+        ensures going { OnOk result (stopped.new ≡ None) }
         ensures format { self.new.outgoing.format ≡ self.old.outgoing.format }
     {
         let Some(first) = first else {
             return Ok(());
         };
-        self.deliver(first.origin, first.datagram.as_slice())?;
-        print_handed(&mut self.outgoing, &self.batch)
+        self.take(first.origin, first.datagram.as_slice(), sink, stopped)
     }
 
     // Takes the datagram that is at the port, if there is one. Returns whether there was one.
@@ -169,19 +188,25 @@ impl<D: PortSet + Drop> FeedReceiver<D> {
         port: usize,
         buffer: &mut [u8],
         sink: &mut K,
+        stopped: &mut Option<u64>,
     ) -> Result<bool, CommandFault>
         requires port { port < options.now.lines + 2 ^ 32 }
+        requires going { stopped.old ≡ None }
         ensures written { OnOk result (HasWritten options.now.lines options.now.servers.items
             self.old.outgoing.format D.modeled (state_of D.state self.old) (state_of D.state self.new)
             (K.held sink.old) (K.held sink.new)) }
         ensures failed { OnErr result (HasFailed options.now.lines options.now.servers.items
             self.old.outgoing.format D.modeled (state_of D.state self.old) (K.held sink.old) (K.held sink.new)) }
+        ensures cut { OnErr result (IfSome stopped.new (HasStopped options.now.lines options.now.servers.items
+            self.old.outgoing.format D.modeled [] (state_of D.state self.old) self.new.repairer
+            (D.state self.new.ports) (K.held sink.old) (K.held sink.new))) }
+        ensures going { OnOk result (stopped.new ≡ None) }
         ensures format { self.new.outgoing.format ≡ self.old.outgoing.format }
     {
         let origin = origin_of(options.lines, port);
         match self.ports.receive(port, buffer) {
             Ok(Some(count)) => {
-                self.take(origin, &buffer[..count], sink)?;
+                self.take(origin, &buffer[..count], sink, stopped)?;
                 Ok(true)
             }
             Ok(None) => Ok(false),
@@ -197,17 +222,23 @@ impl<D: PortSet + Drop> FeedReceiver<D> {
         port: usize,
         buffer: &mut [u8],
         sink: &mut K,
+        stopped: &mut Option<u64>,
     ) -> Result<(), CommandFault>
         requires port { port < options.now.lines + 2 ^ 32 }
+        requires going { stopped.old ≡ None }
         ensures written { OnOk result (HasWritten options.now.lines options.now.servers.items
             self.old.outgoing.format D.modeled (state_of D.state self.old) (state_of D.state self.new)
             (K.held sink.old) (K.held sink.new)) }
         ensures failed { OnErr result (HasFailed options.now.lines options.now.servers.items
             self.old.outgoing.format D.modeled (state_of D.state self.old) (K.held sink.old) (K.held sink.new)) }
+        ensures cut { OnErr result (IfSome stopped.new (HasStopped options.now.lines options.now.servers.items
+            self.old.outgoing.format D.modeled [] (state_of D.state self.old) self.new.repairer
+            (D.state self.new.ports) (K.held sink.old) (K.held sink.new))) }
+        ensures going { OnOk result (stopped.new ≡ None) }
         ensures format { self.new.outgoing.format ≡ self.old.outgoing.format }
     {
         for _ in 0..AT_ONCE {
-            if !self.receive_one(options, port, buffer, sink)? {
+            if !self.receive_one(options, port, buffer, sink, stopped)? {
                 return Ok(());
             }
         }
@@ -220,16 +251,22 @@ impl<D: PortSet + Drop> FeedReceiver<D> {
         options: &ReceiveOptions<D::Peer>,
         buffer: &mut [u8],
         sink: &mut K,
+        stopped: &mut Option<u64>,
     ) -> Result<(), CommandFault>
+        requires going { stopped.old ≡ None }
         ensures written { OnOk result (HasWritten options.now.lines options.now.servers.items
             self.old.outgoing.format D.modeled (state_of D.state self.old) (state_of D.state self.new)
             (K.held sink.old) (K.held sink.new)) }
         ensures failed { OnErr result (HasFailed options.now.lines options.now.servers.items
             self.old.outgoing.format D.modeled (state_of D.state self.old) (K.held sink.old) (K.held sink.new)) }
+        ensures cut { OnErr result (IfSome stopped.new (HasStopped options.now.lines options.now.servers.items
+            self.old.outgoing.format D.modeled [] (state_of D.state self.old) self.new.repairer
+            (D.state self.new.ports) (K.held sink.old) (K.held sink.new))) }
+        ensures going { OnOk result (stopped.new ≡ None) }
         ensures format { self.new.outgoing.format ≡ self.old.outgoing.format }
     {
         for port in 0..options.lines + options.servers.len() {
-            self.receive_some(options, port, buffer, sink)?;
+            self.receive_some(options, port, buffer, sink, stopped)?;
         }
         Ok(())
     }
@@ -255,12 +292,21 @@ impl<D: PortSet + Drop> FeedReceiver<D> {
 
     // Gives up the first missing messages, if that is due, and prints what was stored after them. Writes the text when
     // it is large. Returns whether it was due.
-    fn lose_one<K: Sink>(&mut self, sink: &mut K) -> Result<bool, CommandFault>
+    fn lose_one<K: Sink>(
+        &mut self,
+        sink: &mut K,
+        stopped: &mut Option<u64>,
+    ) -> Result<bool, CommandFault>
+        requires going { stopped.old ≡ None }
         ensures written { OnOk result ((lines : ℕ) (servers : List D.Peer) → HasWritten lines servers
             self.old.outgoing.format D.modeled (state_of D.state self.old) (state_of D.state self.new)
             (K.held sink.old) (K.held sink.new)) }
         ensures failed { OnErr result ((lines : ℕ) (servers : List D.Peer) → HasFailed lines servers
             self.old.outgoing.format D.modeled (state_of D.state self.old) (K.held sink.old) (K.held sink.new)) }
+        ensures cut { OnErr result (IfSome stopped.new (λ number. (lines : ℕ) (servers : List D.Peer) →
+            HasStopped lines servers self.old.outgoing.format D.modeled [] (state_of D.state self.old)
+            self.new.repairer (D.state self.new.ports) (K.held sink.old) (K.held sink.new) number)) }
+        ensures going { OnOk result (stopped.new ≡ None) }
         ensures bounded { OnOk result (IsBounded (K.live sink.old) self.new.outgoing.text) }
         ensures format { self.new.outgoing.format ≡ self.old.outgoing.format }
     {
@@ -268,21 +314,30 @@ impl<D: PortSet + Drop> FeedReceiver<D> {
         let Ok(lost) = self.lose() else {
             return Err(self.outgoing.end_with(before, CommandFault::Memory, sink));
         };
-        print_batch(&mut self.outgoing, &self.batch, sink)?;
+        print_batch(&mut self.outgoing, &self.batch, sink, stopped)?;
         Ok(lost.is_some())
     }
 
     // Gives up what is due, at most `MOST_LOST` ranges.
-    fn lose_all<K: Sink>(&mut self, sink: &mut K) -> Result<(), CommandFault>
+    fn lose_all<K: Sink>(
+        &mut self,
+        sink: &mut K,
+        stopped: &mut Option<u64>,
+    ) -> Result<(), CommandFault>
+        requires going { stopped.old ≡ None }
         ensures written { OnOk result ((lines : ℕ) (servers : List D.Peer) → HasWritten lines servers
             self.old.outgoing.format D.modeled (state_of D.state self.old) (state_of D.state self.new)
             (K.held sink.old) (K.held sink.new)) }
         ensures failed { OnErr result ((lines : ℕ) (servers : List D.Peer) → HasFailed lines servers
             self.old.outgoing.format D.modeled (state_of D.state self.old) (K.held sink.old) (K.held sink.new)) }
+        ensures cut { OnErr result (IfSome stopped.new (λ number. (lines : ℕ) (servers : List D.Peer) →
+            HasStopped lines servers self.old.outgoing.format D.modeled [] (state_of D.state self.old)
+            self.new.repairer (D.state self.new.ports) (K.held sink.old) (K.held sink.new) number)) }
+        ensures going { OnOk result (stopped.new ≡ None) }
         ensures format { self.new.outgoing.format ≡ self.old.outgoing.format }
     {
         for _ in 0..MOST_LOST {
-            if !self.lose_one(sink)? {
+            if !self.lose_one(sink, stopped)? {
                 return Ok(());
             }
         }
@@ -436,17 +491,23 @@ impl<D: PortSet + Drop> FeedReceiver<D> {
         buffer: &mut [u8],
         sink: &mut K,
         errors: &mut E,
+        stopped: &mut Option<u64>,
     ) -> Result<(), CommandFault>
+        requires going { stopped.old ≡ None }
         ensures written { OnOk result (HasWritten options.now.lines options.now.servers.items
             self.old.outgoing.format D.modeled (state_of D.state self.old) (state_of D.state self.new)
             (K.held sink.old) (K.held sink.new)) }
         ensures failed { OnErr result (HasFailed options.now.lines options.now.servers.items
             self.old.outgoing.format D.modeled (state_of D.state self.old) (K.held sink.old) (K.held sink.new)) }
+        ensures cut { OnErr result (IfSome stopped.new (HasStopped options.now.lines options.now.servers.items
+            self.old.outgoing.format D.modeled [] (state_of D.state self.old) self.new.repairer
+            (D.state self.new.ports) (K.held sink.old) (K.held sink.new))) }
+        ensures going { OnOk result (stopped.new ≡ None) }
         ensures format { self.new.outgoing.format ≡ self.old.outgoing.format }
     {
         self.pause(options, sink)?;
-        self.receive_all(options, buffer, sink)?;
-        self.lose_all(sink)?;
+        self.receive_all(options, buffer, sink, stopped)?;
+        self.lose_all(sink, stopped)?;
         self.request_all(options);
         let Ok(()) = self.report(options) else {
             let len = self.outgoing.unwritten();
@@ -468,16 +529,22 @@ impl<D: PortSet + Drop> FeedReceiver<D> {
         buffer: &mut [u8],
         sink: &mut K,
         errors: &mut E,
+        stopped: &mut Option<u64>,
     ) -> Result<(), CommandFault>
+        requires going { stopped.old ≡ None }
         ensures written { OnOk result (HasWritten options.now.lines options.now.servers.items
             self.old.outgoing.format D.modeled (state_of D.state self.old) (state_of D.state self.new)
             (K.held sink.old) (K.held sink.new)) }
         ensures failed { OnErr result (HasFailed options.now.lines options.now.servers.items
             self.old.outgoing.format D.modeled (state_of D.state self.old) (K.held sink.old) (K.held sink.new)) }
+        ensures cut { OnErr result (IfSome stopped.new (HasStopped options.now.lines options.now.servers.items
+            self.old.outgoing.format D.modeled [] (state_of D.state self.old) self.new.repairer
+            (D.state self.new.ports) (K.held sink.old) (K.held sink.new))) }
+        ensures going { OnOk result (stopped.new ≡ None) }
         ensures format { self.new.outgoing.format ≡ self.old.outgoing.format }
     {
         for _ in 0..options.turns {
-            self.turn(options, buffer, sink, errors)?;
+            self.turn(options, buffer, sink, errors, stopped)?;
             if self.repairer.arbiter().receiver().finished() || self.is_quiet(options) {
                 return Ok(());
             }
@@ -493,6 +560,7 @@ impl<D: PortSet + Drop> FeedReceiver<D> {
             (last_line self.old.repairer (D.state self.old.ports).failures)) self.new.outgoing.side) }
         ensures kept { OnErr result
             (take (length self.old.outgoing.text) self.new.outgoing.text ≡ self.old.outgoing.text) }
+        ensures format { OnOk result (self.new.outgoing.format ≡ self.old.outgoing.format) }
         ensures repairer { self.new.repairer ≡ self.old.repairer }
         ensures ports { D.state self.new.ports ≡ D.state self.old.ports }
     {
@@ -502,7 +570,25 @@ impl<D: PortSet + Drop> FeedReceiver<D> {
         push_last(&mut self.outgoing, &self.repairer, self.ports.failures())
     }
 
-    // Appends the last line, and writes all text. Returns the status.
+    // Appends what `push_end` prints, and the mark of the end if the format has one and the status is 0. Returns the
+    // status.
+    fn push_closing(&mut self, options: &ReceiveOptions<D::Peer>) -> Result<u8, AllocError>
+        ensures status { IfOk result (λ status. status ≡ last_status self.old.repairer) }
+        ensures text { OnOk result (self.new.outgoing.text ≡ self.old.outgoing.text
+            ++ end_text self.old.outgoing.format None (last_status self.old.repairer == 0)
+            (last_line self.old.repairer (D.state self.old.ports).failures)) }
+        ensures kept { OnErr result
+            (take (length self.old.outgoing.text) self.new.outgoing.text ≡ self.old.outgoing.text) }
+        ensures repairer { self.new.repairer ≡ self.old.repairer }
+        ensures ports { D.state self.new.ports ≡ D.state self.old.ports }
+    {
+        self.push_end(options)?;
+        let status = last_status(&self.repairer);
+        push_mark(&mut self.outgoing, status == 0)?;
+        Ok(status)
+    }
+
+    // Appends the last line and the mark of the end, and writes all text. Returns the status.
     fn end<K: Sink, E: Sink>(
         &mut self,
         options: &ReceiveOptions<D::Peer>,
@@ -511,45 +597,88 @@ impl<D: PortSet + Drop> FeedReceiver<D> {
     ) -> Result<u8, CommandFault>
         ensures status { IfOk result (λ status. status ≡ last_status self.old.repairer) }
         ensures written { OnOk result (Appends (K.held sink.old) (K.held sink.new)
-            (self.old.outgoing.text ++ note_text self.old.outgoing.format
+            (self.old.outgoing.text ++ end_text self.old.outgoing.format None (last_status self.old.repairer == 0)
             (last_line self.old.repairer (D.state self.old.ports).failures))) }
         ensures front { OnErr result (AppendsPrefix (K.held sink.old) (K.held sink.new)
-            (self.old.outgoing.text ++ note_text self.old.outgoing.format
+            (self.old.outgoing.text ++ end_text self.old.outgoing.format None (last_status self.old.repairer == 0)
             (last_line self.old.repairer (D.state self.old.ports).failures))) }
         ensures repairer { self.new.repairer ≡ self.old.repairer }
         ensures ports { D.state self.new.ports ≡ D.state self.old.ports }
     {
         let before = self.outgoing.unwritten();
-        let Ok(()) = self.push_end(options) else {
+        let Ok(status) = self.push_closing(options) else {
             return Err(self.outgoing.end_with(before, CommandFault::Memory, sink));
         };
         self.outgoing.send_side(errors)?;
         self.outgoing.send(sink)?;
-        Ok(last_status(&self.repairer))
+        Ok(status)
     }
 
-    // Makes the turns, and ends.
+    // Takes the first packet, makes the turns, and ends. An error with a number in `stopped` is that of `print_batch`.
     pub(crate) fn run<K: Sink, E: Sink>(
         &mut self,
         alloc: Global,
+        first: &Option<FirstPacket>,
         options: &ReceiveOptions<D::Peer>,
         sink: &mut K,
         errors: &mut E,
+        stopped: &mut Option<u64>,
     ) -> Result<u8, CommandFault>
+        requires going { stopped.old ≡ None }
         ensures ended { IfOk result (HasEnded options.now.lines options.now.servers.items
-            self.old.outgoing.format D.modeled [] (state_of D.state self.old) self.new.repairer
-            (D.state self.new.ports) (K.held sink.old) (K.held sink.new)) }
+            self.old.outgoing.format D.modeled (datagram_of_first options.now.lines first.now)
+            (state_of D.state self.old) self.new.repairer (D.state self.new.ports)
+            (K.held sink.old) (K.held sink.new)) }
         ensures failed { OnErr result (HasBroken options.now.lines options.now.servers.items
-            self.old.outgoing.format D.modeled [] (state_of D.state self.old) (K.held sink.old) (K.held sink.new)) }
+            self.old.outgoing.format D.modeled (datagram_of_first options.now.lines first.now)
+            (state_of D.state self.old) (K.held sink.old) (K.held sink.new)) }
+        ensures cut { OnErr result (IfSome stopped.new (HasStopped options.now.lines options.now.servers.items
+            self.old.outgoing.format D.modeled (datagram_of_first options.now.lines first.now)
+            (state_of D.state self.old) self.new.repairer (D.state self.new.ports)
+            (K.held sink.old) (K.held sink.new))) }
     {
+        self.take_first(first, sink, stopped)?;
         let mut buffer = vec![in alloc; 0; MAX_LIMIT]?;
-        self.take_turns(options, buffer.as_mut_slice(), sink, errors)?;
+        self.take_turns(options, buffer.as_mut_slice(), sink, errors, stopped)?;
         self.end(options, sink, errors)
+    }
+
+    // Prints the line of the empty message `number`, before which printing stopped, on standard error.
+    fn say_stop<E: Sink>(&mut self, number: u64, errors: &mut E) -> Result<(), CommandFault>
+        ensures said { OnOk result (Appends (E.held errors.old) (E.held errors.new)
+            (self.old.outgoing.side ++ stop_line number)) }
+        ensures repairer { self.new.repairer ≡ self.old.repairer }
+        ensures ports { self.new.ports ≡ self.old.ports }
+    {
+        push_stop(&mut self.outgoing.side, number)?;
+        self.outgoing.send_side(errors)
+    }
+
+    // Ends a receiver whose run returned the error `fault`. If printing stopped before an empty message, prints its
+    // line on standard error, and the status is 2. Otherwise the error is a fault.
+    pub(crate) fn stop<E: Sink>(
+        self,
+        fault: CommandFault,
+        stopped: Option<u64>,
+        errors: &mut E,
+    ) -> Result<Received<D>, CommandFault>
+        ensures { IfOk result (λ received. (received.stopped ≡ stopped) × IsSome received.stopped
+            × (received.status ≡ 2) × (received.ports ≡ self.ports) × (received.repairer ≡ self.repairer)) }
+    {
+        let Some(number) = stopped else {
+            return Err(fault);
+        };
+        let mut receiver = self;
+        receiver.say_stop(number, errors)?;
+        let mut received = receiver.into_received(STOPPED);
+        received.stopped = stopped;
+        Ok(received)
     }
 
     /// Returns what a receiver that ended with this status leaves.
     pub fn into_received(self, status: u8) -> Received<D>
         ensures status { result.status ≡ status }
+        ensures stopped { result.stopped ≡ None }
         ensures ports { result.ports ≡ self.ports }
         ensures repairer { result.repairer ≡ self.repairer }
     {
@@ -560,6 +689,7 @@ impl<D: PortSet + Drop> FeedReceiver<D> {
         } = self;
         Received {
             status,
+            stopped: None,
             ports,
             repairer,
         }

@@ -2,14 +2,15 @@
 
 ghost use Rattle.std.specs.Prelude.{◌≡◌, ◌++◌, length, take, IfOk, OnErr, OnOk};
 ghost use Rattle.std.specs.Io.KnownBytes.{Appends};
-ghost use Rattle.mold_receive.specs.Receiving.{finished_line, format_for, last_line, last_status, open_line};
-ghost use Rattle.mold_receive.specs.Receiving.{unopened_line};
-ghost use Rattle.mold_turns.specs.Outgoing.{note_side, note_text, with_note};
+ghost use Rattle.mold_listen.specs.Text.{mark_text, stop_line};
+ghost use Rattle.mold_receive.specs.Receiving.{finished_line, last_line, last_status, open_line, unopened_line};
+ghost use Rattle.mold_turns.specs.Outgoing.{note_side, note_text, with_more, with_note};
 
 use crate::receive_options::ReceiveOptions;
 use mold_devices::{CommandFault, Sink};
+use mold_input::MessageFormat;
 use mold_repair::Repairer;
-use mold_text::Word;
+use mold_text::{Word, push_line};
 use mold_turns::Outgoing;
 use std::alloc::{AllocError, Global};
 
@@ -83,6 +84,30 @@ pub(crate) fn push_last(
     push_open(outgoing, repairer, failures)
 }
 
+/// Appends the mark of the end, which is an empty block, if the format has one and all messages were printed. An error
+/// means out of memory.
+pub(crate) fn push_mark(outgoing: &mut Outgoing, is_whole: bool) -> Result<(), AllocError>
+    ensures mark { OnOk result (outgoing.new ≡ with_more (mark_text outgoing.old.format is_whole) outgoing.old) }
+    ensures kept { OnErr result (take (length outgoing.old.text) outgoing.new.text ≡ outgoing.old.text) }
+{
+    match outgoing.format() {
+        MessageFormat::BlocksToEmpty if is_whole => outgoing.text.extend_from_slice(&[0, 0]),
+        _ => Ok(()),
+    }
+}
+
+/// Appends the line of the empty message `number`, before which printing stopped. An error means out of memory.
+pub(crate) fn push_stop(out: &mut Vec<u8>, number: u64) -> Result<(), AllocError>
+    ensures line { OnOk result (out.new.items ≡ out.old.items ++ stop_line number) }
+{
+    let words = [
+        Word::Text(b"refused"),
+        Word::Text(b"Empty"),
+        Word::Number(number),
+    ];
+    push_line(out, &words)
+}
+
 /// Returns the status: 0 if the receiver is finished and nothing was given up, otherwise 1.
 pub fn last_status(repairer: &Repairer) -> u8
     ensures { result ≡ last_status repairer.now }
@@ -122,9 +147,9 @@ pub fn end_unopened<P: Copy, K: Sink, E: Sink>(
 ) -> Result<u8, CommandFault>
     ensures status { IfOk result (λ status. status ≡ 1) }
     ensures text { OnOk result (Appends (K.held sink.old) (K.held sink.new)
-        (note_text (format_for options.now.blocks) (unopened_line numbers.next numbers.failures))) }
+        (note_text options.now.format (unopened_line numbers.next numbers.failures))) }
     ensures side { OnOk result (Appends (E.held errors.old) (E.held errors.new)
-        (note_side (format_for options.now.blocks) (unopened_line numbers.next numbers.failures))) }
+        (note_side options.now.format (unopened_line numbers.next numbers.failures))) }
 {
     let mut outgoing = Outgoing::with_format(alloc, options.format());
     push_unopened(&mut outgoing, numbers.next, numbers.failures)?;

@@ -2,7 +2,6 @@
 
 ghost use Rattle.std.specs.Prelude.{◌≡◌, ◌+◌, ◌<◌, ◌≤◌, ◌↔◌, length, IfSome, IsSome};
 ghost use Rattle.mold_receive.specs.Options.{span_of};
-ghost use Rattle.mold_receive.specs.Receiving.{format_for};
 ghost use Rattle.mold_receive.specs.declared.receive_options.TheConstants.{NEVER};
 
 use mold_input::MessageFormat;
@@ -26,7 +25,7 @@ pub struct ReceiveOptions<P> {
     pub(crate) lines: usize,
     // The address of each server.
     pub(crate) servers: Vec<P>,
-    pub(crate) blocks: bool,
+    pub(crate) format: MessageFormat,
     pub(crate) turns: u64,
     // After how many nanoseconds without an accepted datagram the receiver ends.
     pub(crate) quiet: u64,
@@ -39,14 +38,18 @@ pub struct ReceiveOptions<P> {
 
 impl<P: Copy> ReceiveOptions<P> {
     /// Returns the options of a receiver of 1 or 2 lines and at most 8 servers, or `None` for other numbers. The ports
-    /// of the lines come first in the set of ports, and those of the servers follow. `blocks` states whether messages
-    /// are printed as blocks, and not as lines. After this number of `turns` the receiver ends, even if the session is
-    /// not finished. Until `with_stats` and `with_quiet` change this, it prints no statistics, and waits without a
-    /// limit.
-    pub fn new(lines: usize, servers: Vec<P>, blocks: bool, turns: u64) -> Option<ReceiveOptions<P>>
+    /// of the lines come first in the set of ports, and those of the servers follow. Messages are printed in
+    /// this format. After this number of `turns` the receiver ends, even if the session is not finished. Until
+    /// `with_stats` and `with_quiet` change this, it prints no statistics, and waits without a limit.
+    pub fn new(
+        lines: usize,
+        servers: Vec<P>,
+        format: MessageFormat,
+        turns: u64,
+    ) -> Option<ReceiveOptions<P>>
         ensures lines { IfSome result (λ options. options.lines ≡ lines) }
         ensures servers { IfSome result (λ options. options.servers ≡ servers) }
-        ensures blocks { IfSome result (λ options. options.blocks ≡ blocks) }
+        ensures format { IfSome result (λ options. options.format ≡ format) }
         ensures turns { IfSome result (λ options. options.turns ≡ turns) }
         ensures quiet { IfSome result (λ options. options.quiet ≡ NEVER) }
         ensures stats { IfSome result (λ options. options.stats ≡ NEVER) }
@@ -58,7 +61,7 @@ impl<P: Copy> ReceiveOptions<P> {
         Some(ReceiveOptions {
             lines,
             servers,
-            blocks,
+            format,
             turns,
             quiet: NEVER,
             stats: NEVER,
@@ -118,13 +121,9 @@ impl<P: Copy> ReceiveOptions<P> {
 
     /// Returns the format in which messages are printed.
     pub(crate) fn format(&self) -> MessageFormat
-        ensures { result ≡ format_for self.now.blocks }
+        ensures { result ≡ self.now.format }
     {
-        if self.blocks {
-            MessageFormat::Blocks
-        } else {
-            MessageFormat::Lines
-        }
+        self.format
     }
 }
 

@@ -1,7 +1,7 @@
 //! The loop of a receiver over a set of ports.
 
-ghost use Rattle.std.specs.Prelude.{◌≡◌, [], IfOk, OnErr};
-ghost use Rattle.mold_receive.specs.Receiving.{HasBroken, HasEnded, datagram_of_first, format_for, started};
+ghost use Rattle.std.specs.Prelude.{◌≡◌, [], IfNone, IfOk, IfSome, OnErr};
+ghost use Rattle.mold_receive.specs.Receiving.{HasBroken, HasEnded, HasStopped, datagram_of_first, started};
 
 use crate::feed_receiver::FeedReceiver;
 use crate::first_packet::FirstPacket;
@@ -25,8 +25,11 @@ pub struct ReceiveParts<D> {
 /// What a loop that ended leaves.
 #[derive(Drop)]
 pub struct Received<D> {
-    /// The status: 0 if the session is finished and nothing was given up, otherwise 1.
+    /// The status: 2 if printing stopped before an empty message. Otherwise 0 if the session is finished and nothing was
+    /// given up, and 1 if not.
     pub status: u8,
+    /// The number of the empty message before which printing stopped, if it stopped.
+    pub stopped: Option<u64>,
     /// The ports.
     pub ports: D,
     /// The repairer.
@@ -48,6 +51,11 @@ pub struct Received<D> {
 /// printed on `errors`. If messages are printed as blocks, lines are written to `errors`, and `sink` gets the blocks and
 /// nothing else.
 ///
+/// In the format `BlocksToEmpty` an empty block, which marks the end, follows the messages if the status is 0. An empty
+/// message would look like this mark. At the first one that is delivered the loop ends at once: it has written the
+/// messages before it, prints the line `refused Empty NUMBER` on `errors` in place of statistics and last line, and the
+/// status is 2.
+///
 /// A failed wait, receive or send is counted, and the loop continues. After a fault, a prefix of the text is written.
 pub fn receive_loop<D: PortSet + Drop, K: Sink, E: Sink>(
     alloc: Global,
@@ -56,12 +64,17 @@ pub fn receive_loop<D: PortSet + Drop, K: Sink, E: Sink>(
     sink: &mut K,
     errors: &mut E,
 ) -> Result<Received<D>, CommandFault>
-    ensures ended { IfOk result (λ received. HasEnded options.now.lines options.now.servers.items
-        (format_for options.now.blocks) D.modeled (datagram_of_first options.now.lines parts.first)
+    ensures ended { IfOk result (λ received. IfNone received.stopped (HasEnded options.now.lines
+        options.now.servers.items options.now.format D.modeled (datagram_of_first options.now.lines parts.first)
         (started parts.repairer (D.state parts.ports)) received.repairer (D.state received.ports)
-        (K.held sink.old) (K.held sink.new) received.status) }
+        (K.held sink.old) (K.held sink.new) received.status)) }
+    ensures stopped { IfOk result (λ received. IfSome received.stopped (HasStopped options.now.lines
+        options.now.servers.items options.now.format D.modeled (datagram_of_first options.now.lines parts.first)
+        (started parts.repairer (D.state parts.ports)) received.repairer (D.state received.ports)
+        (K.held sink.old) (K.held sink.new))) }
+    ensures status { IfOk result (λ received. IfSome received.stopped (λ number. received.status ≡ 2)) }
     ensures failed { OnErr result (HasBroken options.now.lines options.now.servers.items
-        (format_for options.now.blocks) D.modeled (datagram_of_first options.now.lines parts.first)
+        options.now.format D.modeled (datagram_of_first options.now.lines parts.first)
         (started parts.repairer (D.state parts.ports)) (K.held sink.old) (K.held sink.new)) }
 {
     let ReceiveParts {
@@ -70,7 +83,9 @@ pub fn receive_loop<D: PortSet + Drop, K: Sink, E: Sink>(
         first,
     } = parts;
     let mut receiver = FeedReceiver::new(alloc, ports, repairer, options, options.format());
-    receiver.take_first(&first)?;
-    let status = receiver.run(alloc, options, sink, errors)?;
-    Ok(receiver.into_received(status))
+    let mut stopped = None;
+    match receiver.run(alloc, &first, options, sink, errors, &mut stopped) {
+        Ok(status) => Ok(receiver.into_received(status)),
+        Err(fault) => receiver.stop(fault, stopped, errors),
+    }
 }

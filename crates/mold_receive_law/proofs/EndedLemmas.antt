@@ -1,24 +1,26 @@
 -- What a receiver has written at its end.
-use Rattle.std.proofs.Common.{◌≡◌, ℕ, ◌+◌, ◌<◌, ◌≤◌, ◌^◌, ◌==◌, ◌&&◌, Bool, true, false, List, [], ◌∷◌, ◌++◌, length}
-use Rattle.std.proofs.Common.{Ok, Option, ap, append-nil, arith, if◌then◌else◌, refl, subst, sym, ◌∙◌}
+use Rattle.std.proofs.Common.{◌≡◌, ℕ, ◌+◌, ◌-◌, ◌<◌, ◌≤◌, ◌^◌, ◌==◌, ◌&&◌, Bool, true, false, List, [], ◌∷◌, ◌++◌, length}
+use Rattle.std.proofs.Common.{None, Ok, Option, ap, append-nil, arith, if◌then◌else◌, refl, subst, sym, ◌∙◌}
 use Rattle.std.specs.Io.Iter.{u64_saturate}
 use Rattle.std.specs.Io.KnownBytes.{Appends}
 use Rattle.std.specs.List.{AllByRecursion}
+use Rattle.std.proofs.lemmas.List.{take_all}
 use Rattle.mold_devices.specs.declared.fault.CommandFault.{CommandFault}
 use Rattle.mold_feed.proofs.BlocksPrintedLemmas.{blocks_text}
 use Rattle.mold_feed.proofs.LinesTextLemmas.{AreSpelled, spelled_length, text_between}
 use Rattle.mold_feed.proofs.OpeningLemmas.{OpeningLaws, left_by, left_session}
 use Rattle.mold_feed.proofs.ReceivedTurnLemmas.{ends_so}
 use Rattle.mold_feed.proofs.SentLemmas.{each_append, each_begun, each_front, each_rest}
-use Rattle.mold_feed.specs.Received.{IsFed, IsHarmless, PrintsBlocks, lines_text}
+use Rattle.mold_feed.specs.Received.{IsFed, IsHarmless, PrintsBlocks, WritesToMark, lines_text}
 use Rattle.mold_feed.specs.Sent.{IsOpening}
+use Rattle.mold_input.specs.BlocksToEmpty.{IsNotEmpty}
 use Rattle.mold_input.specs.Entries.{InputEntries}
 use Rattle.mold_input.specs.declared.message_format.MessageFormat.{MessageFormat}
-use Rattle.mold_input.specs.declared.message_format.MessageFormat.TheVariants.{Blocks, Lines}
-use Rattle.mold_listen.specs.Text.{handed_text}
+use Rattle.mold_input.specs.declared.message_format.MessageFormat.TheVariants.{Blocks, BlocksToEmpty, Lines}
+use Rattle.mold_listen.specs.Text.{end_text, handed_text}
 use Rattle.mold_pacing.specs.declared.gap.Gap.{Gap}
 use Rattle.mold_port_set.specs.PortSet.{Given, PortSetState}
-use Rattle.mold_receive.specs.Receiving.{Call, Follow, HasBroken, HasEnded, HasRun, ReceiverState, all_taken}
+use Rattle.mold_receive.specs.Receiving.{Call, Follow, HasBroken, HasEnded, HasRun, HasStopped, ReceiverState, all_taken}
 use Rattle.mold_receive.specs.Receiving.{all_text, is_finished, last_line, last_status, started}
 use Rattle.mold_receiver.specs.Store.{Message}
 use Rattle.mold_receiver.specs.Fresh.{IsNew}
@@ -31,13 +33,13 @@ use Rattle.mold_repair.specs.declared.repairer.Repairer.{Repairer}
 use Rattle.mold_repair.specs.declared.stats.RepairCounts.{RepairCounts}
 use Rattle.mold_session.specs.Answer.{between}
 use Rattle.mold_session.specs.Journal.{JournalState}
-use Rattle.mold_turns.specs.Outgoing.{note_text}
 use Rattle.mold_turns.specs.Runs.{Begins}
-use Rattle.mold_wire.specs.Block.{blocks}
+use Rattle.mold_wire.specs.Block.{block, blocks}
 use Rattle.mold_receive_law.proofs.PrintedLemmas.{ArePrinted, IsGood, RepairLaws, calls_printed, gaps_of, outcomes_of}
 use Rattle.mold_receive_law.proofs.PrintedLemmas.{repaired, steps_of}
 use Rattle.mold_receive_law.specs.Printed.{AreFed, AreRanges, HasPrinted, HasPrintedAll, HasPrintedLines}
-use Rattle.mold_receive_law.specs.Printed.{HasPrintedPart, Prints, closing_line, closing_status, finished_line}
+use Rattle.mold_receive_law.proofs.StoppedLemmas.{AreCut, calls_cut}
+use Rattle.mold_receive_law.specs.Printed.{HasPrintedPart, HasPrintedToEmpty, Prints, closing_line, closing_status, finished_line}
 use Rattle.mold_receive_law.specs.Printed.{printed_text}
 
 -- ---- the status
@@ -116,14 +118,16 @@ prints_all format journal first old new printed =
           subst (λ (t : List ℕ). Appends old new t)
           (prints.parts
           ∙ ap (λ (gaps : List Gap). printed_text format messages first gaps prints.next
-          ++ note_text format (closing_line prints.finished prints.next prints.known
-          (u64_saturate (count_numbers gaps)) prints.failures)) over.1
+          ++ end_text format None (closing_status prints.finished gaps == 0) (closing_line prints.finished prints.next
+          prints.known (u64_saturate (count_numbers gaps)) prints.failures)) over.1
           ∙ ap (λ (lost : ℕ). printed_text format messages first [] prints.next
-          ++ note_text format (closing_line prints.finished prints.next prints.known lost prints.failures)) zero
+          ++ end_text format None (closing_status prints.finished [] == 0)
+          (closing_line prints.finished prints.next prints.known lost prints.failures)) zero
           ∙ ap (λ (finished : Bool). printed_text format messages first [] prints.next
-          ++ note_text format (closing_line finished prints.next prints.known 0 prints.failures)) over.0
+          ++ end_text format None (closing_status finished [] == 0)
+          (closing_line finished prints.next prints.known 0 prints.failures)) over.0
           ∙ ap (λ (next : ℕ). handed_text format first (between messages first next)
-          ++ note_text format (finished_line next 0 prints.failures)) (prints.all over.0))
+          ++ end_text format None true (finished_line next 0 prints.failures)) (prints.all over.0))
           printed.written;
     }
 
@@ -147,6 +151,32 @@ all_blocks journal old new printed =
         parts = sym (append-nil (blocks messages));
         appended = written;
       };
+    }
+
+-- the text of messages up to a mark is their blocks
+marked_text : (number : ℕ) (messages : List Message) → handed_text BlocksToEmpty number messages ≡ blocks messages
+unfolding handed_text
+marked_text number [] = refl
+marked_text number (message ∷ messages) =
+    ap (λ (text : List ℕ). block message ++ text) (marked_text (number + 1) messages)
+
+-- among blocks with a mark of the end, the blocks of all messages and the mark are written
+pub all_marked : (input : List ℕ) (journal : JournalState) (old new : Option (List ℕ)) →
+    AllByRecursion IsNotEmpty journal.messages →
+    (rest : List ℕ) × (input ≡ blocks journal.messages ++ block [] ++ rest) →
+    HasPrintedAll BlocksToEmpty journal 1 old new → WritesToMark input old new
+all_marked input journal old new filled read printed =
+    let end : ℕ = length journal.messages + 1 in
+    record {
+      messages = journal.messages;
+      filled = filled;
+      rest = read.0;
+      parts = read.1;
+      written = subst (λ (t : List ℕ). Appends old new t)
+          (ap (λ (t : List ℕ). t ++ block [])
+          (marked_text 1 (between journal.messages 1 end)
+          ∙ ap blocks (take_all (end - 1) journal.messages (omega arith))))
+          printed.written;
     }
 
 -- among lines, the lines that the messages were read from are written
@@ -193,7 +223,8 @@ module _ {P : Type 0} (laws : ReceiveLaws P) (limit : ℕ) (journal : JournalSta
   -- what calls that took only such datagrams print, and the last line
   calls_print : (lines failures : ℕ) (new : Repairer) (calls : List Call) (text : List ℕ) → Follow old calls new →
       AreFed P journal limit input (all_taken lines calls) → text ≡ all_text format calls →
-      PrintsWith format left first (text ++ note_text format (last_line new failures)) new
+      PrintsWith format left first
+      (text ++ end_text format None (last_status new == 0) (last_line new failures)) new
   calls_print lines failures new calls text follow fed is =
       let are : ArePrinted format left calls old new =
       calls_printed laws.repair format left lines old new calls follow
@@ -208,6 +239,10 @@ module _ {P : Type 0} (laws : ReceiveLaws P) (limit : ℕ) (journal : JournalSta
       subst (λ (n : ℕ). AreRanges n (gaps_of calls) next) at are.order in
       let ends : is_finished new ≡ true → (left.closed ≡ true) × (next ≡ length left.messages + 1) =
       λ over. are.honest.ends next (ends_so new.arbiter.view.ended next over) in
+      let status : last_status new ≡ closing_status (is_finished new) (gaps_of calls) =
+      status_is (is_finished new) new.counts.lost first next (gaps_of calls) order count in
+      let last : List ℕ = end_text format None (last_status new == 0) (last_line new failures) in
+      let printed : List ℕ = printed_text format left.messages first (gaps_of calls) next in
       record {
         prints = record {
           next = next;
@@ -221,29 +256,39 @@ module _ {P : Type 0} (laws : ReceiveLaws P) (limit : ℕ) (journal : JournalSta
           closed = λ over. (ends over).0;
           all = λ over. (ends over).1;
           parts =
-              ap (λ (t : List ℕ). t ++ note_text format (last_line new failures)) (is ∙ are.text)
-              ∙ ap (λ (n : ℕ). printed_text format left.messages n (gaps_of calls) next
-              ++ note_text format (last_line new failures)) at
-              ∙ ap (λ (lost : ℕ). printed_text format left.messages first (gaps_of calls) next
-              ++ note_text format (closing_line (is_finished new) next new.arbiter.view.known lost failures)) count;
+              ap (λ (t : List ℕ). t ++ last) (is ∙ are.text)
+              ∙ ap (λ (n : ℕ). printed_text format left.messages n (gaps_of calls) next ++ last) at
+              ∙ ap (λ (n : ℕ). printed ++ end_text format None (n == 0) (last_line new failures)) status
+              ∙ ap (λ (lost : ℕ). printed
+              ++ end_text format None (closing_status (is_finished new) (gaps_of calls) == 0)
+              (closing_line (is_finished new) next new.arbiter.view.known lost failures)) count;
         };
-        status = status_is (is_finished new) new.counts.lost first next (gaps_of calls) order count;
+        status = status;
       }
+
+  -- a receiver whose ports gave only such datagrams took only such ones
+  ran_fed : (lines : ℕ) (servers : List P) (printing : MessageFormat) (given : List Given) (before : PortSetState P)
+      (end : ReceiverState P) (has : HasRun lines servers printing true given (started old before) end) →
+      AreFed P journal limit input (given ++ end.ports.given) →
+      AreFed P journal limit input (all_taken lines has.calls)
+  ran_fed lines servers printing given before end has fed =
+      let Good : Given → Type 0 = λ (datagram : Given). IsFed P journal limit input datagram.bytes in
+      let since : AreFed P journal limit input has.since =
+      each_rest Good before.given has.since (subst (λ (datagrams : List Given). AreFed P journal limit input datagrams)
+      (has.given refl) (each_rest Good given end.ports.given fed)) in
+      subst (λ (datagrams : List Given). AreFed P journal limit input datagrams) (sym (has.taken refl))
+      (each_append Good given has.since (each_front Good given end.ports.given fed) since)
 
   -- the same of what a receiver did, if it took only such datagrams
   ran_prints : (lines : ℕ) (servers : List P) (given : List Given) (before : PortSetState P) (end : ReceiverState P) →
       HasRun lines servers format true given (started old before) end →
       AreFed P journal limit input (given ++ end.ports.given) →
-      PrintsWith format left first (end.text ++ note_text format (last_line end.repairer end.ports.failures))
+      PrintsWith format left first
+      (end.text ++ end_text format None (last_status end.repairer == 0) (last_line end.repairer end.ports.failures))
       end.repairer
   ran_prints lines servers given before end has fed =
-      let Good : Given → Type 0 = λ (datagram : Given). IsFed P journal limit input datagram.bytes in
-      let since : AreFed P journal limit input has.since =
-      each_rest Good before.given has.since (subst (λ (datagrams : List Given). AreFed P journal limit input datagrams)
-      (has.given refl) (each_rest Good given end.ports.given fed)) in
       calls_print lines end.ports.failures end.repairer has.calls end.text has.follow
-      (subst (λ (datagrams : List Given). AreFed P journal limit input datagrams) (sym (has.taken refl))
-      (each_append Good given has.since (each_front Good given end.ports.given fed) since))
+      (ran_fed lines servers format given before end has fed)
       has.printed
 
   pub ended_prints : (lines : ℕ) (servers : List P) (given : List Given) (new : Repairer)
@@ -252,13 +297,15 @@ module _ {P : Type 0} (laws : ReceiveLaws P) (limit : ℕ) (journal : JournalSta
       HasEnded lines servers format true given (started old before) new after held_old held_new status →
       HasPrinted format left first status held_old held_new
   ended_prints lines servers given new before after held_old held_new status fed ended =
-      let prints : PrintsWith format left first (ended.text ++ note_text format (last_line new after.failures)) new =
+      let prints : PrintsWith format left first
+      (ended.text ++ end_text format None (last_status new == 0) (last_line new after.failures)) new =
       ran_prints lines servers given before (record { repairer = new; ports = after; text = ended.text }) ended.ran
       fed in
       record {
-        text = ended.text ++ note_text format (last_line new after.failures);
+        text = ended.text ++ end_text format None (last_status new == 0) (last_line new after.failures);
         prints = prints.prints;
-        written = ended.appended;
+        written = subst (λ (n : ℕ). Appends held_old held_new
+            (ended.text ++ end_text format None (n == 0) (last_line new after.failures))) ended.status_is ended.appended;
         status_is = ended.status_is ∙ prints.status;
       }
 
@@ -275,8 +322,34 @@ module _ {P : Type 0} (laws : ReceiveLaws P) (limit : ℕ) (journal : JournalSta
       AreFed P journal limit input (given ++ is.end.ports.given) →
       HasPrintedPart format left first held_old held_new
   broken_prints lines servers given before held_old held_new is fed = record {
-    text = is.end.text ++ note_text format (last_line is.end.repairer is.end.ports.failures);
+    text = is.end.text
+        ++ end_text format None (last_status is.end.repairer == 0) (last_line is.end.repairer is.end.ports.failures);
     prints = (ran_prints lines servers is.took before is.end is.ran (took_fed given is.took is.end.ports.given is.part
         fed)).prints;
     front = is.front;
   }
+
+  -- what a receiver has written that stopped before an empty message
+  pub stopped_prints : (lines : ℕ) (servers : List P) (given : List Given) (new : Repairer)
+      (before after : PortSetState P) (held_old held_new : Option (List ℕ)) (number : ℕ) →
+      AreFed P journal limit input (given ++ after.given) →
+      HasStopped lines servers BlocksToEmpty true given (started old before) new after held_old held_new number →
+      HasPrintedToEmpty left first number held_old held_new
+  stopped_prints lines servers given new before after held_old held_new number fed stopped =
+      let has = stopped.ran in
+      let cut : AreCut left has.calls old.arbiter.view.next number =
+      calls_cut laws.repair left lines number old new has.calls has.follow honest_start
+      (ap (λ (v : View). v.session) anew.is ∙ sym (left_session journal input))
+      (all_good laws limit journal input opening (all_taken lines has.calls)
+      (ran_fed lines servers BlocksToEmpty given before
+      (record { repairer = new; ports = after; text = stopped.text }) has fed))
+      stopped.empty in
+      let at : old.arbiter.view.next ≡ first = ap (λ (v : View). v.next) anew.is in
+      record {
+        gaps = cut.gaps;
+        order = subst (λ (n : ℕ). AreRanges n cut.gaps number) at cut.order;
+        empty = cut.empty;
+        written = subst (λ (t : List ℕ). Appends held_old held_new t)
+            (cut.text ∙ ap (λ (n : ℕ). printed_text BlocksToEmpty left.messages n cut.gaps number) at)
+            stopped.appended;
+      }

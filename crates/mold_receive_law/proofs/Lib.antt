@@ -1,2 +1,3 @@
 pub mod PrintedLemmas
+pub mod StoppedLemmas
 pub mod EndedLemmas

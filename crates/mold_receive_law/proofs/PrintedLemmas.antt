@@ -7,10 +7,11 @@ use Rattle.mold_feed.proofs.PrintedLineLemmas.{between_none, counted_joined, han
 use Rattle.mold_feed.proofs.SentLemmas.{each_front, each_rest}
 use Rattle.mold_feed.specs.Received.{IsHarmless}
 use Rattle.mold_input.specs.declared.message_format.MessageFormat.{MessageFormat}
-use Rattle.mold_listen.specs.Text.{handed_text, message_text}
+use Rattle.mold_input.specs.declared.message_format.MessageFormat.TheVariants.{Blocks, BlocksToEmpty, Lines}
+use Rattle.mold_listen.specs.Text.{empty_number, handed_text, message_text, messages_to_empty, printable, stop_after}
 use Rattle.mold_pacing.specs.declared.gap.Gap.{Gap}
 use Rattle.mold_port_set.specs.PortSet.{Given}
-use Rattle.mold_receive.specs.Receiving.{Call, Follow, all_taken, all_text, call_text}
+use Rattle.mold_receive.specs.Receiving.{Call, Follow, all_taken, all_text, call_stop, call_text, call_to_stop}
 use Rattle.mold_receive.specs.Receiving.{lost_text, taken_by}
 use Rattle.mold_receiver.specs.Batch.{Handed, followed_by}
 use Rattle.mold_receiver.specs.Honest.{IsHonest}
@@ -97,10 +98,10 @@ text_lost format published gap mid next gaps least low most order =
     ++ (line ++ printed_text format published gap.end gaps next)) (between_none published gap.first))
 
 -- what a step gave up begins at `next`
-abbrev BeginsAt : ℕ → Option Gap → Type 0
+abbrev pub BeginsAt : ℕ → Option Gap → Type 0
 BeginsAt next lost = IfSome lost (λ gap. (gap.first ≡ next) × (gap.first < gap.end))
 
-step_text : (format : MessageFormat) (published : List Message) (lost : Option Gap) (first mid next : ℕ)
+pub step_text : (format : MessageFormat) (published : List Message) (lost : Option Gap) (first mid next : ℕ)
     (gaps : List Gap) → BeginsAt first lost → 1 ≤ first → after_lost first lost ≤ mid →
     next ≤ length published + 1 → AreRanges mid gaps next →
     (lost_text format lost
@@ -113,13 +114,13 @@ step_text format published (Some gap) first mid next gaps begins least low most 
     text_lost format published gap mid next gaps (omega (arith, begins.0, begins.1, least)) low most order
     ∙ ap (λ (n : ℕ). printed_text format published n (gap ∷ gaps) next) begins.0
 
-step_order : (lost : Option Gap) (first mid next : ℕ) (gaps : List Gap) → BeginsAt first lost →
+pub step_order : (lost : Option Gap) (first mid next : ℕ) (gaps : List Gap) → BeginsAt first lost →
     after_lost first lost ≤ mid → AreRanges mid gaps next → AreRanges first (with_gap lost gaps) next
 step_order None first mid next gaps begins low order = ranges_before first mid next gaps low order
 step_order (Some gap) first mid next gaps begins low order =
     (omega (arith, begins.0), begins.1, ranges_before gap.end mid next gaps low order)
 
-step_least : (lost : Option Gap) (first : ℕ) → BeginsAt first lost → 1 ≤ first → 1 ≤ after_lost first lost
+pub step_least : (lost : Option Gap) (first : ℕ) → BeginsAt first lost → 1 ≤ first → 1 ≤ after_lost first lost
 step_least None first begins least = least
 step_least (Some gap) first begins least = omega (arith, begins.0, begins.1, least)
 
@@ -130,6 +131,25 @@ batch_text : (format : MessageFormat) (first : ℕ) (messages : List Message) �
 unfolding handed_text
 batch_text format first [] = refl
 batch_text format first (message ∷ messages) = refl
+
+batch_printed : (format : MessageFormat) (first : ℕ) (messages : List Message) →
+    handed_text format (followed_by nothing first messages).first
+    (printable format None (followed_by nothing first messages).messages)
+    ≡ handed_text format first (printable format None messages)
+unfolding handed_text messages_to_empty
+batch_printed Lines first [] = refl
+batch_printed Blocks first [] = refl
+batch_printed BlocksToEmpty first [] = refl
+batch_printed format first (message ∷ messages) = refl
+
+batch_stop : (format : MessageFormat) (first : ℕ) (messages : List Message) →
+    stop_after format None (followed_by nothing first messages).first (followed_by nothing first messages).messages
+    ≡ stop_after format None first messages
+unfolding empty_number
+batch_stop Lines first [] = refl
+batch_stop Blocks first [] = refl
+batch_stop BlocksToEmpty first [] = refl
+batch_stop format first (message ∷ messages) = refl
 
 batch_messages : (first : ℕ) (messages : List Message) → (followed_by nothing first messages).messages ≡ messages
 batch_messages first [] = refl
@@ -201,24 +221,33 @@ pub record ArePrinted (format : MessageFormat) (journal : JournalState) (calls :
   pub order : AreRanges old.arbiter.view.next (gaps_of calls) new.arbiter.view.next
   pub honest : IsHonest new.arbiter.view journal.messages journal.closed
 
-last_number : (journal : JournalState) (r : Repairer) → IsHonest r.arbiter.view journal.messages journal.closed →
+pub last_number : (journal : JournalState) (r : Repairer) → IsHonest r.arbiter.view journal.messages journal.closed →
     r.arbiter.view.next ≤ length journal.messages + 1
 last_number journal r honest = omega (arith, honest.well_formed.ahead, honest.known)
 
 -- what one call delivered
-record IsDelivered (format : MessageFormat) (journal : JournalState) (call : Call) : Type 0 where
-  text : call_text format call
+pub record IsDelivered (format : MessageFormat) (journal : JournalState) (call : Call) : Type 0 where
+  pub text : call_text format call
       ≡ lost_text format call.outcome.lost
       ++ handed_text format (after_lost call.before.arbiter.view.next call.outcome.lost)
       (between journal.messages (after_lost call.before.arbiter.view.next call.outcome.lost)
       call.after.arbiter.view.next)
-  begins : BeginsAt call.before.arbiter.view.next call.outcome.lost
-  low : after_lost call.before.arbiter.view.next call.outcome.lost ≤ call.after.arbiter.view.next
-  honest : IsHonest call.after.arbiter.view journal.messages journal.closed
-  session : call.after.arbiter.view.session ≡ call.before.arbiter.view.session
+  pub cut : call_to_stop format call
+      ≡ lost_text format call.outcome.lost
+      ++ handed_text format (after_lost call.before.arbiter.view.next call.outcome.lost)
+      (printable format None (between journal.messages
+      (after_lost call.before.arbiter.view.next call.outcome.lost) call.after.arbiter.view.next))
+  pub stop : call_stop format call
+      ≡ stop_after format None (after_lost call.before.arbiter.view.next call.outcome.lost)
+      (between journal.messages (after_lost call.before.arbiter.view.next call.outcome.lost)
+      call.after.arbiter.view.next)
+  pub begins : BeginsAt call.before.arbiter.view.next call.outcome.lost
+  pub low : after_lost call.before.arbiter.view.next call.outcome.lost ≤ call.after.arbiter.view.next
+  pub honest : IsHonest call.after.arbiter.view journal.messages journal.closed
+  pub session : call.after.arbiter.view.session ≡ call.before.arbiter.view.session
 
 module _ (laws : RepairLaws) (format : MessageFormat) (journal : JournalState) where
-  delivered : (lines : ℕ) (call : Call) → IsHonest call.before.arbiter.view journal.messages journal.closed →
+  pub delivered : (lines : ℕ) (call : Call) → IsHonest call.before.arbiter.view journal.messages journal.closed →
       call.before.arbiter.view.session ≡ journal.session →
       AllByRecursion (IsGood journal) (taken_by lines call.step) → IsDelivered format journal call
   delivered lines call honest own good =
@@ -253,6 +282,15 @@ module _ (laws : RepairLaws) (format : MessageFormat) (journal : JournalState) w
             (ap (λ (h : Handed). handed_text format h.first h.messages) moved.batch
             ∙ batch_text format first moved.messages
             ∙ ap (handed_text format first) messages);
+        cut =
+            ap (λ (t : List ℕ). lost_text format call.outcome.lost ++ t)
+            (ap (λ (h : Handed). handed_text format h.first (printable format None h.messages)) moved.batch
+            ∙ batch_printed format first moved.messages
+            ∙ ap (λ (l : List Message). handed_text format first (printable format None l)) messages);
+        stop =
+            ap (λ (h : Handed). stop_after format None h.first h.messages) moved.batch
+            ∙ batch_stop format first moved.messages
+            ∙ ap (λ (l : List Message). stop_after format None first l) messages;
         begins = moved.lost;
         low = low;
         honest = after;

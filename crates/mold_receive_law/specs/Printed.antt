@@ -1,6 +1,6 @@
 -- What a receiver that may give up messages prints of a session.
-use Rattle.std.specs.Prelude.{◌≡◌, ℕ, ◌+◌, ◌<◌, ◌≤◌, Bool, true, List, [], ◌∷◌, ◌++◌, length, codes, decimal}
-use Rattle.std.specs.Prelude.{if◌then◌else◌, Option, Some}
+use Rattle.std.specs.Prelude.{◌≡◌, ℕ, ◌+◌, ◌-◌, ◌<◌, ◌≤◌, ◌==◌, Bool, true, List, [], ◌∷◌, ◌++◌, length, codes, decimal}
+use Rattle.std.specs.Prelude.{if◌then◌else◌, slice_get, Option, None, Some}
 use Rattle.std.specs.Io.Iter.{u64_saturate}
 use Rattle.std.specs.Io.KnownBytes.{Appends}
 use Rattle.std.specs.List.{AllByRecursion}
@@ -8,7 +8,8 @@ use Rattle.mold_devices.specs.Devices.{AppendsPrefix}
 use Rattle.mold_feed.specs.Received.{IsFed, lines_text}
 use Rattle.mold_input.specs.Entries.{InputEntries}
 use Rattle.mold_input.specs.declared.message_format.MessageFormat.{MessageFormat}
-use Rattle.mold_listen.specs.Text.{handed_text}
+use Rattle.mold_input.specs.declared.message_format.MessageFormat.TheVariants.{BlocksToEmpty}
+use Rattle.mold_listen.specs.Text.{end_text, handed_text}
 use Rattle.mold_pacing.specs.declared.gap.Gap.{Gap}
 use Rattle.mold_port_set.specs.PortSet.{Given}
 use Rattle.mold_receive.specs.Receiving.{lost_text}
@@ -17,7 +18,6 @@ use Rattle.mold_repair.specs.Laws.{count_numbers}
 use Rattle.mold_session.specs.Answer.{between}
 use Rattle.mold_session.specs.Journal.{JournalState}
 use Rattle.mold_text.specs.Line.{line_of}
-use Rattle.mold_turns.specs.Outgoing.{note_text}
 
 -- Each of these datagrams was sent by the publisher of this input or by one of its servers, or does not encode a packet
 -- of the session.
@@ -62,7 +62,7 @@ closing_status finished (gap ∷ gaps) = 1
 
 -- The text that a receiver which started at message `first` prints of a journal: the journal's messages from there to
 -- `next - 1`, without the ranges that were given up, and its last line. If messages are printed as blocks, there are
--- only the messages.
+-- only the messages, and in the format `BlocksToEmpty` with status 0 the mark of the end, which is an empty block.
 pub record Prints (format : MessageFormat) (journal : JournalState) (first : ℕ) (text : List ℕ) : Type 0 where
   -- the number of the next message
   pub next : ℕ
@@ -84,7 +84,8 @@ pub record Prints (format : MessageFormat) (journal : JournalState) (first : ℕ
   pub all : finished ≡ true → next ≡ length journal.messages + 1
   -- the last line has the count of messages in the ranges. A count above 2^64 - 1 is printed as 2^64 - 1
   pub parts : text ≡ printed_text format journal.messages first gaps next
-      ++ note_text format (closing_line finished next known (u64_saturate (count_numbers gaps)) failures)
+      ++ end_text format None (closing_status finished gaps == 0)
+      (closing_line finished next known (u64_saturate (count_numbers gaps)) failures)
 
 -- A receiver that started at message `first` has ended with this status. Its text is written to standard output.
 pub record HasPrinted (format : MessageFormat) (journal : JournalState) (first status : ℕ)
@@ -101,8 +102,8 @@ pub record HasPrintedPart (format : MessageFormat) (journal : JournalState) (fir
   pub prints : Prints format journal first text
   pub front : AppendsPrefix old new text
 
--- A receiver that started at message `first` has written all messages from there on, and no other. The session is
--- closed.
+-- A receiver that started at message `first` has written all messages from there on, and no other. In the format
+-- `BlocksToEmpty` the mark of the end follows them. The session is closed.
 pub record HasPrintedAll (format : MessageFormat) (journal : JournalState) (first : ℕ)
     (old new : Option (List ℕ)) : Type 0 where
   -- the count of failed waits, receives and sends
@@ -110,7 +111,17 @@ pub record HasPrintedAll (format : MessageFormat) (journal : JournalState) (firs
   pub closed : journal.closed ≡ true
   pub written : Appends old new
       (handed_text format first (between journal.messages first (length journal.messages + 1))
-      ++ note_text format (finished_line (length journal.messages + 1) 0 failures))
+      ++ end_text format None true (finished_line (length journal.messages + 1) 0 failures))
+
+-- A receiver that started at message `first` has stopped printing before the published message `number`, which is
+-- empty. It has written the blocks of the published messages up to this one, without the ranges that were given up, and
+-- no mark of the end.
+pub record HasPrintedToEmpty (journal : JournalState) (first number : ℕ) (old new : Option (List ℕ)) : Type 0 where
+  -- the ranges that were given up
+  pub gaps : List Gap
+  pub order : AreRanges first gaps number
+  pub empty : slice_get journal.messages (number - 1) ≡ Some []
+  pub written : Appends old new (printed_text BlocksToEmpty journal.messages first gaps number)
 
 -- A receiver of lines that started at line `first` has written all published lines from there on, each after its
 -- number, and no other.

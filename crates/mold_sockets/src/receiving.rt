@@ -4,6 +4,7 @@ ghost use Rattle.std.specs.Prelude.{◌≡◌, ◌++◌, ◌∷◌, [], IfOk, On
 ghost use Rattle.mold_sockets.specs.Receiving.{hosts_in, hosts_of, line_senders, responders, senders_of};
 
 use mold_devices::{CommandFault, IntoWrite};
+use mold_input::MessageFormat;
 use mold_port_set::{PortSet, SenderList, UdpPortSet};
 use mold_receive::{
     FirstPacket, Opened, ReceiveOptions, ReceiveParts, Unopened, await_session, end_unopened,
@@ -108,15 +109,15 @@ fn peers_of(alloc: Global, order: &ReceiveOrder) -> Result<Vec<SocketAddrV4>, Al
     Ok(peers)
 }
 
-/// Returns the options of the loop. If `blocks` is set, all text is printed on standard error. The numbers of an order
-/// are in range, so an error means out of memory.
+/// Returns the options of the loop, which prints messages in this format. The numbers of an order are in range, so an
+/// error means out of memory.
 pub(crate) fn receive_options(
     alloc: Global,
     order: &ReceiveOrder,
-    blocks: bool,
+    format: MessageFormat,
 ) -> Result<ReceiveOptions<SocketAddrV4>, AllocError> {
     let lines = if order.b.is_some() { 2 } else { 1 };
-    match ReceiveOptions::new(lines, peers_of(alloc, order)?, blocks, u64::MAX) {
+    match ReceiveOptions::new(lines, peers_of(alloc, order)?, format, u64::MAX) {
         Some(options) => Ok(options.with_quiet(order.quiet).with_stats(order.stats)),
         None => Err(AllocError),
     }
@@ -154,7 +155,7 @@ fn receive_on(
     ports: UdpPortSet,
     streams: &mut Streams,
 ) -> Result<u8, CommandFault> {
-    let options = receive_options(rt.alloc(), order, order.blocks)?;
+    let options = receive_options(rt.alloc(), order, order.output)?;
     let Streams { sink, errors } = streams;
     let Opened { ports, first } = open_session(rt.alloc(), order, ports, &options, errors)?;
     let Some((session, next)) = start_of(order, &first) else {

@@ -8,6 +8,7 @@ use crate::unsynced_file::UnsyncedFile;
 use mold_devices::{CommandFault, IntoWrite, write_all};
 use mold_durable::{DurableJournal, OpenError, Storage, create_file, open_file, sync_folder};
 use mold_follow::{device_fault, load_error};
+use mold_input::MessageFormat;
 use mold_port_set::{PortSet, UdpPortSet};
 use mold_receive::{Opened, ReceiveOptions, ReceiveParts, Unopened, end_unopened};
 use mold_recorder::record_loop;
@@ -94,7 +95,7 @@ fn options_of(
     alloc: Global,
     order: &RecordOrder,
 ) -> Result<ReceiveOptions<SocketAddrV4>, CommandFault> {
-    Ok(receive_options(alloc, &order.receive, true)?)
+    Ok(receive_options(alloc, &order.receive, MessageFormat::Blocks)?)
 }
 
 // Receives the session from the ports, and keeps it in the journal.

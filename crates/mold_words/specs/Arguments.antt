@@ -226,8 +226,8 @@ pub record ReceiverValues : Type 0 where
   pub quiet : ℕ
   -- The time between two lines of statistics, in seconds. With 0 none is printed.
   pub stats : ℕ
-  -- Whether messages are printed as message blocks.
-  pub blocks : Bool
+  -- The format in which messages are printed.
+  pub output : MessageFormat
 
 -- The model of a `receive` order.
 pub record ReceiveArguments : Type 0 where
@@ -249,8 +249,8 @@ pub record ReceiveArguments : Type 0 where
   pub quiet : ℕ
   -- The time between two lines of statistics, in seconds. With 0 none is printed.
   pub stats : ℕ
-  -- Whether messages are printed as message blocks.
-  pub blocks : Bool
+  -- The format in which messages are printed.
+  pub output : MessageFormat
 
 -- The model of a `receive` order with a journal.
 pub record RecordArguments : Type 0 where
@@ -423,7 +423,7 @@ receiver_options_view options = record {
   audit = options.audit;
   quiet = options.quiet;
   stats = options.stats;
-  blocks = options.blocks;
+  output = options.output;
 }
 
 -- The model of an order of `receive`, as the program reads it.
@@ -452,7 +452,7 @@ receive_view order = record {
   audit = order.audit;
   quiet = order.quiet;
   stats = order.stats;
-  blocks = order.blocks;
+  output = order.output;
 }
 
 -- The model of the options of `feed` about lines, as the program reads them.

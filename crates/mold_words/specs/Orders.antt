@@ -581,7 +581,7 @@ session_start_in rows =
     (λ session. option_map (λ next. record { session = session; next = next }) (start_in rows))
     (learned_in rows)
 
--- What the receiver keeps, when it ends and when it reports, if the numbers are valid.
+-- What the receiver keeps, when it ends, when it reports and how it prints messages, if the values are valid.
 unfoldable pub receiver_in : List Row → Option ReceiverValues
 receiver_in rows =
     option_and_then
@@ -589,14 +589,16 @@ receiver_in rows =
     (λ store. option_and_then
     (λ audit. option_and_then
     (λ quiet. option_and_then
-    (λ stats. Some (record {
+    (λ stats. option_map
+    (λ output. record {
       window = window;
       store = store;
       audit = audit;
       quiet = quiet;
       stats = stats;
-      blocks = flag_in (codes "blocks") rows;
-    }))
+      output = output;
+    })
+    (format_in rows))
     (number_in (codes "stats") 0 0 86400 rows))
     (number_in (codes "quiet") 0 0 86400 rows))
     (number_in (codes "audit") 65536 0 1048576 rows))
@@ -617,7 +619,7 @@ received start lines requests receiver servers = record {
   audit = receiver.audit;
   quiet = receiver.quiet;
   stats = receiver.stats;
-  blocks = receiver.blocks;
+  output = receiver.output;
 }
 
 -- What `receive` asks for with these options apart from a journal, if their values are valid. Without `--patience` it
@@ -641,10 +643,16 @@ abbrev pub starts_at_1 : Option ℕ → Bool
 starts_at_1 None = false
 starts_at_1 (Some number) = number == 1
 
+-- Whether messages are printed as blocks.
+abbrev pub is_blocks : MessageFormat → Bool
+is_blocks Lines = false
+is_blocks Blocks = true
+is_blocks BlocksToEmpty = true
+
 -- Whether these options exclude a journal: it has all messages from message 1 on, and nothing is printed.
 abbrev pub excludes_journal : ReceiveArguments → Bool
 excludes_journal receive =
-    not (starts_at_1 receive.next) || (nat_lt 0 receive.requests.give_up || receive.blocks)
+    not (starts_at_1 receive.next) || (nat_lt 0 receive.requests.give_up || is_blocks receive.output)
 
 -- What `receive` asks for with this journal or none. `--no-sync` requires a journal.
 abbrev pub kept_in : Option Text → Bool → ReceiveArguments → Option Arguments

@@ -105,7 +105,8 @@ receive_command = (
       ∷ (codes "timeout", Optional) ∷ (codes "ceiling", Optional) ∷ (codes "requests", Optional)
       ∷ (codes "in-flight", Optional)
       ∷ (codes "give-up", Optional) ∷ (codes "audit", Optional) ∷ (codes "quiet", Optional)
-      ∷ (codes "stats", Optional) ∷ (codes "journal", Optional) ∷ (codes "no-sync", Flag) ∷ (codes "blocks", Flag) ∷ [],
+      ∷ (codes "stats", Optional) ∷ (codes "journal", Optional) ∷ (codes "no-sync", Flag) ∷ (codes "blocks", Flag)
+      ∷ (codes "end-at-empty", Flag) ∷ [],
 )
 
 -- The command `loop` with its options.

@@ -541,8 +541,10 @@ pub fn listen_taken_law()
 /// `receive --session MKT --a ..` is accepted, and asks to print the session `MKT` from message 1 on, received on
 /// line A alone, without servers. The other options have their defaults. A line is an address or a descriptor, and
 /// each option replaces its default. `--learn` asks for the session of the first packet, and `--from-now` to start at
-/// its number. Refused are a command without a session, a multicast group, a source of line B without line B, a
-/// ceiling below the timeout, a store of 0, nine servers, and options that exclude each other.
+/// its number. `--blocks` asks to print blocks, and together with `--end-at-empty` to print blocks with an empty block as
+/// the mark of the end. Refused are a command without a session, a multicast group, a source of line B without line B, a
+/// ceiling below the timeout, a store of 0, nine servers, `--end-at-empty` without `--blocks`, and options that exclude
+/// each other.
 pub fn receive_taken_law()
     ensures usual { Say
         (codes "receive" ∷ codes "--session" ∷ codes "MKT" ∷ codes "--a" ∷ codes "127.0.0.1:9000" ∷ [])
@@ -565,7 +567,7 @@ pub fn receive_taken_law()
           audit = 65536;
           quiet = 0;
           stats = 0;
-          blocks = false;
+          output = Lines;
         })) }
     ensures given { Say
         (codes "receive" ∷ codes "--learn" ∷ codes "--from-now" ∷ codes "--a" ∷ codes "fd:3" ∷ codes "--b"
@@ -599,8 +601,35 @@ pub fn receive_taken_law()
           audit = 0;
           quiet = 86400;
           stats = 60;
-          blocks = true;
+          output = Blocks;
         })) }
+    ensures to_empty { Say
+        (codes "receive" ∷ codes "--session" ∷ codes "MKT" ∷ codes "--a" ∷ codes "127.0.0.1:9000"
+        ∷ codes "--blocks" ∷ codes "--end-at-empty" ∷ [])
+        (receive_wanted (record {
+          session = Some (codes "MKT       ");
+          next = Some 1;
+          lines = record { a = bound_to (127 ∷ 0 ∷ 0 ∷ 1 ∷ [], 9000); b = None; source_a = None; source_b = None };
+          servers = [];
+          window = 1048576;
+          store = 1024;
+          requests = record {
+            patience = 0;
+            timeout = 50;
+            ceiling = 1000;
+            requests = 1000;
+            in_flight = 256;
+            give_up = 0;
+            any_responder = false;
+          };
+          audit = 65536;
+          quiet = 0;
+          stats = 0;
+          output = BlocksToEmpty;
+        })) }
+    ensures no_blocks { order_of
+        (codes "receive" ∷ codes "--session" ∷ codes "MKT" ∷ codes "--a" ∷ codes "127.0.0.1:9000"
+        ∷ codes "--end-at-empty" ∷ []) ≡ None }
     ensures no_session { order_of (codes "receive" ∷ codes "--a" ∷ codes "127.0.0.1:9000" ∷ []) ≡ None }
     ensures both_sessions { order_of
         (codes "receive" ∷ codes "--a" ∷ codes "127.0.0.1:9000" ∷ codes "--session" ∷ codes "MKT" ∷ codes "--learn"
@@ -629,7 +658,7 @@ pub fn receive_taken_law()
 
 /// With `--journal J`, `receive` asks to keep the session in `J`. `--no-sync` asks not to wait for the disk, and
 /// requires `--journal`. A journal starts at message 1, and nothing is given up or printed: `--from-now`, a `--next`
-/// above 1, a `--give-up` above 0 and `--blocks` are refused.
+/// above 1, a `--give-up` above 0 and `--blocks` are refused, also with `--end-at-empty`.
 pub fn record_taken_law()
     ensures usual { Say
         (codes "receive" ∷ codes "--learn" ∷ codes "--a" ∷ codes "fd:3" ∷ codes "--journal" ∷ codes "J" ∷ [])
@@ -653,7 +682,7 @@ pub fn record_taken_law()
             audit = 65536;
             quiet = 0;
             stats = 0;
-            blocks = false;
+            output = Lines;
           };
           journal = codes "J";
           sync = true;
@@ -681,7 +710,7 @@ pub fn record_taken_law()
             audit = 65536;
             quiet = 0;
             stats = 0;
-            blocks = false;
+            output = Lines;
           };
           journal = codes "J";
           sync = false;
@@ -700,6 +729,9 @@ pub fn record_taken_law()
     ensures blocks { order_of
         (codes "receive" ∷ codes "--learn" ∷ codes "--a" ∷ codes "fd:3" ∷ codes "--journal" ∷ codes "J"
         ∷ codes "--blocks" ∷ []) ≡ None }
+    ensures to_empty { order_of
+        (codes "receive" ∷ codes "--learn" ∷ codes "--a" ∷ codes "fd:3" ∷ codes "--journal" ∷ codes "J"
+        ∷ codes "--blocks" ∷ codes "--end-at-empty" ∷ []) ≡ None }
 {}
 
 /// `loop --session MKT` is accepted, and asks to run the session `MKT` in one process. The limits are 1,400 bytes, the

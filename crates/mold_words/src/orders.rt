@@ -3,8 +3,8 @@
 ghost use Rattle.std.specs.Prelude.{◌≡◌, ◌⊎◌, ◌≤◌, MatchResult, None, Some, false, length, map, not, true};
 ghost use Rattle.clap.specs.Words.{found_of, rows_of, subcommand_rows_of};
 ghost use Rattle.mold_words.specs.NoOrders.{LacksOrder, LacksValue, is_address};
-ghost use Rattle.mold_words.specs.Orders.{check_of, close_of, dump_of, excludes_journal, extract_of, feed_of, kept_in};
-ghost use Rattle.mold_words.specs.Orders.{lacks_address, listen_in, listen_of, loop_of, order_at, order_in, pack_of};
+ghost use Rattle.mold_words.specs.Orders.{check_of, close_of, dump_of, excludes_journal, extract_of, feed_of, is_blocks};
+ghost use Rattle.mold_words.specs.Orders.{kept_in, lacks_address, listen_in, listen_of, loop_of, order_at, order_in, pack_of};
 ghost use Rattle.mold_words.specs.Orders.{port_order_at, publish_of, receive_in, receive_of, received, serve_of};
 ghost use Rattle.mold_words.specs.Orders.{sessions_of, show_of, sim_of, upgrade_of};
 ghost use Rattle.mold_words.specs.Addresses.{address_view};
@@ -45,6 +45,7 @@ use crate::start_options::StartOptions;
 use crate::types::Order;
 use crate::upgrade_order::UpgradeOrder;
 use clap::ArgMatches;
+use mold_input::MessageFormat;
 use std::alloc::Global;
 
 /// The greatest sequence number that a listener may start at.
@@ -412,7 +413,7 @@ fn received(
         audit: receiver.audit,
         quiet: receiver.quiet,
         stats: receiver.stats,
-        blocks: receiver.blocks,
+        output: receiver.output,
     }
 }
 
@@ -429,6 +430,16 @@ fn receive_in(alloc: Global, options: &ArgMatches<'_>) -> Result<ReceiveOrder, N
     let receiver = receiver_in(options)?;
     let servers = servers_in(alloc, options)?;
     Ok(received(start, lines, requests, receiver, servers))
+}
+
+// Returns whether messages are printed as blocks.
+fn is_blocks(output: MessageFormat) -> bool
+    ensures { result ≡ is_blocks output }
+{
+    match output {
+        MessageFormat::Lines => false,
+        MessageFormat::Blocks | MessageFormat::BlocksToEmpty => true,
+    }
 }
 
 // Checks that a receiver with these options can keep a journal.
@@ -450,7 +461,7 @@ fn check_kept(receive: &ReceiveOrder) -> Result<(), NoOrder>
     if receive.give_up > 0 {
         return Err(NoOrder::GiveUpWithJournal);
     }
-    if receive.blocks {
+    if is_blocks(receive.output) {
         return Err(NoOrder::Both {
             first: "journal",
             second: "blocks",

@@ -20,7 +20,7 @@ use crate::line_options::LineOptions;
 use crate::line_port::LinePort;
 use crate::line_ports::line_port_of;
 use crate::no_order::NoOrder;
-use crate::options::{flag_in, number_in, session_in, text_in, texts_in};
+use crate::options::{flag_in, format_in, number_in, session_in, text_in, texts_in};
 use crate::receiver_options::ReceiverOptions;
 use crate::request_options::RequestOptions;
 use crate::start_options::StartOptions;
@@ -218,7 +218,7 @@ pub(crate) fn session_start_in(options: &ArgMatches<'_>) -> Result<StartOptions,
     Ok(StartOptions { session, next })
 }
 
-/// Returns what the receiver keeps, when it ends and when it reports.
+/// Returns what the receiver keeps, when it ends, when it reports and how it prints messages.
 #[tactic(auto, unfolding(crate::specs::Orders::receiver_in))]
 pub(crate) fn receiver_in(options: &ArgMatches<'_>) -> Result<ReceiverOptions, NoOrder>
     ensures { MatchResult result
@@ -231,13 +231,14 @@ pub(crate) fn receiver_in(options: &ArgMatches<'_>) -> Result<ReceiverOptions, N
     let audit = number_in(options, "audit", 65_536, 0, 1_048_576)?;
     let quiet = number_in(options, "quiet", 0, 0, 86_400)?;
     let stats = number_in(options, "stats", 0, 0, 86_400)?;
+    let output = format_in(options)?;
     Ok(ReceiverOptions {
         window: window as u32,
         store: store as u32,
         audit: audit as u32,
         quiet: quiet as u32,
         stats: stats as u32,
-        blocks: flag_in(options, "blocks"),
+        output,
     })
 }
 

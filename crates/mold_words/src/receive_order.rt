@@ -9,6 +9,7 @@ ghost use Rattle.mold_wire.specs.declared.limits.TheConstants.{MAX_WIDE_WINDOW};
 
 use crate::address::Address;
 use crate::line_port::LinePort;
+use mold_input::MessageFormat;
 
 /// The session that `receive` receives on one or two lines, and how it repairs gaps.
 #[derive(Drop)]
@@ -55,8 +56,8 @@ pub struct ReceiveOrder {
     pub quiet: u32,
     /// The time between two lines of statistics, in seconds, 0 to 86,400. With 0 none is printed.
     pub stats: u32,
-    /// Whether messages are printed as message blocks, and all other text on standard error.
-    pub blocks: bool,
+    /// The format in which messages are printed. Among blocks, all other text is printed on standard error.
+    pub output: MessageFormat,
     ghost named: { IfSome session (λ name. list_all is_character name ≡ true) } by { Prim.hlevel props },
     ghost first: { IfSome next (λ number. (1 ≤ number) × (number ≤ 9223372036854775807)) } by { Prim.hlevel props },
     ghost ported_a: { is_line_port a ≡ true },

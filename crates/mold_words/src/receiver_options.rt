@@ -3,6 +3,8 @@
 ghost use Rattle.std.specs.Prelude.{◌≤◌};
 ghost use Rattle.mold_wire.specs.declared.limits.TheConstants.{MAX_WIDE_WINDOW};
 
+use mold_input::MessageFormat;
+
 /// What the receiver keeps, when it ends and when it reports, as the fields of `ReceiveOrder` with these names.
 #[derive(Clone, Copy)]
 pub(crate) struct ReceiverOptions {
@@ -11,7 +13,7 @@ pub(crate) struct ReceiverOptions {
     pub audit: u32,
     pub quiet: u32,
     pub stats: u32,
-    pub blocks: bool,
+    pub output: MessageFormat,
     ghost windowed: { (1 ≤ window) × (window ≤ MAX_WIDE_WINDOW) },
     ghost storing: { (1 ≤ store) × (store ≤ 1048576) },
     ghost audited: { audit ≤ 1048576 },

@@ -177,8 +177,8 @@ const END_AT_EMPTY: OptionRow = OptionRow {
 const END_AT_EMPTY_OUT: OptionRow = OptionRow {
     name: "end-at-empty",
     kind: Kind::Flag,
-    help: "End the output of --blocks with an empty block if the session is\n\
-        finished; end with status 2 before an empty message",
+    help: "End the output of --blocks with an empty block if the status is 0; end\n\
+        with status 2 before an empty message",
 };
 
 // Ends the input of blocks before the first empty one, and their output with an empty one.
@@ -724,6 +724,7 @@ pub static RECEIVE: CommandRow = CommandRow {
                     can't be continued",
         },
         BLOCKS_OUT,
+        END_AT_EMPTY_OUT,
     ],
     example: "Example:\n  mold receive --session SESSION001 --a 127.0.0.1:9001 --b 127.0.0.1:9002 \\\
             \n    --server 127.0.0.1:9003 > received",

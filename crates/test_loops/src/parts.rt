@@ -1,6 +1,7 @@
 //! What the tests of receivers of line A share.
 
 use mold_devices::MemorySink;
+use mold_input::MessageFormat;
 use mold_port_set::{MemoryPortSet, PortSetStep};
 use mold_receive::{ReceiveOptions, ReceiveParts};
 use mold_receiver::{Arbiter, Receiver};
@@ -70,7 +71,7 @@ pub fn parts(alloc: Global, script: &[Timed]) -> Result<ReceiveParts<MemoryPortS
 
 /// The options of a receiver that prints statistics each second, and ends after two seconds without a datagram.
 pub fn options(alloc: Global) -> Result<ReceiveOptions<u32>, Fail> {
-    match ReceiveOptions::new(1, Vec::new(alloc), false, 1000) {
+    match ReceiveOptions::new(1, Vec::new(alloc), MessageFormat::Lines, 1000) {
         Some(options) => Ok(options.with_quiet(2).with_stats(1)),
         None => Err(Fail::new("no options")),
     }

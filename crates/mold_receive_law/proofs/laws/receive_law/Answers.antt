@@ -1,11 +1,11 @@
 use Rattle.std.proofs.Common.{arith, refl}
-use Rattle.mold_feed.specs.Sent.{blocks_input, lines_input}
+use Rattle.mold_feed.specs.Sent.{blocks_input, lines_input, to_empty_input}
 use Rattle.mold_feed.proofs.LinesPrintedLemmas.{all_lines}
 use Rattle.mold_feed.proofs.OpeningLemmas.{left_by}
 use Rattle.mold_feed.proofs.SameBytesLemmas.{SameBytesLaws, same_bytes, unrefused}
-use Rattle.mold_input.specs.declared.message_format.MessageFormat.TheVariants.{Blocks, Lines}
-use Rattle.mold_receive_law.proofs.EndedLemmas.{ReceiveLaws, all_blocks, all_lines_written, broken_prints}
-use Rattle.mold_receive_law.proofs.EndedLemmas.{ended_prints, prints_all}
+use Rattle.mold_input.specs.declared.message_format.MessageFormat.TheVariants.{Blocks, BlocksToEmpty, Lines}
+use Rattle.mold_receive_law.proofs.EndedLemmas.{ReceiveLaws, all_blocks, all_lines_written, all_marked, broken_prints}
+use Rattle.mold_receive_law.proofs.EndedLemmas.{ended_prints, prints_all, stopped_prints}
 use Rattle.mold_receive_law.proofs.laws.receive_law.Given.{Over}
 use Rattle.mold_receive_law.proofs.laws.receive_law.Goals.{After-lost_count_law}
 use Rattle.mold_receive_law.proofs.laws.receive_law.Goals as goal
@@ -71,6 +71,28 @@ returns-clause-same_bytes g c =
     (ended_prints (laws g c) limit journal input opening 1 window (omega arith) (omega arith) old anew uncounted Blocks
     lines servers given new before after held_old held_new 0 fed ended)))
     refl
+
+pub returns-clause-marked : goal.returns-clause-marked
+returns-clause-marked g c =
+    λ lines servers given limit window journal bytes old new before after held_old held_new opening fits anew uncounted fed
+    ended.
+    let input = to_empty_input bytes in
+    let left = left_by journal input in
+    let all = prints_all BlocksToEmpty left 1 held_old held_new
+    (ended_prints (laws g c) limit journal input opening 1 window (omega arith) (omega arith) old anew uncounted
+    BlocksToEmpty lines servers given new before after held_old held_new 0 fed ended) in
+    let has = c.published_law.ensures.messages limit journal input opening
+    (unrefused (bytes_laws g c) limit journal opening input all.closed) in
+    all_marked bytes left held_old held_new
+    (c.blocks_to_empty_law.ensures.each left.messages bytes fits has.read).1
+    (c.blocks_to_empty_law.ensures.spelled left.messages bytes fits has.read) all
+
+pub returns-clause-stopped : goal.returns-clause-stopped
+returns-clause-stopped g c =
+    λ lines servers given limit first window journal input old new before after held_old held_new number opening least most
+    anew uncounted fed stopped.
+    stopped_prints (laws g c) limit journal input opening first window least most old anew uncounted BlocksToEmpty lines
+    servers given new before after held_old held_new number fed stopped
 
 pub returns-clause-broken : goal.returns-clause-broken
 returns-clause-broken g c =

@@ -1,7 +1,7 @@
 use Rattle.std.proofs.Common.{ap, append-nil, sym, refl, ◌∙◌}
 use Rattle.std.specs.Prelude.{None, false}
-use Rattle.mold_receive.proofs.CallLemmas.{failed_write, gave_fault, gave_none, gave_some, on_err_of, received_none}
-use Rattle.mold_receive.proofs.CallLemmas.{received_one, written_none, written_one}
+use Rattle.mold_receive.proofs.CallLemmas.{failed_one, gave_fault, gave_none, gave_some, if_some_map, on_err_of}
+use Rattle.mold_receive.proofs.CallLemmas.{received_none, received_one, stopped_one, written_none, written_one}
 use Rattle.mold_receive.proofs.feed_receiver.FeedReceiver.receive_one.Goals as goal
 
 pub returns-in_ok-take-in-Ok-Some-clause-written : goal.returns-in_ok-take-in-Ok-Some-clause-written
@@ -15,28 +15,46 @@ returns-in_ok-take-in-Ok-Some-clause-written g c =
     (c.receive.ensures.given is) c.in-Ok-Some.is c.in-Ok-Some.field-0-is c.origin_of-origin.ensures)
     (λ is.
     ap (λ p. (g.D.PortSet.state p).sent) c.take.ensures.ports
-    ∙ c.receive.ensures.sent is ∙ sym (append-nil _)))
+    ∙ c.receive.ensures.sent is ∙ sym (append-nil _))
+    made.full)
     made.moved
 
 pub returns-in_err-take-in-Ok-Some-clause-failed : goal.returns-in_err-take-in-Ok-Some-clause-failed
 returns-in_err-take-in-Ok-Some-clause-failed g c =
     let made = c.in_err-take-in-Ok-Some.ensures.called in
     on_err_of c.from_residual.result
-    (failed_write _ _ _ _ _
+    (failed_one _ _ _ _ _ _
     (record {
       repairer = c.take.new.self.repairer;
       ports = g.D.PortSet.state c.take.new.self.ports;
       text = made.text;
-    }) _ _ _
-    (received_one _ _ _ _ _ None false _ _ made.called
+    }) _ _ made.called
     (λ is.
     ap (λ p. (g.D.PortSet.state p).given) c.take.ensures.ports
     ∙ gave_some _ _ c.args.port _ c.receive.result c.in-Ok-Some.field-0 c.in-Ok-Some.count c.receive.new.buffer
     (c.receive.ensures.given is) c.in-Ok-Some.is c.in-Ok-Some.field-0-is c.origin_of-origin.ensures)
+    (λ is. ap (λ p. (g.D.PortSet.state p).sent) c.take.ensures.ports ∙ c.receive.ensures.sent is)
+    made.front)
+
+pub returns-in_err-take-in-Ok-Some-clause-cut : goal.returns-in_err-take-in-Ok-Some-clause-cut
+returns-in_err-take-in-Ok-Some-clause-cut g c =
+    let made = c.in_err-take-in-Ok-Some.ensures.called in
+    on_err_of c.from_residual.result
+    (if_some_map c.take.new.stopped
+    (λ number is.
+    stopped_one _ _ _ _ _ _
+    (record {
+      repairer = c.take.new.self.repairer;
+      ports = g.D.PortSet.state c.take.new.self.ports;
+      text = made.text;
+    }) _ _ number made.called
     (λ is.
-    ap (λ p. (g.D.PortSet.state p).sent) c.take.ensures.ports
-    ∙ c.receive.ensures.sent is ∙ sym (append-nil _)))
-    refl made.front)
+    ap (λ p. (g.D.PortSet.state p).given) c.take.ensures.ports
+    ∙ gave_some _ _ c.args.port _ c.receive.result c.in-Ok-Some.field-0 c.in-Ok-Some.count c.receive.new.buffer
+    (c.receive.ensures.given is) c.in-Ok-Some.is c.in-Ok-Some.field-0-is c.origin_of-origin.ensures)
+    (λ is. ap (λ p. (g.D.PortSet.state p).sent) c.take.ensures.ports ∙ c.receive.ensures.sent is)
+    is)
+    made.cut)
 
 pub returns-in-Ok-None-clause-written : goal.returns-in-Ok-None-clause-written
 returns-in-Ok-None-clause-written g c =

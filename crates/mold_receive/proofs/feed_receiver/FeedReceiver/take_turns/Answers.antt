@@ -1,15 +1,17 @@
 use Rattle.std.proofs.Common.{refl, ◌∙◌}
-use Rattle.mold_receive.proofs.CallLemmas.{failed_more, on_err_of, received_yet, written_more, written_none}
+use Rattle.mold_receive.proofs.CallLemmas.{failed_more, if_some_map, on_err_of, received_yet, stopped_more}
+use Rattle.mold_receive.proofs.CallLemmas.{written_more, written_none}
 use Rattle.mold_receive.proofs.feed_receiver.FeedReceiver.take_turns.Goals as goal
 
 pub loop-init : goal.loop-init
-loop-init g c = record { written = written_none _ _ _ _ _ _ _ (received_yet _ _ _ _ _); format = refl }
+loop-init g c = record { written = written_none _ _ _ _ _ _ _ (received_yet _ _ _ _ _); format = refl; going = c.requires.going }
 
 pub loop-preserved : goal.loop-preserved
 loop-preserved g c = record {
   written = written_more _ _ _ _ _ _ _ _ _ _ _ c.loop.invariant.written c.loop.invariant.format
       c.in_ok-turn.ensures.written;
   format = c.turn.ensures.format ∙ c.loop.invariant.format;
+  going = c.in_ok-turn.ensures.going;
 }
 
 pub returns-then-finished-clause-written : goal.returns-then-finished-clause-written
@@ -22,3 +24,11 @@ returns-in_err-turn-clause-failed g c =
     on_err_of c.from_residual.result
     (failed_more _ _ _ _ _ _ _ _ _ _ c.loop.invariant.written c.loop.invariant.format
     c.in_err-turn.ensures.failed)
+
+pub returns-in_err-turn-clause-cut : goal.returns-in_err-turn-clause-cut
+returns-in_err-turn-clause-cut g c =
+    on_err_of c.from_residual.result
+    (if_some_map c.turn.new.stopped
+    (λ number is.
+    stopped_more _ _ _ _ _ _ _ _ _ _ _ _ number c.loop.invariant.written c.loop.invariant.format is)
+    c.in_err-turn.ensures.cut)

@@ -1,4 +1,5 @@
 use Rattle.std.proofs.Common.{◌≡◌}
+use Rattle.std.specs.Prelude.{None}
 use Rattle.mold_receive.specs.Receiving.{HasWritten, state_of}
 use Rattle.mold_receive.proofs.feed_receiver.FeedReceiver.take_turns.Given as goal
 
@@ -8,4 +9,5 @@ invariant-loop g l = record {
       (state_of g.D.PortSet.state l.fn.self) (state_of g.D.PortSet.state l.self)
       (g.K.Sink.held l.fn.sink) (g.K.Sink.held l.sink);
   format : l.self.outgoing.format ≡ l.fn.self.outgoing.format;
+  going : l.stopped ≡ None;
 }

@@ -7,8 +7,8 @@ use Rattle.mold_turns.proofs.PrintingLemmas.{former_text, front_none}
 use Rattle.mold_turns.proofs.RunLemmas.{begins_whole}
 use Rattle.mold_turns.specs.Outgoing.{OutgoingState}
 use Rattle.mold_receive.specs.Receiving.{state_of}
-use Rattle.mold_receive.proofs.CallLemmas.{failed_more, failed_write, on_err_of, received_none}
-use Rattle.mold_receive.proofs.CallLemmas.{written_more, written_none}
+use Rattle.mold_receive.proofs.CallLemmas.{failed_more, failed_write, if_some_map, not_stopped, on_err_of}
+use Rattle.mold_receive.proofs.CallLemmas.{received_none, stopped_more, written_more, written_none}
 use Rattle.mold_receive.proofs.feed_receiver.FeedReceiver.turn.Goals as goal
 
 pub returns-in_err-pause-clause-failed : goal.returns-in_err-pause-clause-failed
@@ -95,3 +95,37 @@ returns-clause-failed g c =
     (λ is. ap (λ (p : PortSetState g.row.D-Peer.Denot). p.given) c.report.ensures.ports)
     (λ is. ap (λ (p : PortSetState g.row.D-Peer.Denot). p.sent) c.report.ensures.ports) c.report.ensures.text)
     refl (front_none _ _)))
+
+pub returns-in_err-pause-clause-cut : goal.returns-in_err-pause-clause-cut
+returns-in_err-pause-clause-cut g c =
+    on_err_of c.from_residual.result (not_stopped _ c.args.stopped.now c.requires.going)
+
+pub returns-in_err-receive_all-clause-cut : goal.returns-in_err-receive_all-clause-cut
+returns-in_err-receive_all-clause-cut g c =
+    let lines = c.args.options.now.lines in
+    let servers = c.args.options.now.servers.items in
+    on_err_of c.from_residual-in_err-receive_all.result
+    (if_some_map c.receive_all.new.stopped
+    (λ number is.
+    stopped_more _ _ _ _ _ _ _ _ _ _ _ _ number (c.in_ok-pause.ensures.written lines servers) c.pause.ensures.format is)
+    c.in_err-receive_all.ensures.cut)
+
+pub returns-in_err-lose_all-clause-cut : goal.returns-in_err-lose_all-clause-cut
+returns-in_err-lose_all-clause-cut g c =
+    let lines = c.args.options.now.lines in
+    let servers = c.args.options.now.servers.items in
+    on_err_of c.from_residual-in_err-lose_all.result
+    (if_some_map c.lose_all.new.stopped
+    (λ number is.
+    stopped_more _ _ _ _ _ _ _ _ _ _ _ _ number
+    (written_more _ _ _ _ _ _ _ _ _ _ _ (c.in_ok-pause.ensures.written lines servers) c.pause.ensures.format
+    c.in_ok-receive_all.ensures.written)
+    (c.receive_all.ensures.format ∙ c.pause.ensures.format) (is lines servers))
+    c.in_err-lose_all.ensures.cut)
+
+pub returns-in_default-clause-cut : goal.returns-in_default-clause-cut
+returns-in_default-clause-cut g c = not_stopped _ c.lose_all.new.stopped c.in_ok-lose_all.ensures.going
+
+pub returns-clause-cut : goal.returns-clause-cut
+returns-clause-cut g c =
+    on_err_of c.send_side.result (not_stopped _ c.lose_all.new.stopped c.in_ok-lose_all.ensures.going)
