@@ -11,7 +11,8 @@ import subprocess
 TOP = os.path.dirname(os.path.dirname(os.path.realpath(__file__)))
 # The documents whose command lines tests/documents runs.
 DOCUMENTS = ("README.md", "docs/HEADLINE.md", "docs/USING.md", "docs/TROUBLESHOOTING.md", "docs/LIBRARY.md")
-# The root crates of the program, of the library, and of the program of tests/repair-network and tests/durable.
+# The root crates of the program, of the library, and of the program of tests/repair-network, tests/durable and
+# tests/devices.
 PROGRAM, LIBRARY, DRIVER = "mold_cmd", "mold_ffi", "drive_tests"
 COMPILERS = ("cc", "gcc", "clang")
 # Runs a command in a separate network, in which the system assigns only ports above those that the parts use.
@@ -109,6 +110,8 @@ WITHOUT_PROGRAM = (
     Part("tests/repair-network gate 200", (), DRIVER),
     # Kills at random moments, a thousand of them, are not part of the gate.
     Part("tests/durable gate", ("tests/record_writes.c", "examples/read-journal.py"), DRIVER),
+    # The ports are chosen by the system.
+    Part("tests/devices", (), DRIVER),
 )
 # Lanes run in parallel; the parts of a lane run one after the other. The parts of the first lane use fixed ports and mostly
 # wait. In the second lane, and in tests/repair and tests/options, each process has a separate loopback address.

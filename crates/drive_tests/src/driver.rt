@@ -2,6 +2,8 @@
 
 ghost use Rattle.std.specs.Prelude.{◌<◌, ◌^◌};
 
+use crate::calls::Calls;
+use crate::report::{push_none, push_syntax};
 use crate::words::Words;
 use mold_digits::decode;
 use mold_pacing::Gap;
@@ -22,10 +24,6 @@ pub(crate) struct Driver {
     bytes: Vec<u8>,
 }
 
-fn push_none(out: &mut Vec<u8>) -> Result<(), AllocError> {
-    push_line(out, &[Word::Text(b"none")])
-}
-
 // Appends a line for each message of the batch: its number and its bytes.
 fn push_messages(out: &mut Vec<u8>, batch: &Batch) -> Result<(), AllocError> {
     let mut number = batch.first().unwrap_or(0);
@@ -34,10 +32,6 @@ fn push_messages(out: &mut Vec<u8>, batch: &Batch) -> Result<(), AllocError> {
         number = number.wrapping_add(1);
     }
     Ok(())
-}
-
-fn push_syntax(out: &mut Vec<u8>) -> Result<(), AllocError> {
-    push_line(out, &[Word::Text(b"refused"), Word::Text(b"Syntax")])
 }
 
 fn push_taken(out: &mut Vec<u8>, taken: Taken) -> Result<(), AllocError> {
@@ -106,19 +100,6 @@ impl Driver {
             repairer,
             batch: Batch::new(alloc),
             bytes: Vec::new(alloc),
-        }
-    }
-
-    /// Applies the step that the line names, and appends what its call returns. The steps are `a TIME DATAGRAM`,
-    /// `b TIME DATAGRAM`, `server TIME SERVER DATAGRAM`, `poll TIME`, `lost TIME`, `deadline TIME`, `missing NUMBER`
-    /// and `stats`. A datagram is hexadecimal digits. Any other line is `refused Syntax`.
-    pub(crate) fn apply(&mut self, line: &[u8], out: &mut Vec<u8>) -> Result<(), AllocError> {
-        let mut words = Words::new(line);
-        let step = words.next_word();
-        match words.next_number() {
-            Some(time) if time < TIMES => self.apply_at(time, step, words, out),
-            None if step == b"stats".as_slice() => push_stats(out, &self.repairer.stats()),
-            _ => push_syntax(out),
         }
     }
 
@@ -223,6 +204,21 @@ impl Driver {
                 ],
             ),
             None => push_none(out),
+        }
+    }
+}
+
+impl Calls for Driver {
+    /// Applies the step that the line names, and appends what its call returns. The steps are `a TIME DATAGRAM`,
+    /// `b TIME DATAGRAM`, `server TIME SERVER DATAGRAM`, `poll TIME`, `lost TIME`, `deadline TIME`, `missing NUMBER`
+    /// and `stats`. A datagram is hexadecimal digits. Any other line is `refused Syntax`.
+    fn apply(&mut self, line: &[u8], out: &mut Vec<u8>) -> Result<(), AllocError> {
+        let mut words = Words::new(line);
+        let step = words.next_word();
+        match words.next_number() {
+            Some(time) if time < TIMES => self.apply_at(time, step, words, out),
+            None if step == b"stats".as_slice() => push_stats(out, &self.repairer.stats()),
+            _ => push_syntax(out),
         }
     }
 }

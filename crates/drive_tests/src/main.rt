@@ -1,24 +1,36 @@
-//! A driver for tests. The first word of its input is `repair` or `durable`.
+//! A driver for tests. The first word of its input is `repair`, `durable`, or a kind of device.
 //!
 //! `repair` is for `tests/repair-network`. The other words of the line are the options of a repairer. The driver applies
 //! the steps of the other lines to it, and prints what each call returns.
 //!
 //! `durable` is for `tests/durable`. The other words are `PATH GROUP REPEATS CLOSES REPORTS`, as in `WriterOptions`. PATH
 //! has no space. The driver writes a journal file. Each other line is a message.
+//!
+//! `storage`, `file`, `set` and `port` are for `tests/devices`. The second word is `real` or `memory`, and the other words
+//! state the device. Each other line is a call of the device. The driver prints what the call returns.
 #![tactic(auto)]
 
+mod calls;
+mod devices;
 mod driver;
 mod opened;
 mod options;
+mod port_calls;
 mod problem;
+mod report;
 mod setup;
+mod storage_calls;
 mod words;
 mod writer;
 
+use calls::Calls;
+use devices::{
+    real_file, real_port, real_set, real_storage, simulated_file, simulated_port, simulated_set,
+    simulated_storage,
+};
 use driver::Driver;
 use mold_devices::{FromRead, IntoWrite, Lines, send};
 use mold_durable::Storage;
-use mold_repair::Repairer;
 use opened::open_journal;
 use options::{WriterOptions, read_options};
 use problem::Problem;
@@ -29,8 +41,8 @@ use words::Words;
 use writer::Writer;
 
 // Applies the steps of all other lines. The text is written at each empty line, and at the end.
-fn apply_steps(
-    driver: &mut Driver,
+fn apply_steps<C: Calls>(
+    calls: &mut C,
     source: &mut FromRead<Stdin>,
     lines: &mut Lines,
     text: &mut Vec<u8>,
@@ -43,23 +55,22 @@ fn apply_steps(
         if lines.line().is_empty() {
             send(sink, text)?;
         } else {
-            driver.apply(lines.line(), text)?;
+            calls.apply(lines.line(), text)?;
         }
     }
     Ok(send(sink, text)?)
 }
 
-// Applies the steps of all other lines to a repairer, and prints what its calls return.
-fn run_steps(
+// Applies the steps of all other lines to a repairer or a device, and prints what its calls return.
+fn run_steps<C: Calls + Drop>(
     rt: &HostRuntime,
-    repairer: Repairer,
+    mut calls: C,
     source: &mut FromRead<Stdin>,
     lines: &mut Lines,
 ) -> Result<(), Problem> {
-    let mut driver = Driver::new(rt.alloc(), repairer);
     let mut text = Vec::new(rt.alloc());
     let mut sink = IntoWrite::new(rt.stdout());
-    apply_steps(&mut driver, source, lines, &mut text, &mut sink)
+    apply_steps(&mut calls, source, lines, &mut text, &mut sink)
 }
 
 // Writes the messages of all other lines.
@@ -118,7 +129,73 @@ fn run_repairer(
     let Some(repairer) = make_repairer(rt.alloc(), Words::after_first(lines.line())) else {
         return Err(Problem::Options);
     };
-    run_steps(rt, repairer, source, lines)
+    run_steps(rt, Driver::new(rt.alloc(), repairer), source, lines)
+}
+
+// Whether the current line states a real device, and the words that describe the device.
+fn device_words(line: &[u8]) -> (bool, Words<'_>) {
+    let mut words = Words::after_first(line);
+    (words.next_word() == b"real".as_slice(), words)
+}
+
+// Runs the storage that the current line states.
+fn run_storage(
+    rt: &HostRuntime,
+    source: &mut FromRead<Stdin>,
+    lines: &mut Lines,
+) -> Result<(), Problem> {
+    let (is_real, words) = device_words(lines.line());
+    if is_real {
+        let storage = real_storage(rt, words)?;
+        return run_steps(rt, storage, source, lines);
+    }
+    let storage = simulated_storage(rt.alloc(), words)?;
+    run_steps(rt, storage, source, lines)
+}
+
+// Runs the file that the current line states.
+fn run_file(
+    rt: &HostRuntime,
+    source: &mut FromRead<Stdin>,
+    lines: &mut Lines,
+) -> Result<(), Problem> {
+    let (is_real, words) = device_words(lines.line());
+    if is_real {
+        let file = real_file(rt, words)?;
+        return run_steps(rt, file, source, lines);
+    }
+    let file = simulated_file(rt.alloc(), words)?;
+    run_steps(rt, file, source, lines)
+}
+
+// Runs the set of ports that the current line states.
+fn run_set(
+    rt: &HostRuntime,
+    source: &mut FromRead<Stdin>,
+    lines: &mut Lines,
+) -> Result<(), Problem> {
+    let (is_real, words) = device_words(lines.line());
+    if is_real {
+        let set = real_set(rt, words)?;
+        return run_steps(rt, set, source, lines);
+    }
+    let set = simulated_set(rt.alloc(), words)?;
+    run_steps(rt, set, source, lines)
+}
+
+// Runs the port that the current line states.
+fn run_port(
+    rt: &HostRuntime,
+    source: &mut FromRead<Stdin>,
+    lines: &mut Lines,
+) -> Result<(), Problem> {
+    let (is_real, words) = device_words(lines.line());
+    if is_real {
+        let port = real_port(rt, words)?;
+        return run_steps(rt, port, source, lines);
+    }
+    let port = simulated_port(rt.alloc(), words)?;
+    run_steps(rt, port, source, lines)
 }
 
 // If the input is empty, nothing is written.
@@ -131,6 +208,10 @@ fn run(rt: &HostRuntime) -> Result<(), Problem> {
     match Words::new(lines.line()).next_word() {
         b"repair" => run_repairer(rt, &mut source, &mut lines),
         b"durable" => write_journal(rt, &mut source, &mut lines),
+        b"storage" => run_storage(rt, &mut source, &mut lines),
+        b"file" => run_file(rt, &mut source, &mut lines),
+        b"set" => run_set(rt, &mut source, &mut lines),
+        b"port" => run_port(rt, &mut source, &mut lines),
         _ => Err(Problem::Options),
     }
 }

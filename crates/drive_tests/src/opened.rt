@@ -5,10 +5,10 @@ use mold_durable::{DurableJournal, FileStorage, create_file, open_file, sync_fol
 use mold_wire::Session;
 
 /// The session of each journal.
-const SESSION: Session = Session(*b"DURABLE   ");
+pub(crate) const SESSION: Session = Session(*b"DURABLE   ");
 
 /// The largest length of a message, in bytes.
-const MAX_MESSAGE: u16 = u16::MAX;
+pub(crate) const MAX_MESSAGE: u16 = u16::MAX;
 
 /// Opens the journal's file, or creates it if it does not exist.
 pub(crate) fn open_journal(
@@ -30,8 +30,8 @@ fn resume(rt: &HostRuntime, storage: FileStorage) -> Result<DurableJournal<FileS
     }
 }
 
-// If another process has created the file meanwhile, this fails.
-fn create(rt: &HostRuntime, path: &str) -> Result<DurableJournal<FileStorage>, Problem> {
+/// Creates the journal's file. It fails if the file exists.
+pub(crate) fn create(rt: &HostRuntime, path: &str) -> Result<DurableJournal<FileStorage>, Problem> {
     match create_file(rt, path, SESSION, MAX_MESSAGE)? {
         Some(journal) => Ok(journal),
         None => Err(Problem::File),
